@@ -1,0 +1,143 @@
+-- The account of a stream's bytes, counted from the call history: what calls accept, hand out, drop, put back and restore. Assumes nothing.
+use Prim.Native.Nat.{ℕ, zero, suc, _+_, _-_}
+use mathlib.Core.Bool.{true, false}
+use mathlib.Core.List.{List, [], _∷_}
+use mathlib.Core.Option.{Option, none, some}
+use mathlib.Core.Path.{_≡_, refl}
+use lib.Dec.{eqb}
+use lib.ListN.{length}
+use Rattle.queue_model.specs.Types.{Item, PauseState, not-paused, pending, paused, resetting, Active, Options, Queue, Answer, refused, done, number, flag, ids, fragment, nothing-waits, remaining}
+use Rattle.queue_model.specs.Scheduler.{peek}
+use Rattle.queue_model.specs.Calls.{stream-at, head-size, nothing, broken, dropped, chosen, look, waiting, swept-bytes, put-back, amount-of, new-queue}
+use Rattle.queue_model.specs.Image.{MessageRecord, Handover, read-image, amounts}
+use Rattle.queue_model.specs.Run.{Call, add, produce, discard, close, ready-ids, commit, rollback, reset, set-threshold, set-priority, set-interleaving, restore, ask-priority, ask-amount, ask-threshold, ask-total, ask-empty, ask-has-data, ask-streams-ready, ask-readiness, step, after}
+use Rattle.queue_model.specs.Demands.{Created, AllTyped}
+
+-- Payload bytes that calls moved in one stream: in are accepted, put back and left to send in an image; out are handed out and dropped.
+pub record Account : Type 0 where
+  pub accepted : ℕ
+  pub handed-out : ℕ
+  pub dropped-unsent : ℕ
+  pub put-back-whole : ℕ
+  pub left-to-send : ℕ
+
+abbrev pub no-bytes : Account
+no-bytes = record { accepted = 0; handed-out = 0; dropped-unsent = 0; put-back-whole = 0; left-to-send = 0 }
+
+abbrev pub both : Account → Account → Account
+both a b = record { accepted = a .accepted + b .accepted; handed-out = a .handed-out + b .handed-out; dropped-unsent = a .dropped-unsent + b .dropped-unsent; put-back-whole = a .put-back-whole + b .put-back-whole; left-to-send = a .left-to-send + b .left-to-send }
+
+-- Bytes of stream s, counted for stream k only.
+unfoldable pub for-stream : ℕ → ℕ → ℕ → ℕ
+for-stream k s n = elim (eqb s k) [ true ↦ n | false ↦ 0 ]
+
+-- Bytes that move unless the call is refused.
+abbrev pub unless-refused : Answer → ℕ → ℕ
+unless-refused (refused r) n = 0
+unless-refused done n = n
+unless-refused (number m) n = n
+unless-refused (flag b) n = n
+unless-refused (ids ks) n = n
+unless-refused (fragment f) n = n
+unless-refused nothing-waits n = n
+
+-- The bytes of a stream that an answer hands out.
+abbrev pub handed : ℕ → Answer → ℕ
+handed k (refused r) = 0
+handed k done = 0
+handed k (number m) = 0
+handed k (flag b) = 0
+handed k (ids ks) = 0
+handed k (fragment f) = for-stream k (f .stream-id) (length (f .bytes))
+handed k nothing-waits = 0
+
+-- The unsent bytes of the scheduler's choice.
+unfoldable pub choice-bytes : ℕ → Queue → Option Active → ℕ
+unfolding for-stream stream-at head-size
+choice-bytes k q none = 0
+choice-bytes k q (some a) = for-stream k (a .stream-id) (head-size ((stream-at q (a .stream-id)) .items))
+
+-- The unsent bytes of the expired heads that the next fragment drops before it.
+unfoldable pub passed : ℕ → ℕ → ℕ → Queue → ℕ
+unfolding look choice-bytes peek
+passed k zero now q = 0
+passed k (suc f) now q = elim (look now q) [ nothing ↦ 0 | broken ↦ 0 | dropped r ds ↦ choice-bytes k q (peek (q .scheduler)) + passed k f now r | chosen a s i is ↦ 0 ]
+
+-- The unsent bytes of a head with this message id.
+unfoldable pub head-bytes : ℕ → List Item → ℕ
+head-bytes m [] = 0
+head-bytes m (i ∷ is) = elim (eqb (i .message-id) m) [ true ↦ remaining i | false ↦ 0 ]
+
+-- The unsent bytes that closing a stream drops: those of an open one's messages at offset 0.
+unfoldable pub closing-bytes : PauseState → List Item → ℕ
+unfolding swept-bytes
+closing-bytes not-paused is = swept-bytes is
+closing-bytes pending is = 0
+closing-bytes paused is = 0
+closing-bytes resetting is = 0
+
+-- The bytes that message records leave to send in a stream.
+unfoldable pub records-left : ℕ → List MessageRecord → ℕ
+unfolding for-stream
+records-left k [] = 0
+records-left k (r ∷ rs) = for-stream k (r .id) (length (r .payload) - r .offset) + records-left k rs
+
+unfoldable pub image-left : ℕ → Option Handover → ℕ
+unfolding records-left
+image-left k none = 0
+image-left k (some h) = records-left k (h .messages)
+
+-- What one call moves in stream k, from its arguments, its answer and the messages that wait.
+unfoldable pub account : ℕ → Call → Queue → Account
+unfolding step for-stream passed waiting head-bytes closing-bytes image-left read-image stream-at put-back
+account k (add store now m) q = record { accepted = unless-refused ((step (add store now m) q) .outcome .answer) (for-stream k (m .stream-id) (length (m .payload))); handed-out = 0; dropped-unsent = 0; put-back-whole = 0; left-to-send = 0 }
+account k (produce store places buffer now size) q =
+    let a = (step (produce store places buffer now size) q) .outcome .answer in
+    record { accepted = 0; handed-out = handed k a; dropped-unsent = unless-refused a (passed k (suc (waiting (q .streams))) now q); put-back-whole = 0; left-to-send = 0 }
+account k (discard places s m) q = record { accepted = 0; handed-out = 0; dropped-unsent = unless-refused ((step (discard places s m) q) .outcome .answer) (for-stream k s (head-bytes m ((stream-at q s) .items))); put-back-whole = 0; left-to-send = 0 }
+account k (close places s) q = record { accepted = 0; handed-out = 0; dropped-unsent = unless-refused ((step (close places s) q) .outcome .answer) (for-stream k s (closing-bytes ((stream-at q s) .pause-state) ((stream-at q s) .items))); put-back-whole = 0; left-to-send = 0 }
+account k ready-ids q = no-bytes
+account k commit q = no-bytes
+account k rollback q = no-bytes
+account k reset q = record { accepted = 0; handed-out = 0; dropped-unsent = 0; put-back-whole = unless-refused ((step reset q) .outcome .answer) (put-back ((stream-at q k) .items)); left-to-send = 0 }
+account k (set-threshold places s t) q = no-bytes
+account k (set-priority s p) q = no-bytes
+account k (set-interleaving b) q = no-bytes
+account k (restore store now image) q = record { accepted = 0; handed-out = 0; dropped-unsent = 0; put-back-whole = 0; left-to-send = unless-refused ((step (restore store now image) q) .outcome .answer) (image-left k (read-image image)) }
+account k (ask-priority s) q = no-bytes
+account k (ask-amount s) q = no-bytes
+account k (ask-threshold s) q = no-bytes
+account k ask-total q = no-bytes
+account k ask-empty q = no-bytes
+account k ask-has-data q = no-bytes
+account k ask-streams-ready q = no-bytes
+account k ask-readiness q = no-bytes
+
+-- The same of a list of calls.
+unfoldable pub accounts : ℕ → List Call → Queue → Account
+unfolding account step
+accounts k [] q = no-bytes
+accounts k (c ∷ cs) q = both (account k c q) (accounts k cs ((step c q) .next))
+
+-- Request 11/13, first half: from a new queue, after any calls, a stream's amount is what it accepted, less what was handed out, less the unsent bytes of
+-- dropped messages, plus what was put back and what a restored image left to send; and the total is the sum over the streams.
+pub record Accounted (k : ℕ) (a : Account) (q : Queue) : Type 0 where
+  pub amount-is : amount-of q k + (a .handed-out + a .dropped-unsent) ≡ a .accepted + (a .put-back-whole + a .left-to-send)
+  pub total-is : q .total ≡ amounts (q .streams)
+
+unfoldable pub Request11-account : Type 0
+unfolding accounts after
+Request11-account = (o : Options) (cs : List Call) (k : ℕ) → Created o → AllTyped cs → Accounted k (accounts k cs (new-queue o)) (after cs (new-queue o))
+
+-- An example: 3 bytes accepted on stream 5, 2 sent, put back by a reset, 2 sent again, the last one discarded.
+example-calls : List Call
+example-calls =
+    add 9 0 (record { stream-id = 5; ppid = 0; unordered = false; max-retransmissions = none; lifetime = none; lifecycle-id = 0; payload = 1 ∷ 2 ∷ 3 ∷ [] })
+    ∷ produce 9 2305 2 0 2 ∷ reset ∷ produce 9 2305 2 0 2 ∷ discard 2305 5 0 ∷ []
+
+example-options : Options
+example-options = record { payload-limit = 2; store-length = 9; default-priority = 256; default-threshold = 0; total-threshold = 0; handover-with-data = true }
+
+account-example : accounts 5 example-calls (new-queue example-options) ≡ record { accepted = 3; handed-out = 4; dropped-unsent = 1; put-back-whole = 2; left-to-send = 0 }
+unfolding accounts new-queue example-calls example-options
+account-example = refl

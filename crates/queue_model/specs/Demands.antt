@@ -1,0 +1,108 @@
+-- The mission's demands on images, as types over the model: demand 3 whole, and demand 2's sentence on saved images. Assumes nothing.
+use mathlib.Core.Path.{_≡_}
+use mathlib.Core.Logic.{_↔_}
+use mathlib.Core.Bool.{Bool, true, false, not, _&&_}
+use mathlib.Core.List.{List, [], _∷_, map}
+use mathlib.Core.Option.{Option, none, some, Option·getD}
+use Prim.Native.Nat.{ℕ, _≤_, _<_, _^_}
+use lib.Dec.{T, eqb}
+use lib.Pow.{areBytes}
+use Rattle.queue_model.specs.Types.{Stream, Options, Queue, Answer, done, Outcome, Step}
+use Rattle.queue_model.specs.Calls.{Message, reply, create-refusal, new-queue, max-time, has-items}
+use Rattle.queue_model.specs.Image.{StreamRecord, Handover, stream-record, message-records, plain, restored, write-image}
+use Rattle.queue_model.specs.Image
+use Rattle.queue_model.specs.Run.{Call, add, produce, discard, close, ready-ids, commit, rollback, reset, set-threshold, set-priority, set-interleaving, restore, ask-priority, ask-amount, ask-threshold, ask-total, ask-empty, ask-has-data, ask-streams-ready, ask-readiness, step, run}
+
+-- A message whose numbers have their widths.
+pub record MessageTyped (m : Message) : Type 0 where
+  pub stream-id : m .stream-id < 2 ^ 16
+  pub ppid : m .ppid < 2 ^ 32
+  pub max-retransmissions : Option·getD (m .max-retransmissions) 0 < 2 ^ 16
+  pub lifetime : Option·getD (m .lifetime) 0 < 2 ^ 64
+  pub lifecycle-id : m .lifecycle-id < 2 ^ 64
+  pub payload : T (areBytes (m .payload))
+
+-- A call whose numbers have their widths: stream ids and priorities 16 bits, message ids 32, all others 64.
+abbrev pub Typed : Call → Type 0
+Typed (add store now m) = (store < 2 ^ 64) × ((now < 2 ^ 64) × MessageTyped m)
+Typed (produce store places buffer now size) = (store < 2 ^ 64) × ((places < 2 ^ 64) × ((buffer < 2 ^ 64) × ((now < 2 ^ 64) × (size < 2 ^ 64))))
+Typed (discard places s k) = (places < 2 ^ 64) × ((s < 2 ^ 16) × (k < 2 ^ 32))
+Typed (close places s) = (places < 2 ^ 64) × (s < 2 ^ 16)
+Typed ready-ids = Unit {0}
+Typed commit = Unit {0}
+Typed rollback = Unit {0}
+Typed reset = Unit {0}
+Typed (set-threshold places s t) = (places < 2 ^ 64) × ((s < 2 ^ 16) × (t < 2 ^ 64))
+Typed (set-priority s p) = (s < 2 ^ 16) × (p < 2 ^ 16)
+Typed (set-interleaving b) = Unit {0}
+Typed (restore store now image) = (store < 2 ^ 64) × ((now < 2 ^ 64) × T (areBytes image))
+Typed (ask-priority s) = s < 2 ^ 16
+Typed (ask-amount s) = s < 2 ^ 16
+Typed (ask-threshold s) = s < 2 ^ 16
+Typed ask-total = Unit {0}
+Typed ask-empty = Unit {0}
+Typed ask-has-data = Unit {0}
+Typed ask-streams-ready = Unit {0}
+Typed ask-readiness = Unit {0}
+
+abbrev pub AllTyped : List Call → Type 0
+AllTyped [] = Unit {0}
+AllTyped (c ∷ cs) = Typed c × AllTyped cs
+
+-- Creation arguments that have their widths and are not refused.
+pub record Created (o : Options) : Type 0 where
+  pub accepted : create-refusal o ≡ none
+  pub default-priority : o .default-priority < 2 ^ 16
+  pub default-threshold : o .default-threshold < 2 ^ 64
+  pub total-threshold : o .total-threshold < 2 ^ 64
+
+-- A queue that creation and calls lead to.
+pub data Reachable (o : Options) : Queue → Type 0 where
+  created : Created o → Reachable o (new-queue o)
+  called : {q : Queue} → Reachable o q → (c : Call) → Typed c → Reachable o ((step c q) .next)
+
+-- Two queues that no list of calls, saving excluded, tells apart: the answers with their fragments and the events are the same, call by call.
+-- (Lent buffers are the same for both, so what they hold afterwards is a function of what is compared here.)
+abbrev pub Indistinguishable : Queue → Queue → Type 0
+Indistinguishable q₁ q₂ = (cs : List Call) → AllTyped cs → run cs q₁ ≡ run cs q₂
+
+-- Restoring an image on a queue is not refused, and leads to r.
+pub record Restores (now : ℕ) (image : List ℕ) (q r : Queue) : Type 0 where
+  pub bytes : T (areBytes image)
+  pub accepted : Image.restore (q .options .store-length) now image q ≡ reply done [] r
+
+-- Demand 3: two accepted images are equal byte for byte exactly when the queues restored from them cannot be told apart.
+unfoldable pub Demand3 : Type 0
+Demand3 =
+    (o : Options) (q₁ q₂ r₁ r₂ : Queue) (now : ℕ) (i₁ i₂ : List ℕ)
+    → Reachable o q₁ → Reachable o q₂ → q₁ .interleaving ≡ q₂ .interleaving → 1 ≤ now
+    → Restores now i₁ q₁ r₁ → Restores now i₂ q₂ r₂
+    → (i₁ ≡ i₂) ↔ Indistinguishable r₁ r₂
+
+-- The Rust's own handover record: a record for every known stream.
+unfoldable pub rust-handover : ℕ → Queue → Handover
+unfolding stream-record message-records
+rust-handover now q = record { next-message-id = q .next-message-id; default-priority = q .options .default-priority; streams = map stream-record (q .streams); messages = message-records now (q .streams) }
+
+-- The streams without those that have zero counters, the default priority and no messages.
+unfoldable pub without-plain : ℕ → List Stream → List Stream
+unfolding plain stream-record has-items
+without-plain d [] = []
+without-plain d (s ∷ ss) = elim (plain d (stream-record s) && not (has-items s)) [ true ↦ without-plain d ss | false ↦ s ∷ without-plain d ss ]
+
+unfoldable pub forget-plain : Queue → Queue
+unfolding without-plain
+forget-plain q = record { options = q .options; interleaving = q .interleaving; total = q .total; next-message-id = q .next-message-id; streams = without-plain (q .options .default-priority) (q .streams); scheduler = q .scheduler }
+
+-- A new queue with an interleaving choice.
+unfoldable pub fresh : Options → Bool → Queue
+unfolding new-queue step
+fresh o b = (step (set-interleaving b) (new-queue o)) .next
+
+-- Demand 2 on images: every image saved from a reachable queue is accepted at any allowed time by a new queue created alike, and restores
+-- what the Rust restores from its own record, without the streams that have nothing to restore.
+unfoldable pub Demand2-images : Type 0
+Demand2-images =
+    (o : Options) (q : Queue) (saved now : ℕ) (b : Bool)
+    → Reachable o q → saved ≤ max-time → now ≤ max-time
+    → Image.restore (o .store-length) now (write-image saved q) (fresh o b) ≡ reply done [] (forget-plain (restored now (rust-handover saved q) (fresh o b)))

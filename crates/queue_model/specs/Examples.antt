@@ -1,0 +1,140 @@
+-- Document 01's examples marked P: one table, and one theorem that antt computes. Assumes nothing.
+use mathlib.Core.Path.{_≡_, refl, ap, _∙_}
+use mathlib.Core.Bool.{Bool, true, false}
+use mathlib.Core.List.{List, [], _∷_, _++_, map}
+use mathlib.Core.Option.{Option, none, some}
+use Prim.Native.Nat.{ℕ, suc, _-_, _%_, _^_, _<_}
+use native.Mathlib.Nat.{mod-self, mod-eq-of-lt}
+use lib.Pow.{suc-ones}
+use lib.ListN.{length, replicate}
+use Rattle.queue_model.specs.Types.{Weight, weighted, Active, Options, Queue, Event, Answer, refused, done, number, flag, ids, fragment, nothing-waits, Outcome, wrap-suc}
+use Rattle.queue_model.specs.Scheduler.{cost}
+use Rattle.queue_model.specs.Calls.{Message, new-queue, expiry}
+use Rattle.queue_model.specs.Image.{bit, ms-left-at, write-image}
+use Rattle.queue_model.specs.Run.{Call, add, produce, reset, set-threshold, set-priority, set-interleaving, ask-amount, run, after}
+
+-- The queue of the examples: payload limit 1,000, default priority 256, thresholds 0.
+queue : Queue
+unfolding new-queue
+queue = new-queue (record { payload-limit = 1000; store-length = 100000; default-priority = 256; default-threshold = 0; total-threshold = 0; handover-with-data = true })
+
+-- Add n bytes to a stream at a time, with a lifetime or none; ask for a fragment of at most n bytes at a time.
+put : ℕ → ℕ → ℕ → Option ℕ → Call
+put s n now l = add 100000 now (record { stream-id = s; ppid = 0; unordered = false; max-retransmissions = none; lifetime = l; lifecycle-id = 0; payload = replicate n 7 })
+
+get : ℕ → ℕ → Call
+get now n = produce 100000 2305 262144 now n
+
+-- What an answer shows: a fragment its stream, length, first mark and FSN; a number itself.
+show-answer : Answer → List ℕ
+unfolding bit
+show-answer (refused n) = 999 ∷ n ∷ []
+show-answer done = []
+show-answer (number n) = n ∷ []
+show-answer (flag b) = bit b 1 ∷ []
+show-answer (ids l) = l
+show-answer (fragment f) = f .stream-id ∷ length (f .bytes) ∷ bit (f .first) 1 ∷ f .fsn ∷ []
+show-answer nothing-waits = 0 ∷ []
+
+answers : List Outcome → List ℕ
+unfolding show-answer
+answers [] = []
+answers (o ∷ os) = show-answer (o .answer) ++ answers os
+
+-- The events' kinds and numbers.
+events : List Event → List ℕ
+events [] = []
+events (e ∷ es) = e .kind ∷ e .number ∷ events es
+
+all-events : List Outcome → List ℕ
+unfolding events
+all-events [] = []
+all-events (o ∷ os) = events (o .events) ++ all-events os
+
+-- On the queue of the examples, what a list of calls answers, what it fires, and the finish times of the streams that then wait.
+shows : List Call → List ℕ
+unfolding answers run queue
+shows cs = answers (run cs queue)
+
+fires : List Call → List ℕ
+unfolding all-events run queue
+fires cs = all-events (run cs queue)
+
+finishes : List Call → List ℕ
+unfolding after queue
+finishes cs = map (λ a. a .finish) ((after cs queue) .scheduler .active)
+
+two : List Call
+unfolding put
+two = put 5 1500 0 none ∷ put 3 1500 0 none ∷ []
+
+weights : List Call
+unfolding two
+weights = set-interleaving true ∷ set-priority 5 512 ∷ set-priority 3 256 ∷ two
+
+four : List Call
+unfolding get
+four = get 0 1000 ∷ get 0 1000 ∷ get 0 1000 ∷ get 0 1000 ∷ []
+
+-- A row: what the definitions give, and what document 01 says.
+pub record Row : Type 0 where
+  pub given : List ℕ
+  pub said : List ℕ
+
+infix 20 _gives_
+abbrev _gives_ : List ℕ → List ℕ → Row
+g gives s = record { given = g; said = s }
+
+pub table : List Row
+unfolding shows fires finishes two weights four put get cost ms-left-at expiry write-image queue
+table =
+    -- Two 1,500-byte messages, on 5 then 3, without interleaving: 3, 3, 5, 5 as 1,000 and 500.
+    (shows (two ++ four) gives (3 ∷ 1000 ∷ 1 ∷ 0 ∷ 3 ∷ 500 ∷ 0 ∷ 1 ∷ 5 ∷ 1000 ∷ 1 ∷ 0 ∷ 5 ∷ 500 ∷ 0 ∷ 1 ∷ []))
+    -- With it, weights 512 on 5 and 256 on 3: 5, 5, 3, 3; finish times (of 3 and 5) 1,953,125, 2,929,687, then 3,906,250.
+    ∷ (shows (weights ++ four) gives (5 ∷ 1000 ∷ 1 ∷ 0 ∷ 5 ∷ 500 ∷ 0 ∷ 1 ∷ 3 ∷ 1000 ∷ 1 ∷ 0 ∷ 3 ∷ 500 ∷ 0 ∷ 1 ∷ []))
+    ∷ (finishes weights gives (3906250 ∷ 1953125 ∷ []))
+    ∷ (finishes (weights ++ (get 0 1000 ∷ [])) gives (3906250 ∷ 2929687 ∷ []))
+    ∷ (finishes (weights ++ (get 0 1000 ∷ get 0 1000 ∷ [])) gives (3906250 ∷ []))
+    -- Weight 0, 7 bytes: 7,000,000.
+    ∷ ((cost (weighted 0) 7 ∷ []) gives (7000000 ∷ []))
+    -- Lifetime 0 at 5,000,000 ns: sent at 5,999,999, expired at 6,000,000.
+    ∷ (shows (put 5 10 5000000 (some 0) ∷ get 5999999 10 ∷ []) gives (5 ∷ 10 ∷ 1 ∷ 0 ∷ []))
+    ∷ (shows (put 5 10 5000000 (some 0) ∷ get 6000000 10 ∷ []) gives (0 ∷ []))
+    -- Left at 5,500,000: 0 ms.
+    ∷ ((ms-left-at 5500000 (expiry 5000000 (some 0)) ∷ []) gives (0 ∷ []))
+    -- Amount 10, threshold 4, 6 sent: fires. Threshold 4 raised to 10 at amount 10: fires; 10 to 12: silent.
+    ∷ (fires (set-threshold 2305 5 4 ∷ put 5 10 0 none ∷ get 0 6 ∷ []) gives (1 ∷ 5 ∷ []))
+    ∷ (fires (set-threshold 2305 5 4 ∷ put 5 10 0 none ∷ set-threshold 2305 5 10 ∷ []) gives (1 ∷ 5 ∷ []))
+    ∷ (fires (set-threshold 2305 5 10 ∷ put 5 10 0 none ∷ set-threshold 2305 5 12 ∷ []) gives [])
+    -- After MID 4,294,967,295 comes 0. After SSN 65,535 comes 0.
+    ∷ ((wrap-suc 32 4294967295 ∷ wrap-suc 16 65535 ∷ []) gives (0 ∷ 0 ∷ []))
+    -- First message of a stream, 1,500 bytes, 1,000 sent, reset: amount 1,500, next fragment first, FSN 1.
+    ∷ (shows (put 5 1500 0 none ∷ get 0 1000 ∷ reset ∷ ask-amount 5 ∷ get 0 1000 ∷ []) gives (5 ∷ 1000 ∷ 1 ∷ 0 ∷ 1500 ∷ 5 ∷ 1000 ∷ 1 ∷ 1 ∷ []))
+    -- New queue, default 256, image in hexadecimal: 00000000 0100 0000 0000 0001 00000000 00000000.
+    ∷ (write-image 1 queue gives (0 ∷ 0 ∷ 0 ∷ 0 ∷ 1 ∷ 0 ∷ 0 ∷ 0 ∷ 0 ∷ 0 ∷ 0 ∷ 1 ∷ 0 ∷ 0 ∷ 0 ∷ 0 ∷ 0 ∷ 0 ∷ 0 ∷ 0 ∷ []))
+    ∷ []
+
+pub examples : map (λ r. r .given) table ≡ map (λ r. r .said) table
+unfolding table
+examples = refl
+
+-- Counters wrap at their width, whatever it is.
+pub wraps : (w : ℕ) → wrap-suc w (2 ^ w - 1) ≡ 0
+wraps w = ap (λ (n : ℕ). n % 2 ^ w) (suc-ones w) ∙ mod-self (2 ^ w)
+
+-- Below it they grow by one.
+pub grows : (w n : ℕ) → suc n < 2 ^ w → wrap-suc w n ≡ suc n
+grows w n h = mod-eq-of-lt h
+
+-- Handing out sets the system time to the stream's own new start, as the Rust does: here it falls from 9,000,000 to 10,000.
+times : List Call → ℕ
+unfolding after queue
+times cs = (after cs queue) .scheduler .system-time
+
+three : List Call
+unfolding put get
+three = set-interleaving true ∷ set-priority 1 100 ∷ set-priority 2 100 ∷ put 1 1000 0 none ∷ put 2 900 0 none ∷ get 0 1000 ∷ []
+
+falls : times three ∷ times (three ++ (put 2 1000 0 none ∷ get 0 1 ∷ [])) ∷ [] ≡ 9000000 ∷ 10000 ∷ []
+unfolding times three put get
+falls = refl
