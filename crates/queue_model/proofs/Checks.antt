@@ -1,31 +1,20 @@
--- What an accepted call says of its checks, and restoring by its checks. Assumes nothing.
+-- Refusals: what an accepted call says of its checks, and restoring by its checks. Assumes nothing.
 use mathlib.Core.Path.{_≡_, refl, sym, ap, _∙_}
 use mathlib.Core.Bool.{Bool, true, false, not, _||_}
-use mathlib.Core.List.{List, [], _∷_}
+use mathlib.Core.List.{List, [], _∷_, _++_}
 use mathlib.Core.Option.{Option, none, some}
-use Prim.Native.Nat.{ℕ}
+use Prim.Native.Nat.{ℕ, _≤_, _<_}
 use native.Mathlib.Omega.{arith}
-use lib.Dec.{ltb, eqb}
-use lib.ListN.{length}
-use Rattle.queue_model.specs.Types.{Stream, Options, Queue, Answer, refused, done, Outcome, Step}
-use Rattle.queue_model.specs.Calls.{Check, _if_, first-refusal, max-time, max-streams, max-messages, waiting, occupied, reply, refuse}
-use Rattle.queue_model.specs.Image.{Handover, read-image, is-nil, restored, restore-record}
-use Rattle.queue_model.specs.Image
+use lib.Dec.{ltb, leb, nltb→le, nleb→lt}
+use Rattle.queue_model.specs.Logic.{if_then_else_, is-nil}
+use Rattle.queue_model.specs.Types.{Queue, refused, done, Step, refuse, reply}
+use Rattle.queue_model.specs.Refusals.{Check, _when_, first-refusal, refused-or, checked}
+use Rattle.queue_model.specs.Image.{Handover}
+use Rattle.queue_model.specs.Reader.{read-image}
+use Rattle.queue_model.specs.Restore.{restored, record-checks, restore-read, restore-checks, restore}
+use Rattle.queue_model.proofs.Tests.{fails}
 
-pub first-none : (c : Check) (cs : List Check) → first-refusal (c ∷ cs) ≡ none → (c .applies ≡ false) × (first-refusal cs ≡ none)
-unfolding first-refusal
-first-none c cs e = go (c .applies) refl e
-  where
-    go : (b : Bool) → c .applies ≡ b → _≡_ {A = Option ℕ} (elim b as (λ _. Option ℕ) [ true ↦ some (c .number) | false ↦ first-refusal cs ]) none → (c .applies ≡ false) × (first-refusal cs ≡ none)
-    go true f g = let z : _≡_ {A = ℕ} 0 1 = cc in absurd (omega arith)
-    go false f g = (f, g)
-
--- A call that checks first is accepted only past its checks.
-pub past : (x : Option ℕ) (q r : Queue) (s : Step) → (elim x as (λ _. Step) [ none ↦ s | some k ↦ refuse q k ]) ≡ reply done [] r → (x ≡ none) × (s ≡ reply done [] r)
-past none q r s e = (refl, e)
-past (some k) q r s e =
-    let a : refused k ≡ done = ap (λ (y : Step). y .outcome .answer) e in
-    let z : _≡_ {A = ℕ} 0 1 = cc in absurd (omega arith)
+-- ---- tests that fail
 
 pub or-left : (x y : Bool) → (x || y) ≡ false → x ≡ false
 or-left true y e = e
@@ -39,27 +28,75 @@ pub not-false : (b : Bool) → not b ≡ false → b ≡ true
 not-false true e = refl
 not-false false e = let z : _≡_ {A = ℕ} 0 1 = cc in absurd (omega arith)
 
-pub nil-of : (xs : List Stream) → is-nil xs ≡ true → xs ≡ []
+pub not-less : (a b : ℕ) → ltb a b ≡ false → b ≤ a
+not-less a b e = nltb→le a b (fails (ltb a b) e)
+
+pub not-most : (a b : ℕ) → leb a b ≡ false → b < a
+not-most a b e = nleb→lt a b (fails (leb a b) e)
+
+pub nil-of : {A : Type 0} (xs : List A) → is-nil xs ≡ true → xs ≡ []
 unfolding is-nil
 nil-of [] e = refl
 nil-of (x ∷ xs) e = let z : _≡_ {A = ℕ} 0 1 = cc in absurd (omega arith)
 
--- The three checks before reading, and the two after.
-unfoldable pub before : ℕ → Queue → List Check
-before now q = (2 if not (eqb (q .options .store-length) (q .options .store-length))) ∷ (4 if ltb max-time now) ∷ (12 if not (is-nil (q .streams)) || not (eqb (q .next-message-id) 0)) ∷ []
+-- ---- lists of checks
 
-unfoldable pub behind : Queue → Handover → Queue → List Check
-behind q h r =
-    (14 if not (eqb (h .default-priority) (q .options .default-priority)))
-    ∷ (15 if ltb max-streams (length (r .streams)) || ltb max-messages (waiting (r .streams)) || ltb (q .options .store-length) (occupied (r .streams))) ∷ []
+-- No check of a list applies.
+abbrev pub Passed : List Check → Type 0
+Passed [] = Unit {0}
+Passed (c ∷ cs) = (c .applies ≡ false) × Passed cs
 
-unfoldable pub after-read : ℕ → Queue → Option Handover → Step
-after-read now q x = elim x as (λ _. Step) [ none ↦ refuse q 13 | some h ↦ restore-record now q h ]
+pub first-none : (c : Check) (cs : List Check) → first-refusal (c ∷ cs) ≡ none → (c .applies ≡ false) × (first-refusal cs ≡ none)
+unfolding first-refusal
+first-none c cs e = go (c .applies) refl e
+  where
+    go : (b : Bool) → c .applies ≡ b → _≡_ {A = Option ℕ} (if b then some (c .number) else first-refusal cs) none → (c .applies ≡ false) × (first-refusal cs ≡ none)
+    go true f g = let z : _≡_ {A = ℕ} 0 1 = cc in absurd (omega arith)
+    go false f g = (f, g)
 
-pub restore-of : (now : ℕ) (image : List ℕ) (q : Queue) → Image.restore (q .options .store-length) now image q ≡ elim (first-refusal (before now q)) as (λ _. Step) [ none ↦ after-read now q (read-image image) | some k ↦ refuse q k ]
-unfolding Image.restore before after-read
-restore-of now image q = refl
+pub all-passed : (cs : List Check) → first-refusal cs ≡ none → Passed cs
+all-passed [] e = tt
+all-passed (c ∷ cs) e = let f = first-none c cs e in (f .0, all-passed cs (f .1))
 
-pub restore-record-of : (now : ℕ) (q : Queue) (h : Handover) → restore-record now q h ≡ elim (first-refusal (behind q h (restored now h q))) as (λ _. Step) [ none ↦ reply done [] (restored now h q) | some k ↦ refuse q k ]
-unfolding restore-record behind
-restore-record-of now q h = refl
+pub passed-none : (cs : List Check) → Passed cs → first-refusal cs ≡ none
+unfolding first-refusal
+passed-none [] p = refl
+passed-none (c ∷ cs) p = ap (λ (b : Bool). if b then some (c .number) else first-refusal cs) (p .0) ∙ passed-none cs (p .1)
+
+-- ---- calls that check
+
+pub checked-past : (cs : List Check) (q : Queue) (s : Step) → Passed cs → checked cs q s ≡ s
+unfolding checked
+checked-past cs q s p = ap (λ (x : Option ℕ). refused-or x q s) (passed-none cs p)
+
+-- Past all checks but one, that one decides.
+pub checked-but : (cs ds : List Check) (n : ℕ) (t : Bool) (q : Queue) (s : Step) → Passed cs → Passed ds → checked (cs ++ ((n when t) ∷ ds)) q s ≡ (if t then refuse q n else s)
+unfolding checked refused-or first-refusal
+checked-but [] ds n true q s p r = refl
+checked-but [] ds n false q s p r = checked-past ds q s r
+checked-but (c ∷ cs) ds n t q s p r = ap (λ (b : Bool). refused-or (if b then some (c .number) else first-refusal (cs ++ ((n when t) ∷ ds))) q s) (p .0) ∙ checked-but cs ds n t q s (p .1) r
+
+-- A call that checks first is accepted only past its checks.
+pub past : (cs : List Check) (q r : Queue) (s : Step) → checked cs q s ≡ reply done [] r → Passed cs × (s ≡ reply done [] r)
+unfolding checked refused-or
+past cs q r s e = go (first-refusal cs) refl e
+  where
+    go : (x : Option ℕ) → first-refusal cs ≡ x → refused-or x q s ≡ reply done [] r → Passed cs × (s ≡ reply done [] r)
+    go none f g = (all-passed cs f, g)
+    go (some k) f g =
+        let a : refused k ≡ done = ap (λ (y : Step). y .outcome .answer) g in
+        let z : _≡_ {A = ℕ} 0 1 = cc in absurd (omega arith)
+
+-- ---- restoring
+
+pub restore-of : (store now : ℕ) (image : List ℕ) (q : Queue) → restore store now image q ≡ checked (restore-checks store now q) q (restore-read now q (read-image image))
+unfolding restore
+restore-of store now image q = refl
+
+pub read-none : (now : ℕ) (q : Queue) → restore-read now q none ≡ refuse q 13
+unfolding restore-read
+read-none now q = refl
+
+pub read-some : (now : ℕ) (q : Queue) (h : Handover) → restore-read now q (some h) ≡ checked (record-checks now q h) q (reply done [] (restored now h q))
+unfolding restore-read
+read-some now q h = refl

@@ -6,10 +6,17 @@ use mathlib.Core.Option.{Option, none, some}
 use mathlib.Core.Path.{_≡_, refl}
 use lib.Dec.{eqb}
 use lib.ListN.{length}
-use Rattle.queue_model.specs.Types.{Item, PauseState, not-paused, pending, paused, resetting, Active, Options, Queue, Answer, refused, done, number, flag, ids, fragment, nothing-waits, remaining}
+use Rattle.queue_model.specs.Produce.{Look, nothing, broken, dropped, chosen, look}
+use Rattle.queue_model.specs.Logic.{if_then_else_}
+use Rattle.queue_model.specs.Close.{closing-bytes}
+use Rattle.queue_model.specs.Table.{find}
+use Rattle.queue_model.specs.Types.{Item, Active, Options, Queue, Answer, refused, done, number, flag, ids, fragment, nothing-waits, remaining}
 use Rattle.queue_model.specs.Scheduler.{peek}
-use Rattle.queue_model.specs.Calls.{stream-at, head-size, nothing, broken, dropped, chosen, look, waiting, swept-bytes, put-back, amount-of, new-queue}
-use Rattle.queue_model.specs.Image.{MessageRecord, Handover, read-image, amounts}
+use Rattle.queue_model.specs.Streams.{stream-at, head-size, waiting, new-queue, amounts}
+use Rattle.queue_model.specs.Reset.{put-back}
+use Rattle.queue_model.specs.Questions.{amount-of}
+use Rattle.queue_model.specs.Image.{MessageRecord, Handover}
+use Rattle.queue_model.specs.Reader.{read-image}
 use Rattle.queue_model.specs.Run.{Call, add, produce, discard, close, ready-ids, commit, rollback, reset, set-threshold, set-priority, set-interleaving, restore, ask-priority, ask-amount, ask-threshold, ask-total, ask-empty, ask-has-data, ask-streams-ready, ask-readiness, step, after}
 use Rattle.queue_model.specs.Demands.{Created, AllTyped}
 
@@ -29,7 +36,7 @@ both a b = record { accepted = a .accepted + b .accepted; handed-out = a .handed
 
 -- Bytes of stream s, counted for stream k only.
 unfoldable pub for-stream : ℕ → ℕ → ℕ → ℕ
-for-stream k s n = elim (eqb s k) [ true ↦ n | false ↦ 0 ]
+for-stream k s n = if eqb s k then n else 0
 
 -- Bytes that move unless the call is refused.
 abbrev pub unless-refused : Answer → ℕ → ℕ
@@ -53,28 +60,28 @@ handed k nothing-waits = 0
 
 -- The unsent bytes of the scheduler's choice.
 unfoldable pub choice-bytes : ℕ → Queue → Option Active → ℕ
-unfolding for-stream stream-at head-size
+unfolding for-stream find head-size
 choice-bytes k q none = 0
 choice-bytes k q (some a) = for-stream k (a .stream-id) (head-size ((stream-at q (a .stream-id)) .items))
 
+-- The same where a look dropped that choice, with what is dropped after it.
+unfoldable pub passed-after : ℕ → Queue → (Queue → ℕ) → Look → ℕ
+unfolding choice-bytes peek
+passed-after k q more nothing = 0
+passed-after k q more broken = 0
+passed-after k q more (dropped r ds) = choice-bytes k q (peek (q .scheduler)) + more r
+passed-after k q more (chosen a s i is) = 0
+
 -- The unsent bytes of the expired heads that the next fragment drops before it.
 unfoldable pub passed : ℕ → ℕ → ℕ → Queue → ℕ
-unfolding look choice-bytes peek
+unfolding look passed-after
 passed k zero now q = 0
-passed k (suc f) now q = elim (look now q) [ nothing ↦ 0 | broken ↦ 0 | dropped r ds ↦ choice-bytes k q (peek (q .scheduler)) + passed k f now r | chosen a s i is ↦ 0 ]
+passed k (suc f) now q = passed-after k q (λ (r : Queue). passed k f now r) (look now q)
 
 -- The unsent bytes of a head with this message id.
 unfoldable pub head-bytes : ℕ → List Item → ℕ
 head-bytes m [] = 0
-head-bytes m (i ∷ is) = elim (eqb (i .message-id) m) [ true ↦ remaining i | false ↦ 0 ]
-
--- The unsent bytes that closing a stream drops: those of an open one's messages at offset 0.
-unfoldable pub closing-bytes : PauseState → List Item → ℕ
-unfolding swept-bytes
-closing-bytes not-paused is = swept-bytes is
-closing-bytes pending is = 0
-closing-bytes paused is = 0
-closing-bytes resetting is = 0
+head-bytes m (i ∷ is) = if eqb (i .message-id) m then remaining i else 0
 
 -- The bytes that message records leave to send in a stream.
 unfoldable pub records-left : ℕ → List MessageRecord → ℕ
@@ -89,7 +96,7 @@ image-left k (some h) = records-left k (h .messages)
 
 -- What one call moves in stream k, from its arguments, its answer and the messages that wait.
 unfoldable pub account : ℕ → Call → Queue → Account
-unfolding step for-stream passed waiting head-bytes closing-bytes image-left read-image stream-at put-back
+unfolding step for-stream passed head-bytes closing-bytes image-left read-image find put-back
 account k (add store now m) q = record { accepted = unless-refused ((step (add store now m) q) .outcome .answer) (for-stream k (m .stream-id) (length (m .payload))); handed-out = 0; dropped-unsent = 0; put-back-whole = 0; left-to-send = 0 }
 account k (produce store places buffer now size) q =
     let a = (step (produce store places buffer now size) q) .outcome .answer in

@@ -1,4 +1,4 @@
--- The mission's demands on images, as types over the model: demand 3 whole, and demand 2's sentence on saved images. Assumes nothing.
+-- The demands on images, as types over the model: demand 3 whole, and demand 2's sentence on saved images. Assumes nothing.
 use mathlib.Core.Path.{_≡_}
 use mathlib.Core.Logic.{_↔_}
 use mathlib.Core.Bool.{Bool, true, false, not, _&&_}
@@ -7,13 +7,17 @@ use mathlib.Core.Option.{Option, none, some, Option·getD}
 use Prim.Native.Nat.{ℕ, _≤_, _<_, _^_}
 use lib.Dec.{T, eqb}
 use lib.Pow.{areBytes}
-use Rattle.queue_model.specs.Types.{Stream, Options, Queue, Answer, done, Outcome, Step}
-use Rattle.queue_model.specs.Calls.{Message, reply, create-refusal, new-queue, max-time, has-items}
-use Rattle.queue_model.specs.Image.{StreamRecord, Handover, stream-record, message-records, plain, restored, write-image}
-use Rattle.queue_model.specs.Image
+use Rattle.queue_model.specs.Logic.{if_then_else_}
+use Rattle.queue_model.specs.Types.{Stream, Options, Queue, Message, done, Step, reply}
+use Rattle.queue_model.specs.Streams.{has-items, new-queue}
+use Rattle.queue_model.specs.Refusals.{max-time, create-refusal}
+use Rattle.queue_model.specs.Image.{StreamRecord, Handover, stream-record, message-records, plain, write-image}
+use Rattle.queue_model.specs.Restore
+use Rattle.queue_model.specs.Restore.{restored}
 use Rattle.queue_model.specs.Run.{Call, add, produce, discard, close, ready-ids, commit, rollback, reset, set-threshold, set-priority, set-interleaving, restore, ask-priority, ask-amount, ask-threshold, ask-total, ask-empty, ask-has-data, ask-streams-ready, ask-readiness, step, run}
 
--- A message whose numbers have their widths.
+-- ------------------------------------------------------------------ calls whose numbers have their widths
+
 pub record MessageTyped (m : Message) : Type 0 where
   pub stream-id : m .stream-id < 2 ^ 16
   pub ppid : m .ppid < 2 ^ 32
@@ -22,7 +26,7 @@ pub record MessageTyped (m : Message) : Type 0 where
   pub lifecycle-id : m .lifecycle-id < 2 ^ 64
   pub payload : T (areBytes (m .payload))
 
--- A call whose numbers have their widths: stream ids and priorities 16 bits, message ids 32, all others 64.
+-- Stream ids and priorities have 16 bits, message ids 32, all others 64.
 abbrev pub Typed : Call → Type 0
 Typed (add store now m) = (store < 2 ^ 64) × ((now < 2 ^ 64) × MessageTyped m)
 Typed (produce store places buffer now size) = (store < 2 ^ 64) × ((places < 2 ^ 64) × ((buffer < 2 ^ 64) × ((now < 2 ^ 64) × (size < 2 ^ 64))))
@@ -49,6 +53,8 @@ abbrev pub AllTyped : List Call → Type 0
 AllTyped [] = Unit {0}
 AllTyped (c ∷ cs) = Typed c × AllTyped cs
 
+-- ------------------------------------------------------------------ queues
+
 -- Creation arguments that have their widths and are not refused.
 pub record Created (o : Options) : Type 0 where
   pub accepted : create-refusal o ≡ none
@@ -56,22 +62,30 @@ pub record Created (o : Options) : Type 0 where
   pub default-threshold : o .default-threshold < 2 ^ 64
   pub total-threshold : o .total-threshold < 2 ^ 64
 
--- A queue that creation and calls lead to.
+-- A queue that creation and calls lead to. (Saving changes nothing, so it needs no step here.)
 pub data Reachable (o : Options) : Queue → Type 0 where
   created : Created o → Reachable o (new-queue o)
   called : {q : Queue} → Reachable o q → (c : Call) → Typed c → Reachable o ((step c q) .next)
 
--- Two queues that no list of calls, saving excluded, tells apart: the answers with their fragments and the events are the same, call by call.
--- (Lent buffers are the same for both, so what they hold afterwards is a function of what is compared here.)
+-- A new queue with an interleaving choice.
+unfoldable pub fresh : Options → Bool → Queue
+unfolding new-queue step
+fresh o b = (step (set-interleaving b) (new-queue o)) .next
+
+-- ------------------------------------------------------------------ demand 3
+
+-- "cannot be told apart: for every list of calls on a queue other than saving ..., refused ones included, each call gives on both queues the same answer or refusal, the
+-- same fragment and the same events in order". (The lent buffers are the same for both, so what they hold afterwards is a function of what is compared here.)
 abbrev pub Indistinguishable : Queue → Queue → Type 0
 Indistinguishable q₁ q₂ = (cs : List Call) → AllTyped cs → run cs q₁ ≡ run cs q₂
 
--- Restoring an image on a queue is not refused, and leads to r.
+-- "An image is accepted when restoring it is not refused": on the queue q, which leads to r.
 pub record Restores (now : ℕ) (image : List ℕ) (q r : Queue) : Type 0 where
   pub bytes : T (areBytes image)
-  pub accepted : Image.restore (q .options .store-length) now image q ≡ reply done [] r
+  pub accepted : Restore.restore (q .options .store-length) now image q ≡ reply done [] r
 
--- Demand 3: two accepted images are equal byte for byte exactly when the queues restored from them cannot be told apart.
+-- "Two accepted images are equal byte for byte exactly when the queues restored from them cannot be told apart". "Premises: both queues are created alike, have the same
+-- interleaving choice, and are restored at the same time, 1 or later".
 unfoldable pub Demand3 : Type 0
 Demand3 =
     (o : Options) (q₁ q₂ r₁ r₂ : Queue) (now : ℕ) (i₁ i₂ : List ℕ)
@@ -79,30 +93,27 @@ Demand3 =
     → Restores now i₁ q₁ r₁ → Restores now i₂ q₂ r₂
     → (i₁ ≡ i₂) ↔ Indistinguishable r₁ r₂
 
--- The Rust's own handover record: a record for every known stream.
+-- ------------------------------------------------------------------ demand 2 on images
+
+-- "its own record": the Rust's has a record for every known stream.
 unfoldable pub rust-handover : ℕ → Queue → Handover
 unfolding stream-record message-records
 rust-handover now q = record { next-message-id = q .next-message-id; default-priority = q .options .default-priority; streams = map stream-record (q .streams); messages = message-records now (q .streams) }
 
--- The streams without those that have zero counters, the default priority and no messages.
+-- "a stream with zero counters and the trailer's default priority has none, and without messages it is not known after restoring".
 unfoldable pub without-plain : ℕ → List Stream → List Stream
 unfolding plain stream-record has-items
 without-plain d [] = []
-without-plain d (s ∷ ss) = elim (plain d (stream-record s) && not (has-items s)) [ true ↦ without-plain d ss | false ↦ s ∷ without-plain d ss ]
+without-plain d (s ∷ ss) = let rest = without-plain d ss in if plain d (stream-record s) && not (has-items s) then rest else s ∷ rest
 
 unfoldable pub forget-plain : Queue → Queue
 unfolding without-plain
 forget-plain q = record { options = q .options; interleaving = q .interleaving; total = q .total; next-message-id = q .next-message-id; streams = without-plain (q .options .default-priority) (q .streams); scheduler = q .scheduler }
 
--- A new queue with an interleaving choice.
-unfoldable pub fresh : Options → Bool → Queue
-unfolding new-queue step
-fresh o b = (step (set-interleaving b) (new-queue o)) .next
-
--- Demand 2 on images: every image saved from a reachable queue is accepted at any allowed time by a new queue created alike, and restores
--- what the Rust restores from its own record, without the streams that have nothing to restore.
+-- "Every saved image is accepted at any allowed time by a new queue created alike, and restores what the Rust restores from its own record": whenever it was saved, and
+-- whatever the new queue's interleaving choice.
 unfoldable pub Demand2-images : Type 0
 Demand2-images =
     (o : Options) (q : Queue) (saved now : ℕ) (b : Bool)
-    → Reachable o q → saved ≤ max-time → now ≤ max-time
-    → Image.restore (o .store-length) now (write-image saved q) (fresh o b) ≡ reply done [] (forget-plain (restored now (rust-handover saved q) (fresh o b)))
+    → Reachable o q → now ≤ max-time
+    → Restore.restore (o .store-length) now (write-image saved q) (fresh o b) ≡ reply done [] (forget-plain (restored now (rust-handover saved q) (fresh o b)))

@@ -7,11 +7,13 @@ use Prim.Native.Nat.{ℕ, suc, _-_, _%_, _^_, _<_}
 use native.Mathlib.Nat.{mod-self, mod-eq-of-lt}
 use lib.Pow.{suc-ones}
 use lib.ListN.{length, replicate}
-use Rattle.queue_model.specs.Types.{Weight, weighted, Active, Options, Queue, Event, Answer, refused, done, number, flag, ids, fragment, nothing-waits, Outcome, wrap-suc}
+use Rattle.queue_model.specs.Types.{Weight, weighted, Queue, Event, Answer, refused, done, number, flag, ids, fragment, nothing-waits, Outcome}
 use Rattle.queue_model.specs.Scheduler.{cost}
-use Rattle.queue_model.specs.Calls.{Message, new-queue, expiry}
+use Rattle.queue_model.specs.Streams.{new-queue}
+use Rattle.queue_model.specs.Add.{expiry}
 use Rattle.queue_model.specs.Image.{bit, ms-left-at, write-image}
 use Rattle.queue_model.specs.Run.{Call, add, produce, reset, set-threshold, set-priority, set-interleaving, ask-amount, run, after}
+use Rattle.types.specs.Wrap.{wrap-suc}
 
 -- The queue of the examples: payload limit 1,000, default priority 256, thresholds 0.
 queue : Queue
@@ -117,14 +119,6 @@ table =
 pub examples : map (λ r. r .given) table ≡ map (λ r. r .said) table
 unfolding table
 examples = refl
-
--- Counters wrap at their width, whatever it is.
-pub wraps : (w : ℕ) → wrap-suc w (2 ^ w - 1) ≡ 0
-wraps w = ap (λ (n : ℕ). n % 2 ^ w) (suc-ones w) ∙ mod-self (2 ^ w)
-
--- Below it they grow by one.
-pub grows : (w n : ℕ) → suc n < 2 ^ w → wrap-suc w n ≡ suc n
-grows w n h = mod-eq-of-lt h
 
 -- Handing out sets the system time to the stream's own new start, as the Rust does: here it falls from 9,000,000 to 10,000.
 times : List Call → ℕ

@@ -1,13 +1,12 @@
--- Lists of calls on a queue, saving excluded, and what they show. Assumes nothing.
+-- The calls that demand 3 lists, one step of the queue, and what lists of calls show. Assumes nothing.
 use Prim.Native.Nat.{ℕ}
 use mathlib.Core.Bool.{Bool, true, false}
 use mathlib.Core.List.{List, [], _∷_}
-use Rattle.queue_model.specs.Types.{Queue, Answer, number, flag, Outcome, Step}
+use Rattle.queue_model.specs.Types.{Queue, Message, number, flag, Outcome, Step, reply}
 use Rattle.queue_model.specs.Calls
-use Rattle.queue_model.specs.Calls.{Message, reply}
-use Rattle.queue_model.specs.Image
+use Rattle.queue_model.specs.Restore
 
--- A call with its arguments; a lent buffer stands by its length (`store`, `places` of the event list, `buffer` of the fragment).
+-- A call other than saving, with its arguments. A lent buffer stands by its length: `store`, `places` of the event list, `buffer` of the fragment.
 pub data Call : Type 0 where
   add : (store now : ℕ) → Message → Call
   produce : (store places buffer now size : ℕ) → Call
@@ -23,7 +22,7 @@ pub data Call : Type 0 where
 
 -- One call.
 unfoldable pub step : Call → Queue → Step
-unfolding Calls.add Calls.produce Calls.discard Calls.close Calls.ready-ids Calls.reopen Calls.reset Calls.set-threshold Calls.set-priority Calls.set-interleaving Image.restore Calls.priority-of Calls.amount-of Calls.threshold-of Calls.has-data Calls.some-paused Calls.readiness
+unfolding Calls.add Calls.produce Calls.discard Calls.close Calls.ready-ids Calls.reopen Calls.reset Calls.set-threshold Calls.set-priority Calls.set-interleaving Restore.restore Calls.priority-of Calls.amount-of Calls.threshold-of Calls.is-empty Calls.has-data Calls.streams-ready Calls.readiness
 step (add store now m) q = Calls.add store now m q
 step (produce store places buffer now size) q = Calls.produce store places buffer now size q
 step (discard places s k) q = Calls.discard places s k q
@@ -35,14 +34,14 @@ step reset q = Calls.reset q
 step (set-threshold places s t) q = Calls.set-threshold places s t q
 step (set-priority s p) q = Calls.set-priority s p q
 step (set-interleaving b) q = Calls.set-interleaving b q
-step (restore store now image) q = Image.restore store now image q
+step (restore store now image) q = Restore.restore store now image q
 step (ask-priority s) q = reply (number (Calls.priority-of q s)) [] q
 step (ask-amount s) q = reply (number (Calls.amount-of q s)) [] q
 step (ask-threshold s) q = reply (number (Calls.threshold-of q s)) [] q
 step ask-total q = reply (number (q .total)) [] q
-step ask-empty q = reply (flag (lib.Dec.eqb (q .total) 0)) [] q
+step ask-empty q = reply (flag (Calls.is-empty q)) [] q
 step ask-has-data q = reply (flag (Calls.has-data q)) [] q
-step ask-streams-ready q = reply (flag (Calls.some-paused (q .streams))) [] q
+step ask-streams-ready q = reply (flag (Calls.streams-ready q)) [] q
 step ask-readiness q = reply (number (Calls.readiness q)) [] q
 
 -- What a list of calls shows, call by call.

@@ -1,0 +1,157 @@
+-- What the next fragment is on a calm queue, asked for whole at time 0: the head of the chosen stream. Assumes nothing.
+use mathlib.Core.Path.{_≡_, refl, sym, ap, ap₂, _∙_, subst}
+use mathlib.Core.Bool.{Bool, true, false, not, _&&_, _||_}
+use mathlib.Core.List.{List, [], _∷_, _++_, map}
+use mathlib.Core.Option.{Option, none, some, Option·getD}
+use Prim.Native.Nat.{ℕ, zero, suc, _+_, _-_, _^_, _≤_, _<_, min}
+use native.Mathlib.Omega.{arith}
+use lib.Dec.{T, ltb, leb, eqb}
+use lib.ListN.{length}
+use Rattle.queue_model.specs.Logic.{if_then_else_}
+use Rattle.queue_model.specs.Types.{Item, Stream, Active, Options, Queue, Event, Fragment, fragment, nothing-waits, Step, remaining, reply, refuse}
+use Rattle.queue_model.specs.Scheduler.{scheduled, least, least-of, earlier, remembered, or-else, peek}
+use Rattle.queue_model.specs.Streams.{find-stream, head-size, waiting, stream-key}
+use Rattle.queue_model.specs.Refusals.{short-of}
+use Rattle.queue_model.specs.Amounts.{sent-events}
+use Rattle.queue_model.specs.Produce.{after-look, look-for, look-expired, produce-checks, head, head-of, Look, nothing, chosen, look-at, look, numbered, make-fragment, handed-out, hand-out, pass-over, produce}
+use Rattle.queue_model.proofs.Tests.{eqb-true}
+use Rattle.queue_model.proofs.Table.{find-here, find-there, found-above, After, Rising}
+use Rattle.queue_model.proofs.Checks.{checked-past}
+use Rattle.queue_model.proofs.Calm.Entries.{entry, entries, actives, entry-id}
+use Rattle.queue_model.proofs.Calm.Calm.{Good, calm-scheduler, calm, HeadAt, head-items, not-short, head-of-found}
+
+module _ (limit : ℕ) (il : Bool) where
+  -- An entry that is a stream's, with its head.
+  pub record From (ss : List Stream) (a : Active) : Type 0 where
+    pub stream : Stream
+    pub item : Item
+    pub rest : List Item
+    pub at : HeadAt ss (stream .id) stream item rest
+    pub is-entry : a ≡ entry limit il stream
+
+  abbrev AllFrom : List Stream → List Active → Type 0
+  AllFrom ss [] = Unit {0}
+  AllFrom ss (a ∷ as′) = From ss a × AllFrom ss as′
+
+  from-later : (r : Stream) (ss : List Stream) (a : Active) → After stream-key (r .id) ss → From ss a → From (r ∷ ss) a
+  from-later r ss a b f =
+      let l = found-above stream-key (r .id) (f .stream .id) ss (f .stream) b (f .at .found) in
+      record {
+        stream = f .stream;
+        item = f .item;
+        rest = f .rest;
+        at = record { found = find-there stream-key (f .stream .id) r ss (λ e. omega arith) ∙ f .at .found; items = f .at .items };
+        is-entry = f .is-entry;
+      }
+
+  all-from-later : (r : Stream) (ss : List Stream) (as′ : List Active) → After stream-key (r .id) ss → AllFrom ss as′ → AllFrom (r ∷ ss) as′
+  all-from-later r ss [] b f = tt
+  all-from-later r ss (a ∷ as′) b f = (from-later r ss a b (f .0), all-from-later r ss as′ b (f .1))
+
+  actives-from : (ss : List Stream) → Rising stream-key ss → AllFrom ss (actives limit il ss)
+  actives-from [] r = tt
+  actives-from (s ∷ ss) r = go (s .items) refl (all-from-later s ss (actives limit il ss) (r .0) (actives-from ss (r .1)))
+    where
+      go : (is : List Item) → s .items ≡ is → AllFrom (s ∷ ss) (actives limit il ss) → AllFrom (s ∷ ss) (entries limit il s is ++ actives limit il ss)
+      go [] e f = f
+      go (i ∷ is) e f = (record { stream = s; item = i; rest = is; at = record { found = find-here stream-key (s .id) s ss refl; items = e }; is-entry = refl }, f)
+
+  least-from : (ss : List Stream) (a : Active) (as′ : List Active) → From ss a → AllFrom ss as′ → From ss (least a as′)
+  unfolding least earlier
+  least-from ss a [] f g = f
+  least-from ss a (b ∷ bs) f g = least-from ss (earlier a b) bs (go (ltb (a .finish) (b .finish) || (eqb (a .finish) (b .finish) && ltb (a .stream-id) (b .stream-id)))) (g .1)
+    where
+      go : (t : Bool) → From ss ((if t then a else b))
+      go true = f
+      go false = g .0
+
+  -- A calm list of entries chooses a stream, or no stream has messages.
+  pub data Choice (ss : List Stream) : Type 0 where
+    none-waits : least-of (actives limit il ss) ≡ none → actives limit il ss ≡ [] → Choice ss
+    one-waits : (s : Stream) (i : Item) (is : List Item) → HeadAt ss (s .id) s i is → least-of (actives limit il ss) ≡ some (entry limit il s) → Choice ss
+
+  pub choose : (ss : List Stream) → Rising stream-key ss → Choice ss
+  unfolding least-of
+  choose ss r = go (actives limit il ss) refl (actives-from ss r)
+    where
+      go : (as′ : List Active) → actives limit il ss ≡ as′ → AllFrom ss as′ → Choice ss
+      go [] e f = none-waits (ap least-of e) e
+      go (a ∷ as′) e f =
+          let h = least-from ss a as′ (f .0) (f .1) in
+          one-waits (h .stream) (h .item) (h .rest) (h .at) (ap least-of e ∙ ap {B = Option Active} some (h .is-entry))
+
+-- ---- the call
+
+-- The calm queue's whole next fragment at time 0.
+abbrev pub whole : Options → Queue → Step
+whole o q = produce (o .store-length) 2305 262144 0 262144 q
+
+module _ (o : Options) (il : Bool) (n : ℕ) (ss : List Stream) where
+  -- What follows one look at the calm queue.
+  turn : Look → Option Step
+  turn l = after-look (λ (r : Queue) (ds : List Event). pass-over (waiting ss) 0 262144 r ds) 262144 (calm o il n ss) [] l
+
+  whole-turn : whole o (calm o il n ss) ≡ Option·getD (turn (look 0 (calm o il n ss))) (refuse (calm o il n ss) 16)
+  unfolding produce calm turn
+  whole-turn =
+      let same : not (eqb (o .store-length) (o .store-length)) ≡ false = ap not (eqb-true {a = o .store-length} refl) in
+      checked-past (produce-checks (o .store-length) 2305 262144 0 262144 (calm o il n ss)) (calm o il n ss) (Option·getD (turn (look 0 (calm o il n ss))) (refuse (calm o il n ss) 16)) (same, (refl, (refl, (refl, (refl, tt)))))
+
+  look-calm : look 0 (calm o il n ss) ≡ look-for 0 (calm o il n ss) (least-of (actives (o .payload-limit) il ss))
+  unfolding look peek calm calm-scheduler remembered or-else
+  look-calm = refl
+
+  nothing-there : turn (look-for 0 (calm o il n ss) none) ≡ some (reply nothing-waits [] (calm o il n ss))
+  unfolding turn look-for after-look
+  nothing-there = refl
+
+  -- No stream waits: nothing waits.
+  pub whole-nothing : least-of (actives (o .payload-limit) il ss) ≡ none → whole o (calm o il n ss) ≡ reply nothing-waits [] (calm o il n ss)
+  whole-nothing e =
+      whole-turn ∙ ap (λ (x : Option Step). Option·getD x (refuse (calm o il n ss) 16)) (ap turn (look-calm ∙ ap (look-for 0 (calm o il n ss)) e) ∙ nothing-there)
+
+  module _ (s : Stream) (i : Item) (is : List Item) (g : Good ss) (h : HeadAt ss (s .id) s i is) where
+    -- The fragment of the head, whole.
+    abbrev pub head-fragment : Fragment
+    head-fragment = make-fragment s ((numbered (s .counters) i) .item) (remaining i)
+
+    abbrev pub head-handed-out : Queue
+    head-handed-out = handed-out (calm o il n ss) (entry (o .payload-limit) il s) s i is (remaining i)
+
+    abbrev head-events : List Event
+    head-events = [] ++ sent-events (calm o il n ss) s (remaining i)
+
+    look-some : look-for 0 (calm o il n ss) (some (entry (o .payload-limit) il s)) ≡ look-at 0 (calm o il n ss) (entry (o .payload-limit) il s) (head s i is)
+    unfolding look-for calm
+    look-some =
+        ap (λ (k : ℕ). look-at 0 (calm o il n ss) (entry (o .payload-limit) il s) (head-of (find-stream k ss))) (entry-id (o .payload-limit) il s)
+        ∙ ap (look-at 0 (calm o il n ss) (entry (o .payload-limit) il s)) (head-of-found ss (s .id) s i is g h o il n)
+
+    look-at-head : look-at 0 (calm o il n ss) (entry (o .payload-limit) il s) (head s i is) ≡ chosen (entry (o .payload-limit) il s) s i is
+    unfolding look-at
+    look-at-head = ap (λ (b : Bool). if b then look-expired (calm o il n ss) s i is else chosen (entry (o .payload-limit) il s) s i is) ((head-items ss (s .id) s i is g h) .0 .lasting)
+
+    turn-chosen : turn (chosen (entry (o .payload-limit) il s) s i is) ≡ hand-out 262144 (calm o il n ss) [] (entry (o .payload-limit) il s) s i is
+    unfolding turn after-look
+    turn-chosen = refl
+
+    size-whole : min ((entry (o .payload-limit) il s) .bytes-remaining) 262144 ≡ remaining i
+    unfolding scheduled head-size
+    size-whole =
+        let sm = (head-items ss (s .id) s i is g h) .0 .small in
+        ap (λ (l : List Item). min (head-size l) 262144) (h .items) ∙ omega arith
+
+    handed : ℕ → Step
+    handed m = reply (fragment (make-fragment s ((numbered (s .counters) i) .item) m)) ([] ++ sent-events (calm o il n ss) s m) (handed-out (calm o il n ss) (entry (o .payload-limit) il s) s i is m)
+
+    hand-out-head : hand-out 262144 (calm o il n ss) [] (entry (o .payload-limit) il s) s i is ≡ some (reply (fragment head-fragment) head-events head-handed-out)
+    unfolding hand-out handed
+    hand-out-head =
+        ap (λ (m : ℕ). if short-of (calm o il n ss) s m then none else some (handed m)) size-whole
+        ∙ ap (λ (b : Bool). if b then none else some (handed (remaining i))) (not-short ss (s .id) s i is g h o il n)
+
+    -- The chosen stream's head is handed out whole.
+    pub whole-head : least-of (actives (o .payload-limit) il ss) ≡ some (entry (o .payload-limit) il s) → whole o (calm o il n ss) ≡ reply (fragment head-fragment) head-events head-handed-out
+    whole-head e =
+        whole-turn ∙ ap (λ (x : Option Step). Option·getD x (refuse (calm o il n ss) 16))
+        (ap turn (look-calm ∙ ap (look-for 0 (calm o il n ss)) e ∙ look-some ∙ look-at-head) ∙ turn-chosen ∙ hand-out-head)

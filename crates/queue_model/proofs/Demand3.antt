@@ -1,0 +1,3 @@
+pub mod Restored
+pub mod Records
+pub mod Peel

@@ -1,0 +1,3 @@
+pub mod ByteRows
+pub mod ReadWrite
+pub mod Saved
