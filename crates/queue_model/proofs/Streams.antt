@@ -5,10 +5,10 @@ use mathlib.Core.Option.{Option, none, some, Option·getD}
 use Prim.Native.Nat.{ℕ, suc, _+_, _≤_, _<_}
 use native.Mathlib.Omega.{arith}
 use lib.ListN.{length}
-use Rattle.queue_model.specs.Table.{find, put, sum-by}
+use Rattle.queue_model.specs.Table.{sum-by}
 use Rattle.queue_model.specs.Types.{Item, Stream, Options, remaining}
 use Rattle.queue_model.specs.Streams.{stream-key, find-stream, put-stream, new-stream, at, payload-bytes, head-size}
-use Rattle.queue_model.proofs.Table.{find-nil, find-here, find-there, find-key, find-put-same, find-put-other, found, missing, look-up, own, other, is-own, Rising, Every, every-find, sum-put-new, sum-put-old}
+use Rattle.queue_model.proofs.Table.{find-here, find-there, find-key, find-put-same, find-put-other, found, missing, look-up, own, other, is-own, Rising, Every, every-find, sum-put-new, sum-put-old}
 
 -- ---- the stream of an id
 

@@ -7,8 +7,8 @@ use lib.ListN.{length}
 use Rattle.types.specs.Wrap.{wrap-suc}
 use Rattle.queue_model.specs.Logic.{if_then_else_}
 use Rattle.queue_model.specs.Table.{find, put}
-use Rattle.queue_model.specs.Types.{Item, PauseState, not-paused, pending, paused, resetting, Stream, Scheduler, Queue, Message, done, Step, reply, with-items}
-use Rattle.queue_model.specs.Streams.{put-stream, stream-at, too-many, free-bytes, has-items, reschedule}
+use Rattle.queue_model.specs.Types.{Item, PauseState, not-paused, pending, paused, resetting, Stream, Scheduler, Queue, Message, done, Step, reply}
+use Rattle.queue_model.specs.Streams.{put-stream, stream-at, too-many, free-bytes, has-items, reschedule, with-message}
 use Rattle.queue_model.specs.Refusals.{Check, _when_, checked, store-other, time-late, payload-wrong, streams-full, messages-full, store-full, overflows}
 
 -- "a lifetime sets now + lifetime + 1 ms, else never".
@@ -28,10 +28,6 @@ starts-waiting pending = true
 starts-waiting paused = false
 starts-waiting resetting = false
 
--- The stream with one message more.
-unfoldable pub with-message : Stream → Item → Stream
-with-message s i = with-items s (s .amount + length (i .payload)) (s .items ++ (i ∷ []))
-
 -- The scheduler after a stream s has become s′ by a message: a stream that had none begins to wait.
 unfoldable pub started : Bool → Stream → Stream → Scheduler → Scheduler
 unfolding starts-waiting has-items reschedule
@@ -39,7 +35,7 @@ started il s s′ sc = if starts-waiting (s .pause-state) && not (has-items s) t
 
 -- An accepted message. "Message ids have 32 bits, start at 0, grow by one with each accepted message and wrap."
 unfoldable pub added : ℕ → Message → Queue → Queue
-unfolding find new-item with-message put started
+unfolding find new-item put started
 added now m q =
     let s = stream-at q (m .stream-id) in
     let s′ = with-message s (new-item now (q .next-message-id) m) in

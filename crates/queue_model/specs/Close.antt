@@ -8,8 +8,8 @@ use Rattle.queue_model.specs.Table.{find, put, sum-by}
 use Rattle.queue_model.specs.Types.{Item, PauseState, not-paused, pending, paused, resetting, Stream, Scheduler, Options, Queue, Event, done, Step, reply, remaining, with-items, with-pause, with-state}
 use Rattle.queue_model.specs.Scheduler.{set-bytes-remaining}
 use Rattle.queue_model.specs.Streams.{put-stream, stream-at, too-many, know, has-items, weight-of}
-use Rattle.queue_model.specs.Amounts.{total-falls, stream-falls, lifecycle-events}
 use Rattle.queue_model.specs.Refusals.{Check, _when_, checked, places-few, streams-full, short-of}
+use Rattle.queue_model.specs.Amounts.{total-falls, stream-falls, lifecycle-events}
 
 -- ------------------------------------------------------------------ what is dropped
 

@@ -8,13 +8,13 @@ use Prim.Native.Nat.{ℕ, _≤_, _<_, _^_}
 use lib.Dec.{T, eqb}
 use lib.Pow.{areBytes}
 use Rattle.queue_model.specs.Logic.{if_then_else_}
-use Rattle.queue_model.specs.Types.{Stream, Options, Queue, Message, done, Step, reply}
+use Rattle.queue_model.specs.Types.{Stream, Options, Queue, Message, done, reply}
 use Rattle.queue_model.specs.Streams.{has-items, new-queue}
 use Rattle.queue_model.specs.Refusals.{max-time, create-refusal}
-use Rattle.queue_model.specs.Image.{StreamRecord, Handover, stream-record, message-records, plain, write-image}
-use Rattle.queue_model.specs.Restore
-use Rattle.queue_model.specs.Restore.{restored}
+use Rattle.queue_model.specs.Image.{write-image}
+use Rattle.queue_model.specs.RustHandover.{handover-state, restore-from-state}
 use Rattle.queue_model.specs.Run.{Call, add, produce, discard, close, ready-ids, commit, rollback, reset, set-threshold, set-priority, set-interleaving, restore, ask-priority, ask-amount, ask-threshold, ask-total, ask-empty, ask-has-data, ask-streams-ready, ask-readiness, step, run}
+use Rattle.queue_model.specs.Restore
 
 -- ------------------------------------------------------------------ calls whose numbers have their widths
 
@@ -95,25 +95,24 @@ Demand3 =
 
 -- ------------------------------------------------------------------ demand 2 on images
 
--- "its own record": the Rust's has a record for every known stream.
-unfoldable pub rust-handover : ℕ → Queue → Handover
-unfolding stream-record message-records
-rust-handover now q = record { next-message-id = q .next-message-id; default-priority = q .options .default-priority; streams = map stream-record (q .streams); messages = message-records now (q .streams) }
-
 -- "a stream with zero counters and the trailer's default priority has none, and without messages it is not known after restoring".
+unfoldable pub nothing-to-restore : ℕ → Stream → Bool
+unfolding has-items
+nothing-to-restore d s = (eqb (s .counters .next-ssn) 0 && eqb (s .counters .next-unordered-mid) 0 && eqb (s .counters .next-ordered-mid) 0 && eqb (s .priority) d) && not (has-items s)
+
 unfoldable pub without-plain : ℕ → List Stream → List Stream
-unfolding plain stream-record has-items
+unfolding nothing-to-restore
 without-plain d [] = []
-without-plain d (s ∷ ss) = let rest = without-plain d ss in if plain d (stream-record s) && not (has-items s) then rest else s ∷ rest
+without-plain d (s ∷ ss) = let rest = without-plain d ss in if nothing-to-restore d s then rest else s ∷ rest
 
 unfoldable pub forget-plain : Queue → Queue
 unfolding without-plain
 forget-plain q = record { options = q .options; interleaving = q .interleaving; total = q .total; next-message-id = q .next-message-id; streams = without-plain (q .options .default-priority) (q .streams); scheduler = q .scheduler }
 
--- "Every saved image is accepted at any allowed time by a new queue created alike, and restores what the Rust restores from its own record": whenever it was saved, and
--- whatever the new queue's interleaving choice.
+-- "Every saved image is accepted at any allowed time by a new queue created alike, and restores what the Rust restores from its own record" (specs/RustHandover), but for the
+-- streams that have nothing to restore: whenever it was saved, and whatever the new queue's interleaving choice.
 unfoldable pub Demand2-images : Type 0
 Demand2-images =
     (o : Options) (q : Queue) (saved now : ℕ) (b : Bool)
     → Reachable o q → now ≤ max-time
-    → Restore.restore (o .store-length) now (write-image saved q) (fresh o b) ≡ reply done [] (forget-plain (restored now (rust-handover saved q) (fresh o b)))
+    → Restore.restore (o .store-length) now (write-image saved q) (fresh o b) ≡ reply done [] (forget-plain (restore-from-state now (handover-state saved q) (fresh o b)))

@@ -8,8 +8,8 @@ use Rattle.queue_model.specs.Table.{find, put}
 use Rattle.queue_model.specs.Types.{Item, PauseState, not-paused, pending, paused, resetting, Stream, Queue, done, Step, refuse, reply, remaining, with-items, with-pause, with-state}
 use Rattle.queue_model.specs.Scheduler.{set-bytes-remaining}
 use Rattle.queue_model.specs.Streams.{find-stream, put-stream, weight-of}
-use Rattle.queue_model.specs.Amounts.{drop-head-events}
 use Rattle.queue_model.specs.Refusals.{Check, checked, places-few, short-of}
+use Rattle.queue_model.specs.Amounts.{drop-head-events}
 use Rattle.queue_model.specs.Produce.{Head, no-head, head, head-of, drop-head}
 
 -- "When a pending stream's message ends or is discarded, it is paused", and stops waiting. In any other state the stream waits with what is behind ("a discard schedules

@@ -6,7 +6,7 @@ use mathlib.Core.Option.{Option, none, some, Option·getD}
 use lib.Dec.{eqb, ltb}
 use lib.ListN.{length}
 use Rattle.queue_model.specs.Logic.{if_then_else_, is-some}
-use Rattle.queue_model.specs.Types.{Item, Counters, Stream, Options, Queue}
+use Rattle.queue_model.specs.Types.{Item, Stream, Queue}
 use Rattle.queue_model.specs.Refusals.{Check, first-refusal, store-other, time-late, image-long}
 use Rattle.queue_model.specs.Bytes.{row-bytes, Fits}
 

@@ -8,11 +8,11 @@ use lib.ListN.{take, drop}
 use Rattle.types.specs.Wrap.{wrap-suc}
 use Rattle.queue_model.specs.Logic.{if_then_else_}
 use Rattle.queue_model.specs.Table.{find, put}
-use Rattle.queue_model.specs.Types.{Item, PauseState, not-paused, pending, paused, resetting, Counters, Stream, Active, Scheduler, Queue, Event, Fragment, fragment, nothing-waits, Step, refuse, reply, remaining, expired, with-items, with-pause, with-counters, with-numbers, with-state}
+use Rattle.queue_model.specs.Types.{Item, PauseState, not-paused, pending, paused, resetting, Counters, Stream, Active, Queue, Event, Fragment, fragment, nothing-waits, Step, refuse, reply, remaining, expired, with-items, with-pause, with-counters, with-numbers, with-state}
 use Rattle.queue_model.specs.Scheduler.{set-bytes-remaining, peek, accept}
 use Rattle.queue_model.specs.Streams.{find-stream, put-stream, waiting, head-size, weight-of, reschedule}
-use Rattle.queue_model.specs.Amounts.{sent-events, drop-head-events}
 use Rattle.queue_model.specs.Refusals.{Check, checked, store-other, places-few, time-late, size-wrong, buffer-short, short-of}
+use Rattle.queue_model.specs.Amounts.{sent-events, drop-head-events}
 
 -- ------------------------------------------------------------------ the head of a stream
 

@@ -8,7 +8,7 @@ use lib.Dec.{eqb, ltb, leb}
 use lib.ListN.{length}
 use Rattle.queue_model.specs.Logic.{if_then_else_, outside, is-nil}
 use Rattle.queue_model.specs.Types.{Stream, Options, Queue, Step, refuse}
-use Rattle.queue_model.specs.Streams.{max-streams, max-messages, too-many, waiting, free-bytes}
+use Rattle.queue_model.specs.Streams.{max-messages, too-many, waiting, free-bytes}
 
 -- ------------------------------------------------------------------ lists of checks
 

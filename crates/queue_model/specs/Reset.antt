@@ -6,7 +6,7 @@ use lib.Dec.{ltb}
 use lib.ListN.{length}
 use Rattle.queue_model.specs.Logic.{if_then_else_, any}
 use Rattle.queue_model.specs.Table.{sum-by}
-use Rattle.queue_model.specs.Types.{Item, PauseState, not-paused, pending, paused, resetting, Stream, Queue, done, ids, Step, refuse, reply, remaining, with-items, with-pause, with-counters, with-numbers, with-state}
+use Rattle.queue_model.specs.Types.{Item, not-paused, pending, paused, resetting, Stream, Queue, done, ids, Step, reply, remaining, with-items, with-pause, with-counters, with-numbers, with-state}
 use Rattle.queue_model.specs.Streams.{zero-counters, has-items, reschedule-each}
 use Rattle.queue_model.specs.Refusals.{Check, _when_, checked, max-word}
 

@@ -7,8 +7,8 @@ use lib.Dec.{eqb, ltb}
 use lib.ListN.{length}
 use Rattle.queue_model.specs.Logic.{is-nil}
 use Rattle.queue_model.specs.Table.{find, put}
-use Rattle.queue_model.specs.Types.{Item, not-paused, Counters, Stream, Options, Queue, done, Step, refuse, reply, remaining, with-items}
-use Rattle.queue_model.specs.Streams.{max-streams, max-messages, find-stream, put-stream, new-stream, at, waiting, occupied, amounts, has-items, reschedule-each}
+use Rattle.queue_model.specs.Types.{Item, not-paused, Stream, Options, Queue, done, Step, refuse, reply}
+use Rattle.queue_model.specs.Streams.{max-streams, max-messages, put-stream, at, waiting, occupied, amounts, has-items, reschedule-each, with-message}
 use Rattle.queue_model.specs.Refusals.{Check, _when_, checked, store-other, time-late, queue-used}
 use Rattle.queue_model.specs.Image.{StreamRecord, MessageRecord, Handover}
 use Rattle.queue_model.specs.Reader.{has-flag, read-image}
@@ -59,10 +59,7 @@ restored-item now r =
 -- A message put at its stream's end; a stream "that only messages name" is new, with the defaults.
 unfoldable pub restore-message : Options → ℕ → MessageRecord → List Stream → List Stream
 unfolding find put restored-item
-restore-message o now r ss =
-    let s = at o ss (r .id) in
-    let i = restored-item now r in
-    put-stream (with-items s (s .amount + remaining i) (s .items ++ (i ∷ []))) ss
+restore-message o now r ss = put-stream (with-message (at o ss (r .id)) (restored-item now r)) ss
 
 unfoldable pub restore-messages : Options → ℕ → List MessageRecord → List Stream → List Stream
 unfolding restore-message

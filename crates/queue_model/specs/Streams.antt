@@ -1,13 +1,13 @@
 -- The known streams of a queue: finding one, counting what waits, and letting a stream wait. Assumes nothing.
-use Prim.Native.Nat.{ℕ, _-_}
+use Prim.Native.Nat.{ℕ, _+_, _-_}
 use mathlib.Core.Bool.{Bool, true, false, not, _&&_}
-use mathlib.Core.List.{List, [], _∷_}
+use mathlib.Core.List.{List, [], _∷_, _++_}
 use mathlib.Core.Option.{Option, none, some, Option·getD}
 use lib.Dec.{leb}
 use lib.ListN.{length}
 use Rattle.queue_model.specs.Logic.{if_then_else_, is-some}
 use Rattle.queue_model.specs.Table.{find, put, sum-by}
-use Rattle.queue_model.specs.Types.{Item, PauseState, not-paused, Counters, Stream, Weight, round-robin, weighted, Scheduler, Options, Queue, remaining}
+use Rattle.queue_model.specs.Types.{Item, not-paused, Counters, Stream, Weight, round-robin, weighted, Scheduler, Options, Queue, remaining, with-items}
 use Rattle.queue_model.specs.Scheduler.{set-bytes-remaining, new-scheduler}
 
 -- ------------------------------------------------------------------ limits
@@ -49,6 +49,10 @@ stream-at q k = at (q .options) (q .streams) k
 unfoldable pub too-many : Queue → ℕ → Bool
 unfolding find is-some
 too-many q k = not (is-some (find-stream k (q .streams))) && leb max-streams (length (q .streams))
+
+-- A stream with one message more, at its end.
+abbrev pub with-message : Stream → Item → Stream
+with-message s i = with-items s (s .amount + remaining i) (s .items ++ (i ∷ []))
 
 -- A stream set in its place, and made known if it was not.
 abbrev pub know : Queue → Stream → Queue

@@ -8,9 +8,9 @@ use native.Mathlib.Omega.{arith}
 use lib.Dec.{T, ltb, leb, eqb}
 use lib.ListN.{length}
 use Rattle.queue_model.specs.Logic.{if_then_else_}
-use Rattle.queue_model.specs.Table.{find, without, sum-by}
+use Rattle.queue_model.specs.Table.{find, sum-by}
 use Rattle.queue_model.specs.Types.{Item, PauseState, not-paused, Stream, Active, Scheduler, Options, Queue, done, Step, remaining, expired, with-items, reply, refuse}
-use Rattle.queue_model.specs.Scheduler.{scheduled, find-active, put-active, without-active, forget, rest-time, remove-stream, start-of, set-bytes-remaining, remembered}
+use Rattle.queue_model.specs.Scheduler.{scheduled, find-active, put-active, without-active, forget, rest-time, remove-stream, start-of, set-bytes-remaining}
 use Rattle.queue_model.specs.Streams.{find-stream, put-stream, weight-of, head-size, reschedule, waiting, amounts, stream-key}
 use Rattle.queue_model.specs.Refusals.{max-payload, short-of}
 use Rattle.queue_model.specs.Amounts.{drop-head-events}

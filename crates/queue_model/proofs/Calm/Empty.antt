@@ -9,7 +9,7 @@ use lib.Dec.{T, ltb, leb, eqb}
 use lib.ListN.{length}
 use Rattle.types.specs.Wrap.{wrap-suc}
 use Rattle.queue_model.specs.Logic.{is-some, if_then_else_}
-use Rattle.queue_model.specs.Table.{find, without}
+use Rattle.queue_model.specs.Table.{find}
 use Rattle.queue_model.specs.Types.{Item, PauseState, Counters, Stream, Scheduler, Options, Queue, Fragment, Answer, refused, done, fragment, Outcome, Step, remaining, with-items, Message, reply, refuse}
 use Rattle.queue_model.specs.Streams.{max-messages, max-streams, find-stream, put-stream, too-many, waiting, payload-bytes, occupied, some-items, has-items, reschedule, amounts, stream-key, at, free-bytes}
 use Rattle.queue_model.specs.Refusals.{_when_, max-word, store-other, time-late, payload-wrong, messages-full, store-full, overflows}

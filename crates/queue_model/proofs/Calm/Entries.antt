@@ -7,7 +7,7 @@ use Prim.Native.Nat.{ℕ, zero, suc, _+_, _-_, _≤_, _<_}
 use native.Mathlib.Omega.{arith}
 use lib.Dec.{T, ltb, leb, eqb}
 use lib.ListN.{length}
-use Rattle.queue_model.specs.Table.{put, without}
+use Rattle.queue_model.specs.Table.{without}
 use Rattle.queue_model.specs.Types.{Item, Stream, Active}
 use Rattle.queue_model.specs.Scheduler.{scheduled, put-active, without-active, active-key}
 use Rattle.queue_model.specs.Streams.{put-stream, weight-of, head-size, stream-key}

@@ -13,7 +13,7 @@ use Rattle.queue_model.specs.Scheduler.{scheduled, least, least-of, earl
 use Rattle.queue_model.specs.Streams.{find-stream, head-size, waiting, stream-key}
 use Rattle.queue_model.specs.Refusals.{short-of}
 use Rattle.queue_model.specs.Amounts.{sent-events}
-use Rattle.queue_model.specs.Produce.{after-look, look-for, look-expired, produce-checks, head, head-of, Look, nothing, chosen, look-at, look, numbered, make-fragment, handed-out, hand-out, pass-over, produce}
+use Rattle.queue_model.specs.Produce.{after-look, look-for, look-expired, produce-checks, head, head-of, Look, chosen, look-at, look, numbered, make-fragment, handed-out, hand-out, pass-over, produce}
 use Rattle.queue_model.proofs.Tests.{eqb-true}
 use Rattle.queue_model.proofs.Table.{find-here, find-there, found-above, After, Rising}
 use Rattle.queue_model.proofs.Checks.{checked-past}

@@ -8,7 +8,7 @@ use native.Mathlib.Omega.{arith}
 use lib.Dec.{T, ltb, leb, eqb}
 use lib.ListN.{length}
 use Rattle.queue_model.specs.Logic.{if_then_else_}
-use Rattle.queue_model.specs.Table.{find, put}
+use Rattle.queue_model.specs.Table.{find}
 use Rattle.queue_model.specs.Types.{Item, Stream, Active, Scheduler, Options, done, Step, with-numbers, reply}
 use Rattle.queue_model.specs.Streams.{find-stream, put-stream, reschedule, reschedule-each, some-items, has-items, occupied, amounts, stream-key}
 use Rattle.queue_model.specs.Refusals.{max-word}

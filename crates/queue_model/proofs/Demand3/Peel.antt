@@ -7,7 +7,7 @@ use Prim.Native.Nat.{ℕ, zero, suc, _+_, _-_, _^_, _≤_, _<_}
 use native.Mathlib.Omega.{arith}
 use lib.ListN.{length, take, drop}
 use lib.Seq.{take-all}
-use Rattle.queue_model.specs.Table.{find, put, sum-by}
+use Rattle.queue_model.specs.Table.{find, sum-by}
 use Rattle.queue_model.specs.Types.{Item, Counters, Stream, Options, Queue, Fragment, fragment, nothing-waits, Outcome, Step, remaining}
 use Rattle.queue_model.specs.Streams.{find-stream, put-stream, new-stream, waiting, payload-bytes, occupied, stream-key, at}
 use Rattle.queue_model.specs.Produce.{numbered}
@@ -15,7 +15,7 @@ use Rattle.queue_model.specs.Reset.{reset-stream}
 use Rattle.queue_model.specs.Run.{Call, produce, discard, reset, step}
 use Rattle.queue_model.specs.Demands.{Typed, Indistinguishable}
 use Rattle.queue_model.proofs.Tests.{less, same, more, tri}
-use Rattle.queue_model.proofs.Table.{find-here, find-there, find-put-same, find-put-other, found-above, Rising, sum-put-old, empty, first, split, After, find-key, found, missing, look-up, Found, every-find}
+use Rattle.queue_model.proofs.Table.{find-here, find-there, find-put-same, find-put-other, found-above, Rising, sum-put-old, empty, first, split, find-key, found, missing, look-up, Found, every-find}
 use Rattle.queue_model.proofs.Streams.{at-found, at-new}
 use Rattle.queue_model.proofs.Calm.Calm.{GoodStream, GoodItem, Good, good-put, calm, HeadAt, behead, head-good, head-items, head-amount, head-id, behead-good, behead-waiting, discard-calm}
 use Rattle.queue_model.proofs.Calm.Produce.{whole, whole-nothing, whole-head, Choice, none-waits, one-waits, choose}

@@ -11,7 +11,7 @@ use Rattle.queue_model.specs.Types.{Item, Stream, Options}
 use Rattle.queue_model.specs.Streams.{new-stream, stream-key, at}
 use Rattle.queue_model.specs.Image.{StreamRecord, MessageRecord, plain, stream-record, stream-records, message-record, message-records}
 use Rattle.queue_model.proofs.Tests.{less, same, more, tri}
-use Rattle.queue_model.proofs.Table.{find-here, find-there, find-after, After, Rising, after-down, first}
+use Rattle.queue_model.proofs.Table.{find-here, find-there, find-after, After, Rising, after-down}
 use Rattle.queue_model.proofs.Streams.{at-found, at-new, at-id}
 use Rattle.queue_model.proofs.Calm.Calm.{AllGood, Good}
 use Rattle.queue_model.proofs.Demand3.Restored.{plain-new, same-record}

@@ -8,16 +8,15 @@ use native.Mathlib.Omega.{arith}
 use lib.Dec.{T, ltb, leb, eqb, leb→le, ltb→lt, eqb→eq}
 use lib.ListN.{length}
 use Rattle.queue_model.specs.Logic.{all-true, implies, if_then_else_, is-some}
-use Rattle.queue_model.specs.Table.{put}
-use Rattle.queue_model.specs.Types.{Item, Counters, Stream, Scheduler, Options, Queue, expired, remaining, with-items}
-use Rattle.queue_model.specs.Streams.{put-stream, new-stream, amounts, stream-key, at}
+use Rattle.queue_model.specs.Types.{Item, Counters, Stream, Scheduler, Options, Queue, expired}
+use Rattle.queue_model.specs.Streams.{put-stream, new-stream, amounts, stream-key, at, with-message}
 use Rattle.queue_model.specs.Refusals.{max-payload}
 use Rattle.queue_model.specs.Bytes.{Fits}
 use Rattle.queue_model.specs.Image.{StreamRecord, MessageRecord, Handover, StreamsFit, MessagesFit, stream-widths, message-widths, stream-row, message-row, plain, stream-record, stream-records, bit, ms-left-at, message-record, message-records, handover}
 use Rattle.queue_model.specs.Reader.{has-flag, message-right, messages-right-after, messages-right, streams-right, handover-right}
 use Rattle.queue_model.specs.Restore.{restored-stream, give, restored-item, restore-streams, restore-message, restore-messages, restored}
 use Rattle.queue_model.proofs.Tests.{less, same, more, tri, ltb-false, eqb-true}
-use Rattle.queue_model.proofs.Table.{find-there, find-here, find-after, put-later, put-here, put-before, put-end, After, Rising, after-down, first}
+use Rattle.queue_model.proofs.Table.{find-there, find-here, find-after, put-later, put-here, put-before, put-end, After, Rising, after-down}
 use Rattle.queue_model.proofs.Streams.{at-found, at-new, at-id, unsent-snoc}
 use Rattle.queue_model.proofs.Image.ByteRows.{and-l, and-r}
 use Rattle.queue_model.proofs.Calm.Calm.{GoodItem, GoodItems, GoodStream, Good, good-put, calm-scheduler, calm}
@@ -257,7 +256,7 @@ good-snoc (j ∷ is) i g h = (g .0, good-snoc is i (g .1) h)
 
 -- The stream of a message with it at its end.
 abbrev pub with-restored : Options → ℕ → MessageRecord → List Stream → Stream
-with-restored o now r ss = with-items (at o ss (r .id)) ((at o ss (r .id)) .amount + remaining (restored-item now r)) ((at o ss (r .id)) .items ++ (restored-item now r ∷ []))
+with-restored o now r ss = with-message (at o ss (r .id)) (restored-item now r)
 
 pub restore-message-of : (o : Options) (now : ℕ) (r : MessageRecord) (ss : List Stream) → restore-message o now r ss ≡ put-stream (with-restored o now r ss) ss
 unfolding restore-message

@@ -13,7 +13,6 @@ use Rattle.queue_model.specs.Logic.{only-if, and-then}
 use Rattle.queue_model.specs.Bytes.{row-bytes, bytes-row, width, Fits}
 use Rattle.queue_model.specs.Image.{StreamRecord, MessageRecord, Handover, StreamsFit, MessagesFit, HandoverFits, stream-widths, message-widths, trailer-widths, stream-row, message-row, trailer-row, stream-bytes, message-bytes, streams-bytes, messages-bytes, image-bytes}
 use Rattle.queue_model.specs.Reader.{stream-of-row, message-of-row, read-streams, read-messages, only-right, handover-right, trailer-right, read-parts, read-image}
-use Rattle.queue_model.proofs.Table.{first}
 use Rattle.queue_model.proofs.Image.ByteRows.{and-l, and-r, and-intro, take-bytes, drop-bytes, row-read-written, row-written-read, length-row-bytes, row-fits}
 
 -- ---- the two combinators of the reader

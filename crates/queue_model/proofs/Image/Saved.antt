@@ -23,17 +23,17 @@ use Rattle.queue_model.proofs.Demand3.Restored.{message-records-cons, m
 
 -- ---- the flags
 
-flags : Bool → Bool → Bool → ℕ
+unfoldable pub flags : Bool → Bool → Bool → ℕ
 flags u g l = bit u 1 + bit g 2 + bit l 4
 
 -- What is read from the sum is what went into it.
-record FlagsRead (u g l : Bool) : Type 0 where
-  reads-unordered : has-flag 1 (flags u g l) ≡ u
-  reads-mid : has-flag 2 (flags u g l) ≡ g
-  reads-lifetime : has-flag 4 (flags u g l) ≡ l
-  small : flags u g l ≤ 7
+pub record FlagsRead (u g l : Bool) : Type 0 where
+  pub reads-unordered : has-flag 1 (flags u g l) ≡ u
+  pub reads-mid : has-flag 2 (flags u g l) ≡ g
+  pub reads-lifetime : has-flag 4 (flags u g l) ≡ l
+  pub small : flags u g l ≤ 7
 
-flags-read : (u g l : Bool) → FlagsRead u g l
+pub flags-read : (u g l : Bool) → FlagsRead u g l
 unfolding flags bit has-flag
 flags-read true true true = record { reads-unordered = refl; reads-mid = refl; reads-lifetime = refl; small = omega arith }
 flags-read true true false = record { reads-unordered = refl; reads-mid = refl; reads-lifetime = refl; small = omega arith }

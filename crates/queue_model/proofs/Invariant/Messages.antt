@@ -13,7 +13,7 @@ use Rattle.queue_model.specs.Streams.{waiting, occupied, stream-key}
 use Rattle.queue_model.specs.Refusals.{max-payload}
 use Rattle.queue_model.specs.Bytes.{Fits}
 use Rattle.queue_model.specs.Image.{stream-widths, stream-row, stream-record}
-use Rattle.queue_model.proofs.Table.{Rising, first, Every}
+use Rattle.queue_model.proofs.Table.{Rising, Every}
 
 -- A waiting message as the calls leave it.
 pub record WellItem (i : Item) : Type 0 where

@@ -1,0 +1,3 @@
+pub mod Rust
+pub mod Images
+pub mod Bytes
