@@ -1,8 +1,8 @@
 -- The scheduler's choice: the least entry, by the order of finish times and ids; it depends on which entries there are and not on how they are looked at. Assumes nothing.
 use mathlib.Core.Path.{_≡_, refl, sym, ap, ap₂, _∙_, subst}
-use mathlib.Core.Bool.{Bool, true, false, _&&_, _||_}
+use mathlib.Core.Bool.{Bool, _&&_, _||_}
 use mathlib.Core.List.{List, [], _∷_}
-use mathlib.Core.Option.{Option, none, some}
+use mathlib.Core.Option.{none, some}
 use Prim.Native.Nat.{ℕ, _≤_, _<_}
 use native.Mathlib.Omega.{arith}
 use lib.Dec.{ltb, eqb}
@@ -19,10 +19,10 @@ pub data AtMost (a b : Active) : Type 0 where
   sooner : a .finish < b .finish → AtMost a b
   level : a .finish ≡ b .finish → a .stream-id ≤ b .stream-id → AtMost a b
 
-at-most-refl : (a : Active) → AtMost a a
+pub at-most-refl : (a : Active) → AtMost a a
 at-most-refl a = level refl (omega arith)
 
-at-most-trans : (a b c : Active) → AtMost a b → AtMost b c → AtMost a c
+pub at-most-trans : (a b c : Active) → AtMost a b → AtMost b c → AtMost a c
 at-most-trans a b c (sooner x) (sooner y) = sooner (omega arith)
 at-most-trans a b c (sooner x) (level y z) = sooner (omega arith)
 at-most-trans a b c (level x w) (sooner y) = sooner (omega arith)

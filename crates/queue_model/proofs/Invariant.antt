@@ -5,3 +5,4 @@ pub mod Fine
 pub mod Sends
 pub mod Accepted
 pub mod Sixteen
+pub mod Events

@@ -1,8 +1,8 @@
 -- What a whole-queue reset puts back: amounts stay within what is occupied, so none passes 2^64 - 1. Assumes nothing.
 use mathlib.Core.Path.{_≡_, refl, ap₂}
-use mathlib.Core.Bool.{Bool, true, false, _||_}
+use mathlib.Core.Bool.{false, _||_}
 use mathlib.Core.List.{List, [], _∷_, map}
-use Prim.Native.Nat.{ℕ, _+_, _≤_}
+use Prim.Native.Nat.{_+_, _≤_}
 use native.Mathlib.Omega.{arith}
 use Rattle.queue_model.specs.Logic.{any}
 use Rattle.queue_model.specs.Types.{Item, Stream}

@@ -1,11 +1,11 @@
 -- The laws of tables (specs/Table): finding after putting and after taking out, rows in ascending order, sums; and that what is found tells the table. Assumes nothing.
 use mathlib.Core.Path.{_≡_, refl, sym, ap, ap₂, _∙_, subst}
-use mathlib.Core.Bool.{Bool, true, false}
+use mathlib.Core.Bool.{Bool}
 use mathlib.Core.List.{List, [], _∷_, map}
 use mathlib.Core.Option.{Option, none, some}
 use Prim.Native.Nat.{ℕ, suc, _+_, _≤_, _<_}
 use native.Mathlib.Omega.{arith}
-use lib.Dec.{ltb, eqb}
+use lib.Dec.{eqb}
 use lib.ListN.{length}
 use Rattle.queue_model.specs.Logic.{if_then_else_}
 use Rattle.queue_model.specs.Table.{find, put, without, sum-by}

@@ -1,6 +1,6 @@
 -- Amounts that fall, and the events that this fires. Document 01, "Amounts and events". Assumes nothing.
 use Prim.Native.Nat.{ℕ, zero, suc, _-_}
-use mathlib.Core.Bool.{Bool, true, false, _&&_}
+use mathlib.Core.Bool.{_&&_}
 use mathlib.Core.List.{List, [], _∷_, _++_}
 use lib.Dec.{ltb, leb}
 use Rattle.queue_model.specs.Logic.{if_then_else_}

@@ -6,6 +6,6 @@ unfoldable pub use Rattle.queue_model.specs.Add.{add}
 unfoldable pub use Rattle.queue_model.specs.Produce.{produce}
 unfoldable pub use Rattle.queue_model.specs.Discard.{discard}
 unfoldable pub use Rattle.queue_model.specs.Close.{close}
-unfoldable pub use Rattle.queue_model.specs.Reset.{ready-ids, reopen, reset}
+unfoldable pub use Rattle.queue_model.specs.Reset.{ready-ids, commit, rollback, reset}
 unfoldable pub use Rattle.queue_model.specs.Settings.{set-threshold, set-priority, set-interleaving}
 unfoldable pub use Rattle.queue_model.specs.Questions.{priority-of, amount-of, threshold-of, is-empty, has-data, streams-ready, readiness}

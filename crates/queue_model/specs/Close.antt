@@ -1,13 +1,13 @@
 -- Closing a stream (Rust: prepare_reset_stream). Document 01, "Closing and restarting streams". Assumes nothing.
 use Prim.Native.Nat.{ℕ, _-_}
-use mathlib.Core.Bool.{Bool, true, false}
+use mathlib.Core.Bool.{Bool}
 use mathlib.Core.List.{List, [], _∷_, _++_}
 use lib.Dec.{eqb}
 use Rattle.queue_model.specs.Logic.{if_then_else_}
 use Rattle.queue_model.specs.Table.{find, put, sum-by}
 use Rattle.queue_model.specs.Types.{Item, PauseState, not-paused, pending, paused, resetting, Stream, Scheduler, Options, Queue, Event, done, Step, reply, remaining, with-items, with-pause, with-state}
-use Rattle.queue_model.specs.Scheduler.{set-bytes-remaining}
-use Rattle.queue_model.specs.Streams.{put-stream, stream-at, too-many, know, has-items, weight-of}
+use Rattle.queue_model.specs.Scheduler.{remove-stream}
+use Rattle.queue_model.specs.Streams.{put-stream, stream-at, too-many, has-items}
 use Rattle.queue_model.specs.Refusals.{Check, _when_, checked, places-few, streams-full, short-of}
 use Rattle.queue_model.specs.Amounts.{total-falls, stream-falls, lifecycle-events}
 
@@ -49,27 +49,27 @@ closed-state [] = paused
 closed-state (i ∷ is) = pending
 
 -- "closing to paused ends that", its waiting; a stream without messages did not wait.
-unfoldable pub closed-scheduler : Bool → Stream → List Item → Scheduler → Scheduler
-unfolding has-items set-bytes-remaining weight-of
-closed-scheduler il s [] sc = if has-items s then set-bytes-remaining (s .id) 0 (weight-of il s) sc else sc
-closed-scheduler il s (i ∷ is) sc = sc
+unfoldable pub closed-scheduler : Stream → List Item → Scheduler → Scheduler
+unfolding has-items remove-stream
+closed-scheduler s [] sc = if has-items s then remove-stream (s .id) sc else sc
+closed-scheduler s (i ∷ is) sc = sc
 
--- An open stream closed.
+-- An open stream closed. One that is not known is new, so open: it becomes known and paused.
 unfoldable pub closed : Queue → Stream → Step
 unfolding kept dropped-bytes sweep-events closed-state closed-scheduler put
 closed q s =
     let left = kept (s .items) in
     let n = swept-bytes (s .items) in
     reply done (sweep-events (q .options) s (s .items) (q .total) (s .amount))
-    (with-state q (q .total - n) (put-stream (with-pause (closed-state left) (with-items s (s .amount - n) left)) (q .streams)) (closed-scheduler (q .interleaving) s left (q .scheduler)))
+    (with-state q (q .total - n) (put-stream (with-pause (closed-state left) (with-items s (s .amount - n) left)) (q .streams)) (closed-scheduler s left (q .scheduler)))
 
--- "Closing changes nothing unless the stream is open"; an unknown stream is made known first.
+-- "Closing changes nothing unless the stream is open".
 unfoldable pub close-in : PauseState → Queue → Stream → Step
-unfolding closed put
+unfolding closed
 close-in not-paused q s = closed q s
-close-in pending q s = reply done [] (know q s)
-close-in paused q s = reply done [] (know q s)
-close-in resetting q s = reply done [] (know q s)
+close-in pending q s = reply done [] q
+close-in paused q s = reply done [] q
+close-in resetting q s = reply done [] q
 
 -- The bytes that closing a stream in a state drops.
 unfoldable pub closing-bytes : PauseState → List Item → ℕ

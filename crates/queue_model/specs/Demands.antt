@@ -1,9 +1,9 @@
 -- The demands on images, as types over the model: demand 3 whole, and demand 2's sentence on saved images. Assumes nothing.
 use mathlib.Core.Path.{_≡_}
 use mathlib.Core.Logic.{_↔_}
-use mathlib.Core.Bool.{Bool, true, false, not, _&&_}
-use mathlib.Core.List.{List, [], _∷_, map}
-use mathlib.Core.Option.{Option, none, some, Option·getD}
+use mathlib.Core.Bool.{Bool, not, _&&_}
+use mathlib.Core.List.{List, [], _∷_}
+use mathlib.Core.Option.{none, Option·getD}
 use Prim.Native.Nat.{ℕ, _≤_, _<_, _^_}
 use lib.Dec.{T, eqb}
 use lib.Pow.{areBytes}
@@ -55,7 +55,7 @@ AllTyped (c ∷ cs) = Typed c × AllTyped cs
 
 -- ------------------------------------------------------------------ queues
 
--- Creation arguments that have their widths and are not refused.
+-- Creation arguments that have their widths and are not refused (so `create o` is `new (new-queue o)`).
 pub record Created (o : Options) : Type 0 where
   pub accepted : create-refusal o ≡ none
   pub default-priority : o .default-priority < 2 ^ 16
@@ -95,7 +95,8 @@ Demand3 =
 
 -- ------------------------------------------------------------------ demand 2 on images
 
--- "a stream with zero counters and the trailer's default priority has none, and without messages it is not known after restoring".
+-- "a stream with zero counters and the trailer's default priority has none, and without messages it is not known after restoring". Said again here, without the image's
+-- `plain`: what demand 2 compares with shall rest on no definition of the image.
 unfoldable pub nothing-to-restore : ℕ → Stream → Bool
 unfolding has-items
 nothing-to-restore d s = (eqb (s .counters .next-ssn) 0 && eqb (s .counters .next-unordered-mid) 0 && eqb (s .counters .next-ordered-mid) 0 && eqb (s .priority) d) && not (has-items s)

@@ -1,24 +1,23 @@
 -- Discarding a message (Rust: discard). Assumes nothing.
 use Prim.Native.Nat.{ℕ, _-_}
-use mathlib.Core.Bool.{Bool, true, false}
 use mathlib.Core.List.{List, [], _∷_}
 use lib.Dec.{eqb}
 use Rattle.queue_model.specs.Logic.{if_then_else_}
 use Rattle.queue_model.specs.Table.{find, put}
 use Rattle.queue_model.specs.Types.{Item, PauseState, not-paused, pending, paused, resetting, Stream, Queue, done, Step, refuse, reply, remaining, with-items, with-pause, with-state}
-use Rattle.queue_model.specs.Scheduler.{set-bytes-remaining}
-use Rattle.queue_model.specs.Streams.{find-stream, put-stream, weight-of}
+use Rattle.queue_model.specs.Scheduler.{remove-stream}
+use Rattle.queue_model.specs.Streams.{find-stream, put-stream}
 use Rattle.queue_model.specs.Refusals.{Check, checked, places-few, short-of}
 use Rattle.queue_model.specs.Amounts.{drop-head-events}
 use Rattle.queue_model.specs.Produce.{Head, no-head, head, head-of, drop-head}
 
--- "When a pending stream's message ends or is discarded, it is paused", and stops waiting. In any other state the stream waits with what is behind ("a discard schedules
+-- "When a pending stream's message ends or is discarded, it is paused", and stops waiting. In any other state the stream waits with what is behind ("or a discard, schedules
 -- a paused stream").
 unfoldable pub discard-in : PauseState → Queue → Stream → Item → List Item → Queue
-unfolding drop-head put set-bytes-remaining weight-of
+unfolding drop-head put remove-stream
 discard-in not-paused q s i is = drop-head q s i is
 discard-in pending q s i is =
-    with-state q (q .total - remaining i) (put-stream (with-pause paused (with-items s (s .amount - remaining i) is)) (q .streams)) (set-bytes-remaining (s .id) 0 (weight-of (q .interleaving) s) (q .scheduler))
+    with-state q (q .total - remaining i) (put-stream (with-pause paused (with-items s (s .amount - remaining i) is)) (q .streams)) (remove-stream (s .id) (q .scheduler))
 discard-in paused q s i is = drop-head q s i is
 discard-in resetting q s i is = drop-head q s i is
 

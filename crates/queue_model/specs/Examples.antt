@@ -1,19 +1,17 @@
 -- Document 01's examples marked P: one table, and one theorem that antt computes. Assumes nothing.
-use mathlib.Core.Path.{_≡_, refl, ap, _∙_}
+use mathlib.Core.Path.{_≡_, refl}
 use mathlib.Core.Bool.{Bool, true, false}
 use mathlib.Core.List.{List, [], _∷_, _++_, map}
 use mathlib.Core.Option.{Option, none, some}
-use Prim.Native.Nat.{ℕ, suc, _-_, _%_, _^_, _<_}
-use native.Mathlib.Nat.{mod-self, mod-eq-of-lt}
-use lib.Pow.{suc-ones}
+use Prim.Native.Nat.{ℕ}
 use lib.ListN.{length, replicate}
-use Rattle.queue_model.specs.Types.{Weight, weighted, Queue, Event, Answer, refused, done, number, flag, ids, fragment, nothing-waits, Outcome}
+use Rattle.queue_model.specs.Types.{Item, Counters, weighted, Queue, Event, Answer, refused, done, number, flag, ids, fragment, nothing-waits, Outcome}
 use Rattle.queue_model.specs.Scheduler.{cost}
 use Rattle.queue_model.specs.Streams.{new-queue}
-use Rattle.queue_model.specs.Add.{expiry}
+use Rattle.queue_model.specs.Add.{expiry, new-item}
+use Rattle.queue_model.specs.Produce.{give-numbers}
 use Rattle.queue_model.specs.Image.{bit, ms-left-at, write-image}
 use Rattle.queue_model.specs.Run.{Call, add, produce, reset, set-threshold, set-priority, set-interleaving, ask-amount, run, after}
-use Rattle.types.specs.Wrap.{wrap-suc}
 
 -- The queue of the examples: payload limit 1,000, default priority 256, thresholds 0.
 queue : Queue
@@ -27,7 +25,7 @@ put s n now l = add 100000 now (record { stream-id = s; ppid = 0; unordered = fa
 get : ℕ → ℕ → Call
 get now n = produce 100000 2305 262144 now n
 
--- What an answer shows: a fragment its stream, length, first mark and FSN; a number itself.
+-- What an answer shows: a fragment its stream, length, first and last mark, MID, SSN and FSN; a number itself; 888 that nothing waits, 999 a refusal.
 show-answer : Answer → List ℕ
 unfolding bit
 show-answer (refused n) = 999 ∷ n ∷ []
@@ -35,8 +33,8 @@ show-answer done = []
 show-answer (number n) = n ∷ []
 show-answer (flag b) = bit b 1 ∷ []
 show-answer (ids l) = l
-show-answer (fragment f) = f .stream-id ∷ length (f .bytes) ∷ bit (f .first) 1 ∷ f .fsn ∷ []
-show-answer nothing-waits = 0 ∷ []
+show-answer (fragment f) = f .stream-id ∷ length (f .bytes) ∷ bit (f .first) 1 ∷ bit (f .last) 1 ∷ f .mid ∷ f .ssn ∷ f .fsn ∷ []
+show-answer nothing-waits = 888 ∷ []
 
 answers : List Outcome → List ℕ
 unfolding show-answer
@@ -78,6 +76,21 @@ four : List Call
 unfolding get
 four = get 0 1000 ∷ get 0 1000 ∷ get 0 1000 ∷ get 0 1000 ∷ []
 
+-- The counters of a stream (next SSN, next unordered MID, next ordered MID) after one more message, unordered or ordered.
+after-message : Bool → ℕ → ℕ → ℕ → List ℕ
+unfolding give-numbers new-item
+after-message unordered s u o =
+    let i = new-item 0 0 (record { stream-id = 5; ppid = 0; unordered = unordered; max-retransmissions = none; lifetime = none; lifecycle-id = 0; payload = 7 ∷ [] }) in
+    let c = (give-numbers unordered (record { next-ssn = s; next-unordered-mid = u; next-ordered-mid = o }) i) .counters in
+    c .next-ssn ∷ c .next-unordered-mid ∷ c .next-ordered-mid ∷ []
+
+-- What the two fragments of a 1,500-byte message show: 1,000 bytes, first, FSN 0; then 500, last, FSN 1.
+begun : ℕ → List ℕ
+begun s = s ∷ 1000 ∷ 1 ∷ 0 ∷ 0 ∷ 0 ∷ 0 ∷ []
+
+ended : ℕ → List ℕ
+ended s = s ∷ 500 ∷ 0 ∷ 1 ∷ 0 ∷ 0 ∷ 1 ∷ []
+
 -- A row: what the definitions give, and what document 01 says.
 pub record Row : Type 0 where
   pub given : List ℕ
@@ -88,20 +101,20 @@ abbrev _gives_ : List ℕ → List ℕ → Row
 g gives s = record { given = g; said = s }
 
 pub table : List Row
-unfolding shows fires finishes two weights four put get cost ms-left-at expiry write-image queue
+unfolding shows fires finishes two weights four put get begun ended after-message cost ms-left-at expiry write-image queue
 table =
     -- Two 1,500-byte messages, on 5 then 3, without interleaving: 3, 3, 5, 5 as 1,000 and 500.
-    (shows (two ++ four) gives (3 ∷ 1000 ∷ 1 ∷ 0 ∷ 3 ∷ 500 ∷ 0 ∷ 1 ∷ 5 ∷ 1000 ∷ 1 ∷ 0 ∷ 5 ∷ 500 ∷ 0 ∷ 1 ∷ []))
+    (shows (two ++ four) gives (begun 3 ++ ended 3 ++ begun 5 ++ ended 5))
     -- With it, weights 512 on 5 and 256 on 3: 5, 5, 3, 3; finish times (of 3 and 5) 1,953,125, 2,929,687, then 3,906,250.
-    ∷ (shows (weights ++ four) gives (5 ∷ 1000 ∷ 1 ∷ 0 ∷ 5 ∷ 500 ∷ 0 ∷ 1 ∷ 3 ∷ 1000 ∷ 1 ∷ 0 ∷ 3 ∷ 500 ∷ 0 ∷ 1 ∷ []))
+    ∷ (shows (weights ++ four) gives (begun 5 ++ ended 5 ++ begun 3 ++ ended 3))
     ∷ (finishes weights gives (3906250 ∷ 1953125 ∷ []))
     ∷ (finishes (weights ++ (get 0 1000 ∷ [])) gives (3906250 ∷ 2929687 ∷ []))
     ∷ (finishes (weights ++ (get 0 1000 ∷ get 0 1000 ∷ [])) gives (3906250 ∷ []))
     -- Weight 0, 7 bytes: 7,000,000.
     ∷ ((cost (weighted 0) 7 ∷ []) gives (7000000 ∷ []))
     -- Lifetime 0 at 5,000,000 ns: sent at 5,999,999, expired at 6,000,000.
-    ∷ (shows (put 5 10 5000000 (some 0) ∷ get 5999999 10 ∷ []) gives (5 ∷ 10 ∷ 1 ∷ 0 ∷ []))
-    ∷ (shows (put 5 10 5000000 (some 0) ∷ get 6000000 10 ∷ []) gives (0 ∷ []))
+    ∷ (shows (put 5 10 5000000 (some 0) ∷ get 5999999 10 ∷ []) gives (5 ∷ 10 ∷ 1 ∷ 1 ∷ 0 ∷ 0 ∷ 0 ∷ []))
+    ∷ (shows (put 5 10 5000000 (some 0) ∷ get 6000000 10 ∷ ask-amount 5 ∷ []) gives (888 ∷ 0 ∷ []))
     -- Left at 5,500,000: 0 ms.
     ∷ ((ms-left-at 5500000 (expiry 5000000 (some 0)) ∷ []) gives (0 ∷ []))
     -- Amount 10, threshold 4, 6 sent: fires. Threshold 4 raised to 10 at amount 10: fires; 10 to 12: silent.
@@ -109,9 +122,12 @@ table =
     ∷ (fires (set-threshold 2305 5 4 ∷ put 5 10 0 none ∷ set-threshold 2305 5 10 ∷ []) gives (1 ∷ 5 ∷ []))
     ∷ (fires (set-threshold 2305 5 10 ∷ put 5 10 0 none ∷ set-threshold 2305 5 12 ∷ []) gives [])
     -- After MID 4,294,967,295 comes 0. After SSN 65,535 comes 0.
-    ∷ ((wrap-suc 32 4294967295 ∷ wrap-suc 16 65535 ∷ []) gives (0 ∷ 0 ∷ []))
+    ∷ (after-message false 65534 4294967294 4294967294 gives (65535 ∷ 4294967294 ∷ 4294967295 ∷ []))
+    ∷ (after-message false 65535 4294967295 4294967295 gives (0 ∷ 4294967295 ∷ 0 ∷ []))
+    ∷ (after-message true 65534 4294967294 4294967294 gives (65534 ∷ 4294967295 ∷ 4294967294 ∷ []))
+    ∷ (after-message true 65535 4294967295 4294967295 gives (65535 ∷ 0 ∷ 4294967295 ∷ []))
     -- First message of a stream, 1,500 bytes, 1,000 sent, reset: amount 1,500, next fragment first, FSN 1.
-    ∷ (shows (put 5 1500 0 none ∷ get 0 1000 ∷ reset ∷ ask-amount 5 ∷ get 0 1000 ∷ []) gives (5 ∷ 1000 ∷ 1 ∷ 0 ∷ 1500 ∷ 5 ∷ 1000 ∷ 1 ∷ 1 ∷ []))
+    ∷ (shows (put 5 1500 0 none ∷ get 0 1000 ∷ reset ∷ ask-amount 5 ∷ get 0 1000 ∷ []) gives (begun 5 ++ (1500 ∷ 5 ∷ 1000 ∷ 1 ∷ 0 ∷ 0 ∷ 0 ∷ 1 ∷ [])))
     -- New queue, default 256, image in hexadecimal: 00000000 0100 0000 0000 0001 00000000 00000000.
     ∷ (write-image 1 queue gives (0 ∷ 0 ∷ 0 ∷ 0 ∷ 1 ∷ 0 ∷ 0 ∷ 0 ∷ 0 ∷ 0 ∷ 0 ∷ 1 ∷ 0 ∷ 0 ∷ 0 ∷ 0 ∷ 0 ∷ 0 ∷ 0 ∷ 0 ∷ []))
     ∷ []

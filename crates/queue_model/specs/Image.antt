@@ -3,7 +3,7 @@ use Prim.Native.Nat.{ℕ, _+_, _-_, _/_, min}
 use mathlib.Core.Bool.{Bool, true, false, _&&_}
 use mathlib.Core.List.{List, [], _∷_, _++_, map}
 use mathlib.Core.Option.{Option, none, some, Option·getD}
-use lib.Dec.{eqb, ltb}
+use lib.Dec.{eqb}
 use lib.ListN.{length}
 use Rattle.queue_model.specs.Logic.{if_then_else_, is-some}
 use Rattle.queue_model.specs.Types.{Item, Stream, Queue}
@@ -169,7 +169,21 @@ write-image now q = image-bytes (handover now q)
 abbrev pub save-checks : ℕ → ℕ → ℕ → Queue → List Check
 save-checks store room now q = store-other store q ∷ time-late now ∷ image-long room (length (write-image now q)) ∷ []
 
--- Saving's refusal; else it writes the image. Saving changes nothing in the queue; the store and the image buffer are lent.
+-- Saving's refusal.
 unfoldable pub save-refusal : ℕ → ℕ → ℕ → Queue → Option ℕ
 unfolding first-refusal write-image
 save-refusal store room now q = first-refusal (save-checks store room now q)
+
+-- What saving gives: a refusal's number, or the image, which it writes to the lent buffer. The queue stays as it is.
+pub data Saving : Type 0 where
+  not-saved : ℕ → Saving
+  saved-as : List ℕ → Saving
+
+unfoldable pub saving-or : Option ℕ → List ℕ → Saving
+saving-or none bs = saved-as bs
+saving-or (some n) bs = not-saved n
+
+-- Save a queue at a time; the store and the image buffer are lent (Rust: add_to_handover_state, then the writer of the image).
+unfoldable pub save : ℕ → ℕ → ℕ → Queue → Saving
+unfolding save-refusal saving-or
+save store room now q = saving-or (save-refusal store room now q) (write-image now q)

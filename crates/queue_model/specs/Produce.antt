@@ -11,7 +11,7 @@ use Rattle.queue_model.specs.Table.{find, put}
 use Rattle.queue_model.specs.Types.{Item, PauseState, not-paused, pending, paused, resetting, Counters, Stream, Active, Queue, Event, Fragment, fragment, nothing-waits, Step, refuse, reply, remaining, expired, with-items, with-pause, with-counters, with-numbers, with-state}
 use Rattle.queue_model.specs.Scheduler.{set-bytes-remaining, peek, accept}
 use Rattle.queue_model.specs.Streams.{find-stream, put-stream, waiting, head-size, weight-of, reschedule}
-use Rattle.queue_model.specs.Refusals.{Check, checked, store-other, places-few, time-late, size-wrong, buffer-short, short-of}
+use Rattle.queue_model.specs.Refusals.{Check, checked, store-other, places-few, time-late, size-wrong, buffer-short, short-of, short-of-head}
 use Rattle.queue_model.specs.Amounts.{sent-events, drop-head-events}
 
 -- ------------------------------------------------------------------ the head of a stream
@@ -157,13 +157,13 @@ unfoldable pub handed-out : Queue → Active → Stream → Item → List Item �
 unfolding handed-out-last handed-out-part
 handed-out q a s i is n = if eqb n (remaining i) then handed-out-last q a s i is n else handed-out-part q a s i is n
 
--- Hand out at most `size` bytes of the chosen message, after the events `es` of the drops before it. None: an amount would fall below 0.
+-- Hand out at most `size` bytes of the chosen message, after the events `es` of the drops before it. None: an amount, or what remains of the message, would fall below 0.
 unfoldable pub hand-out : ℕ → Queue → List Event → Active → Stream → Item → List Item → Option Step
-unfolding short-of make-fragment numbered sent-events handed-out
+unfolding short-of-head make-fragment numbered sent-events handed-out
 hand-out size q es a s i is =
     let n = min (a .bytes-remaining) size in
-    let done = reply (fragment (make-fragment s ((numbered (s .counters) i) .item) n)) (es ++ sent-events q s n) (handed-out q a s i is n) in
-    if short-of q s n then none else some done
+    let sent = reply (fragment (make-fragment s ((numbered (s .counters) i) .item) n)) (es ++ sent-events q s n) (handed-out q a s i is n) in
+    if short-of-head q s i n then none else some sent
 
 -- ------------------------------------------------------------------ passing over expired heads
 

@@ -1,7 +1,6 @@
 -- "The questions are the calls that only ask". They change nothing. Assumes nothing.
 use Prim.Native.Nat.{ℕ}
-use mathlib.Core.Bool.{Bool, true, false, not, _&&_}
-use mathlib.Core.List.{List, [], _∷_}
+use mathlib.Core.Bool.{Bool, not, _&&_}
 use lib.Dec.{eqb, ltb}
 use Rattle.queue_model.specs.Logic.{if_then_else_, is-some, any}
 use Rattle.queue_model.specs.Table.{find}

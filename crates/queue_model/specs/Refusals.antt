@@ -1,14 +1,14 @@
 -- Document 01's list of refusals: "Refused, in checking order; the first that applies is given, and none otherwise". Assumes nothing.
--- (13 stands with the reader of images, 14 and 15 with restoring. That "a place kept in the state lies outside its table", part of 16, has no place here: the model has no places.)
-use Prim.Native.Nat.{ℕ, suc, _+_, _*_}
-use mathlib.Core.Bool.{Bool, true, false, not, _||_}
+-- (13 stands with the reader of images, 14 and 15 with restoring; 16 is judged where an amount falls or rises, in Add, Produce, Discard, Close and Reset, and where the
+-- scheduler's choice is looked at, in Produce. That "a place kept in the state lies outside its table", part of 16, is not said here: the model has no places.)
+use Prim.Native.Nat.{ℕ, _+_}
+use mathlib.Core.Bool.{Bool, not, _||_}
 use mathlib.Core.List.{List, [], _∷_}
 use mathlib.Core.Option.{Option, none, some}
 use lib.Dec.{eqb, ltb, leb}
-use lib.ListN.{length}
 use Rattle.queue_model.specs.Logic.{if_then_else_, outside, is-nil}
-use Rattle.queue_model.specs.Types.{Stream, Options, Queue, Step, refuse}
-use Rattle.queue_model.specs.Streams.{max-messages, too-many, waiting, free-bytes}
+use Rattle.queue_model.specs.Types.{Item, Stream, Options, Queue, Step, refuse, remaining}
+use Rattle.queue_model.specs.Streams.{max-messages, too-many, waiting, free-bytes, new-queue}
 
 -- ------------------------------------------------------------------ lists of checks
 
@@ -45,9 +45,11 @@ max-time = 4611686018427387903
 abbrev pub max-payload : ℕ
 max-payload = 262144
 
+-- The places that the event list must have.
 abbrev pub event-places : ℕ
 event-places = 2305
 
+-- 2^64 - 1.
 abbrev pub max-word : ℕ
 max-word = 18446744073709551615
 
@@ -108,13 +110,31 @@ queue-used q = 12 when not (is-nil (q .streams)) || not (eqb (q .next-message-id
 unfoldable pub short-of : Queue → Stream → ℕ → Bool
 short-of q s n = ltb (q .total) n || ltb (s .amount) n
 
+-- The same of a message's own rest: whether n bytes can leave the head of a stream.
+unfoldable pub short-of-head : Queue → Stream → Item → ℕ → Bool
+unfolding short-of
+short-of-head q s i n = short-of q s n || ltb (remaining i) n
+
 -- 16. "or pass 2^64 - 1": whether n bytes more are too many for the total or a stream's amount.
 unfoldable pub overflows : Queue → Stream → ℕ → Bool
 overflows q s n = ltb max-word (q .total + n) || ltb max-word (s .amount + n)
 
 -- ------------------------------------------------------------------ creation
 
--- Creation's refusal: 1 or 2. (The new queue is `new-queue`.)
+-- Creation's refusal.
 unfoldable pub create-refusal : Options → Option ℕ
 unfolding first-refusal
 create-refusal o = first-refusal (limit-wrong (o .payload-limit) ∷ store-wrong (o .store-length) ∷ [])
+
+-- What creation gives: a refusal's number, or the new queue (Rust: SendQueue::new).
+pub data Creation : Type 0 where
+  not-created : ℕ → Creation
+  new : Queue → Creation
+
+unfoldable pub creation-or : Option ℕ → Queue → Creation
+creation-or none q = new q
+creation-or (some n) q = not-created n
+
+unfoldable pub create : Options → Creation
+unfolding create-refusal creation-or
+create o = creation-or (create-refusal o) (new-queue o)

@@ -45,12 +45,20 @@ unfoldable pub reopened : Bool → Stream → Stream
 unfolding is-resetting opened
 reopened zeroed s = if is-resetting s then opened zeroed s else s
 
--- "both let a stream with messages wait" (Rust: commit_reset_streams with `true`, rollback_reset_streams with `false`).
+-- "both let a stream with messages wait" (Rust: commit_reset_streams, rollback_reset_streams).
 unfoldable pub reopen : Bool → Queue → Step
 unfolding reopened reschedule-each is-resetting has-items
 reopen zeroed q =
     reply done [] (with-state q (q .total) (map (reopened zeroed) (q .streams))
     (reschedule-each (q .interleaving) (λ s. is-resetting s && has-items s) (q .streams) (q .scheduler)))
+
+unfoldable pub commit : Queue → Step
+unfolding reopen
+commit q = reopen true q
+
+unfoldable pub rollback : Queue → Step
+unfolding reopen
+rollback q = reopen false q
 
 -- ------------------------------------------------------------------ the whole-queue reset
 

@@ -1,6 +1,6 @@
 -- The calls that demand 3 lists, one step of the queue, and what lists of calls show. Assumes nothing.
 use Prim.Native.Nat.{ℕ}
-use mathlib.Core.Bool.{Bool, true, false}
+use mathlib.Core.Bool.{Bool}
 use mathlib.Core.List.{List, [], _∷_}
 use Rattle.queue_model.specs.Types.{Queue, Message, number, flag, Outcome, Step, reply}
 use Rattle.queue_model.specs.Calls
@@ -22,14 +22,14 @@ pub data Call : Type 0 where
 
 -- One call.
 unfoldable pub step : Call → Queue → Step
-unfolding Calls.add Calls.produce Calls.discard Calls.close Calls.ready-ids Calls.reopen Calls.reset Calls.set-threshold Calls.set-priority Calls.set-interleaving Restore.restore Calls.priority-of Calls.amount-of Calls.threshold-of Calls.is-empty Calls.has-data Calls.streams-ready Calls.readiness
+unfolding Calls.add Calls.produce Calls.discard Calls.close Calls.ready-ids Calls.commit Calls.rollback Calls.reset Calls.set-threshold Calls.set-priority Calls.set-interleaving Restore.restore Calls.priority-of Calls.amount-of Calls.threshold-of Calls.is-empty Calls.has-data Calls.streams-ready Calls.readiness
 step (add store now m) q = Calls.add store now m q
 step (produce store places buffer now size) q = Calls.produce store places buffer now size q
 step (discard places s k) q = Calls.discard places s k q
 step (close places s) q = Calls.close places s q
 step ready-ids q = Calls.ready-ids q
-step commit q = Calls.reopen true q
-step rollback q = Calls.reopen false q
+step commit q = Calls.commit q
+step rollback q = Calls.rollback q
 step reset q = Calls.reset q
 step (set-threshold places s t) q = Calls.set-threshold places s t q
 step (set-priority s p) q = Calls.set-priority s p q

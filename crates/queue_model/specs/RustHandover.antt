@@ -1,9 +1,11 @@
 -- The Rust's own handover record (api/handover.rs: streams and queued messages only) and what the Rust restores from it (tx/send_queue.rs: add_to_handover_state and
--- restore_from_state). Nothing here is made of the image's definitions: demand 2 compares the two. Assumes nothing.
+-- restore_from_state). Nothing here is made of the image's definitions: demand 2 compares the two. (Numbers are natural here: the Rust's `ms.max(0)` and its casts to u32 do
+-- nothing to the numbers of a record that was saved.) Assumes nothing.
 use Prim.Native.Nat.{ℕ, _+_, _-_, _*_, _/_, min}
 use mathlib.Core.Bool.{Bool, true, false}
 use mathlib.Core.List.{List, [], _∷_, _++_, map}
 use mathlib.Core.Option.{Option, none, some, Option·getD}
+use lib.ListN.{length}
 use Rattle.queue_model.specs.Table.{find, put}
 use Rattle.queue_model.specs.Types.{Item, not-paused, Counters, Stream, Options, Queue}
 use Rattle.queue_model.specs.Streams.{put-stream, at, with-message, amounts, has-items, reschedule-each}
@@ -112,7 +114,7 @@ item-from now r =
       expires-at = expires-from now (r .expires-in-ms);
       lifecycle-id = r .lifecycle-id;
       payload = r .payload;
-      offset = r .remaining-offset;
+      offset = min (r .remaining-offset) (length (r .payload));
       mid = r .mid;
       ssn = Option·getD (r .ssn) 0;
       fsn = r .fsn;

@@ -1,6 +1,6 @@
 -- Setting a stream's threshold, a stream's priority, and interleaving. Assumes nothing.
 use Prim.Native.Nat.{ℕ}
-use mathlib.Core.Bool.{Bool, true, false, _&&_}
+use mathlib.Core.Bool.{Bool, true, _&&_}
 use mathlib.Core.List.{List, [], _∷_}
 use lib.Dec.{ltb, leb}
 use Rattle.queue_model.specs.Logic.{if_then_else_, same-bool}

@@ -2,7 +2,7 @@
 use Prim.Native.Nat.{ℕ, _+_, _-_}
 use mathlib.Core.Bool.{Bool, true, false, not, _&&_}
 use mathlib.Core.List.{List, [], _∷_, _++_}
-use mathlib.Core.Option.{Option, none, some, Option·getD}
+use mathlib.Core.Option.{Option, Option·getD}
 use lib.Dec.{leb}
 use lib.ListN.{length}
 use Rattle.queue_model.specs.Logic.{if_then_else_, is-some}
@@ -99,7 +99,8 @@ unfoldable pub weight-of : Bool → Stream → Weight
 weight-of true s = weighted (s .priority)
 weight-of false s = round-robin
 
--- Let a stream wait with its first message, or end its waiting if it has none. "A weight is read when the stream begins to wait, and at a drop ...": here.
+-- Let a stream wait with its first message, or end its waiting if it has none. "A weight is read when the stream begins to wait, and at a drop ...": here, and after a last
+-- fragment (`handed-out-last`).
 unfoldable pub reschedule : Bool → Stream → Scheduler → Scheduler
 unfolding set-bytes-remaining head-size weight-of
 reschedule il s sc = set-bytes-remaining (s .id) (head-size (s .items)) (weight-of il s) sc

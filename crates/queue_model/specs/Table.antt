@@ -1,5 +1,4 @@
 -- Rows in ascending order of a number that tells them apart, their key. The known streams are such a table (by id), and so are the scheduler's entries (by stream id). Assumes nothing.
-use mathlib.Core.Bool.{Bool, true, false}
 use mathlib.Core.List.{List, [], _∷_}
 use mathlib.Core.Option.{Option, none, some}
 use Prim.Native.Nat.{ℕ, _+_}

@@ -1,25 +1,25 @@
 -- The account of request 11/13, first half, on the model: every call balances, so a stream's amount is what came in less what went out. Assumes nothing.
 use mathlib.Core.Path.{_≡_, refl, sym, ap, ap₂, _∙_, subst}
-use mathlib.Core.Bool.{Bool, true, false, not, _&&_, _||_}
+use mathlib.Core.Bool.{Bool, true, false, not}
 use mathlib.Core.List.{List, [], _∷_, _++_, map}
 use mathlib.Core.Option.{Option, none, some, Option·getD}
 use Prim.Native.Nat.{ℕ, zero, suc, _+_, _-_, _≤_, min}
 use native.Mathlib.Omega.{arith}
-use lib.Dec.{ltb, leb, eqb}
+use lib.Dec.{ltb, eqb}
 use lib.ListN.{length, take, drop, length-take, length-drop}
 use Rattle.types.specs.Wrap.{wrap-suc}
 use Rattle.queue_model.specs.Logic.{same-bool, is-nil, if_then_else_}
 use Rattle.queue_model.specs.Table.{find}
 use Rattle.queue_model.specs.Types.{Item, PauseState, not-paused, pending, paused, resetting, Stream, Active, Scheduler, Options, Queue, Event, Answer, refused, done, fragment, Step, remaining, expired, with-items, with-pause, with-threshold, with-priority, with-state, refuse, reply, Message}
-use Rattle.queue_model.specs.Scheduler.{peek, set-bytes-remaining}
-use Rattle.queue_model.specs.Streams.{find-stream, put-stream, new-stream, stream-at, waiting, head-size, know, new-queue, stream-key, has-items, reschedule-each, weight-of, at, with-message, reschedule}
-use Rattle.queue_model.specs.Refusals.{Check, first-refusal, short-of, refused-or, checked}
+use Rattle.queue_model.specs.Scheduler.{peek, remove-stream}
+use Rattle.queue_model.specs.Streams.{find-stream, put-stream, new-stream, stream-at, waiting, head-size, know, new-queue, stream-key, has-items, reschedule-each, at, with-message, reschedule}
+use Rattle.queue_model.specs.Refusals.{Check, first-refusal, short-of, refused-or, checked, short-of-head}
 use Rattle.queue_model.specs.Amounts.{drop-head-events, sent-events}
 use Rattle.queue_model.specs.Add.{added, add-checks, new-item, started}
 use Rattle.queue_model.specs.Produce.{Head, head-of, drop-head, Look, nothing, broken, dropped, chosen, look-at, look, numbered, handed-out-last, handed-out-part, handed-out, hand-out, pass-over, make-fragment, after-look, look-expired, look-for, produce-checks}
 use Rattle.queue_model.specs.Discard.{discard-in, discard-at, discard-checks, discarded}
 use Rattle.queue_model.specs.Close.{swept-bytes, closed, closing-bytes, close-checks, close-in, closed-scheduler, closed-state, kept}
-use Rattle.queue_model.specs.Reset.{paused-to-resetting, reopened, put-back, reset-stream, all-put-back, reset-checks}
+use Rattle.queue_model.specs.Reset.{reopen, paused-to-resetting, reopened, put-back, reset-stream, all-put-back, reset-checks}
 use Rattle.queue_model.specs.Settings.{priority-checks, raised-event, threshold-checks, switched}
 use Rattle.queue_model.specs.Questions.{amount-of}
 use Rattle.queue_model.specs.Image.{MessageRecord, StreamRecord, Handover}
@@ -160,7 +160,7 @@ module _ (q : Queue) (j k : ℕ) (s : Stream) (i : Item) (is : List Item) (h : H
   unfolding discard-in
   discard-amount not-paused l = drop-amount l
   discard-amount pending l =
-      lost q (q .interleaving) (q .total - remaining i) (q .next-message-id) (set-bytes-remaining (s .id) 0 (weight-of (q .interleaving) s) (q .scheduler)) s (with-pause paused (with-items s (s .amount - remaining i) is)) j k (remaining i) at-head head-is refl l
+      lost q (q .interleaving) (q .total - remaining i) (q .next-message-id) (remove-stream (s .id) (q .scheduler)) s (with-pause paused (with-items s (s .amount - remaining i) is)) j k (remaining i) at-head head-is refl l
   discard-amount paused l = drop-amount l
   discard-amount resetting l = drop-amount l
 
@@ -267,9 +267,13 @@ abbrev SendsMaybe : ℕ → Queue → ℕ → Option Step → Type 0
 SendsMaybe k q n none = Unit {0}
 SendsMaybe k q n (some s) = Sends k q n s
 
+head-long : (q : Queue) (s : Stream) (i : Item) (n : ℕ) → short-of-head q s i n ≡ false → short-of q s n ≡ false
+unfolding short-of-head
+head-long q s i n e = or-left (short-of q s n) (ltb (remaining i) n) e
+
 sends-hand-out : (k size : ℕ) (q : Queue) (es : List Event) (a : Active) (s : Stream) (i : Item) (is : List Item) → Well q → FineLook q (chosen a s i is) → SendsMaybe k q 0 (hand-out size q es a s i is)
 unfolding hand-out make-fragment
-sends-hand-out k size q es a s i is w v = go (short-of q s (min (a .bytes-remaining) size)) refl
+sends-hand-out k size q es a s i is w v = go (short-of-head q s i (min (a .bytes-remaining) size)) refl
   where
     n : ℕ
     n = min (a .bytes-remaining) size
@@ -277,10 +281,10 @@ sends-hand-out k size q es a s i is w v = go (short-of q s (min (a .bytes-remain
     j : Item
     j = (numbered (s .counters) i) .item
 
-    go : (b : Bool) → short-of q s (min (a .bytes-remaining) size) ≡ b → SendsMaybe k q 0 (if b then none else some (reply (fragment (make-fragment s j n)) (es ++ sent-events q s n) (handed-out q a s i is n)))
+    go : (b : Bool) → short-of-head q s i (min (a .bytes-remaining) size) ≡ b → SendsMaybe k q 0 (if b then none else some (reply (fragment (make-fragment s j n)) (es ++ sent-events q s n) (handed-out q a s i is n)))
     go true e = tt
     go false e =
-        let l = not-short-amount q s (min (a .bytes-remaining) size) e in
+        let l = not-short-amount q s (min (a .bytes-remaining) size) (head-long q s i (min (a .bytes-remaining) size) e) in
         let h = v .choice-head in let z = v .choice-size in
         let u = numbers-well (s .counters) i ((head-kept q (a .stream-id) s i is w h) .counters-fit) ((head-well q (a .stream-id) s i is w h) .0) in
         let x : length (j .payload) ≡ length (i .payload) = ap length (u .payload-same) in let y = u .offset-same in
@@ -340,11 +344,11 @@ module _ (q : Queue) (j k : ℕ) (s : Stream) (is-at : at (q .options) (q .strea
   unfolding closed
   closed-amount h =
       let n : ℕ = swept-bytes (s .items) in let l : List Item = kept (s .items) in let z = nothing-moves done in
-      let a = lost q (q .interleaving) (q .total - n) (q .next-message-id) (closed-scheduler (q .interleaving) s l (q .scheduler)) s (with-pause (closed-state l) (with-items s (s .amount - n) l)) j k n is-at close-id refl h in
+      let a = lost q (q .interleaving) (q .total - n) (q .next-message-id) (closed-scheduler s l (q .scheduler)) s (with-pause (closed-state l) (with-items s (s .amount - n) l)) j k n is-at close-id refl h in
       record { balance = omega arith }
 
-  known-balances : Balances k q (λ a. unless-refused a (for-stream k j 0)) none-moves (reply done [] (know q s))
-  known-balances = let a = know-amount q s j k close-id (ap (λ (x : Stream). x .amount) (sym is-at)) in let z = nothing-moves done in let y = for-none k j in record { balance = omega arith }
+  known-balances : Balances k q (λ a. unless-refused a (for-stream k j 0)) none-moves (reply done [] q)
+  known-balances = let z = nothing-moves done in let y = for-none k j in record { balance = omega arith }
 
   state-balances : (p : PauseState) → closing-bytes p (s .items) ≤ s .amount → Balances k q (λ a. unless-refused a (for-stream k j (closing-bytes p (s .items)))) none-moves (close-in p q s)
   unfolding close-in closing-bytes
@@ -389,8 +393,8 @@ ready-amount : (k : ℕ) (q : Queue) → amount-of ((Calls.ready-ids q) .next) k
 unfolding Calls.ready-ids amount-of
 ready-amount k q = amount-alike paused-to-resetting (q .options) k (q .streams) paused-alike
 
-reopen-amount : (k : ℕ) (z : Bool) (q : Queue) → amount-of ((Calls.reopen z q) .next) k ≡ amount-of q k
-unfolding Calls.reopen amount-of
+reopen-amount : (k : ℕ) (z : Bool) (q : Queue) → amount-of ((reopen z q) .next) k ≡ amount-of q k
+unfolding reopen amount-of
 reopen-amount k z q = amount-alike (reopened z) (q .options) k (q .streams) (reopened-alike z)
 
 no-put-back : put-back [] ≡ 0
@@ -511,8 +515,8 @@ step-balanced k (produce store places buffer now size) q w = let e = (balances-p
 step-balanced k (discard places s m) q w = let e = (balances-discard k places s m q) .balance in let z = nothing-moves ((Calls.discard places s m q) .outcome .answer) in record { balanced = omega arith }
 step-balanced k (close places s) q w = let e = (balances-close k places s q) .balance in let z = nothing-moves ((Calls.close places s q) .outcome .answer) in record { balanced = omega arith }
 step-balanced k ready-ids q w = unmoved k q (Calls.ready-ids q) (balances-same k q (Calls.ready-ids q) (ready-amount k q))
-step-balanced k commit q w = unmoved k q (Calls.reopen true q) (balances-same k q (Calls.reopen true q) (reopen-amount k true q))
-step-balanced k rollback q w = unmoved k q (Calls.reopen false q) (balances-same k q (Calls.reopen false q) (reopen-amount k false q))
+step-balanced k commit q w = unmoved k q (reopen true q) (balances-same k q (reopen true q) (reopen-amount k true q))
+step-balanced k rollback q w = unmoved k q (reopen false q) (balances-same k q (reopen false q) (reopen-amount k false q))
 step-balanced k reset q w = let e = (balances-reset k q) .balance in let z = nothing-moves ((Calls.reset q) .outcome .answer) in record { balanced = omega arith }
 step-balanced k (set-threshold places s t) q w = unmoved k q (Calls.set-threshold places s t q) (threshold-balances k places s t q)
 step-balanced k (set-priority s p) q w = unmoved k q (Calls.set-priority s p q) (priority-balances k s p q)

@@ -1,20 +1,19 @@
 -- What the next fragment is on a calm queue, asked for whole at time 0: the head of the chosen stream. Assumes nothing.
-use mathlib.Core.Path.{_≡_, refl, sym, ap, ap₂, _∙_, subst}
+use mathlib.Core.Path.{_≡_, refl, ap, ap₂, _∙_}
 use mathlib.Core.Bool.{Bool, true, false, not, _&&_, _||_}
-use mathlib.Core.List.{List, [], _∷_, _++_, map}
+use mathlib.Core.List.{List, [], _∷_, _++_}
 use mathlib.Core.Option.{Option, none, some, Option·getD}
-use Prim.Native.Nat.{ℕ, zero, suc, _+_, _-_, _^_, _≤_, _<_, min}
+use Prim.Native.Nat.{ℕ, _≤_, min}
 use native.Mathlib.Omega.{arith}
-use lib.Dec.{T, ltb, leb, eqb}
-use lib.ListN.{length}
+use lib.Dec.{ltb, eqb}
 use Rattle.queue_model.specs.Logic.{if_then_else_}
 use Rattle.queue_model.specs.Types.{Item, Stream, Active, Options, Queue, Event, Fragment, fragment, nothing-waits, Step, remaining, reply, refuse}
 use Rattle.queue_model.specs.Scheduler.{scheduled, least, least-of, earlier, remembered, or-else, peek}
 use Rattle.queue_model.specs.Streams.{find-stream, head-size, waiting, stream-key}
-use Rattle.queue_model.specs.Refusals.{short-of}
+use Rattle.queue_model.specs.Refusals.{short-of-head}
 use Rattle.queue_model.specs.Amounts.{sent-events}
 use Rattle.queue_model.specs.Produce.{after-look, look-for, look-expired, produce-checks, head, head-of, Look, chosen, look-at, look, numbered, make-fragment, handed-out, hand-out, pass-over, produce}
-use Rattle.queue_model.proofs.Tests.{eqb-true}
+use Rattle.queue_model.proofs.Tests.{eqb-true, ltb-false}
 use Rattle.queue_model.proofs.Table.{find-here, find-there, found-above, After, Rising}
 use Rattle.queue_model.proofs.Checks.{checked-past}
 use Rattle.queue_model.proofs.Calm.Entries.{entry, entries, actives, entry-id}
@@ -145,10 +144,11 @@ module _ (o : Options) (il : Bool) (n : ℕ) (ss : List Stream) where
     handed m = reply (fragment (make-fragment s ((numbered (s .counters) i) .item) m)) ([] ++ sent-events (calm o il n ss) s m) (handed-out (calm o il n ss) (entry (o .payload-limit) il s) s i is m)
 
     hand-out-head : hand-out 262144 (calm o il n ss) [] (entry (o .payload-limit) il s) s i is ≡ some (reply (fragment head-fragment) head-events head-handed-out)
-    unfolding hand-out handed
+    unfolding hand-out handed short-of-head
     hand-out-head =
-        ap (λ (m : ℕ). if short-of (calm o il n ss) s m then none else some (handed m)) size-whole
-        ∙ ap (λ (b : Bool). if b then none else some (handed (remaining i))) (not-short ss (s .id) s i is g h o il n)
+        let k : remaining i ≤ remaining i = omega arith in
+        ap (λ (m : ℕ). if short-of-head (calm o il n ss) s i m then none else some (handed m)) size-whole
+        ∙ ap₂ (λ (b c : Bool). if b || c then none else some (handed (remaining i))) (not-short ss (s .id) s i is g h o il n) (ltb-false k)
 
     -- The chosen stream's head is handed out whole.
     pub whole-head : least-of (actives (o .payload-limit) il ss) ≡ some (entry (o .payload-limit) il s) → whole o (calm o il n ss) ≡ reply (fragment head-fragment) head-events head-handed-out

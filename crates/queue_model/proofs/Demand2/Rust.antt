@@ -1,9 +1,11 @@
 -- What a handover record with every stream restores is what the Rust restores from its own record. Assumes nothing.
-use mathlib.Core.Path.{_≡_, refl, sym, ap, ap₂, _∙_, subst}
+use mathlib.Core.Path.{_≡_, refl, ap, ap₂, _∙_}
 use mathlib.Core.Bool.{Bool, true, false}
 use mathlib.Core.List.{List, [], _∷_, _++_, map}
 use mathlib.Core.Option.{Option, none, some, Option·getD}
-use Prim.Native.Nat.{ℕ, _+_, _*_}
+use Prim.Native.Nat.{ℕ, _+_, _*_, min}
+use native.Mathlib.Omega.{arith}
+use lib.ListN.{length}
 use Rattle.queue_model.specs.Logic.{is-some}
 use Rattle.queue_model.specs.Types.{Item, Stream, Options, Queue}
 use Rattle.queue_model.specs.Streams.{amounts, at, with-message, has-items, put-stream, reschedule-each}
@@ -37,15 +39,17 @@ ssn-back u none n h k = h refl
 ssn-back true (some m) n h k = k refl
 ssn-back false (some m) n h k = refl
 
-make-item : Item → Bool → Option ℕ → Option ℕ → ℕ → Item
-make-item i u e m s = record { message-id = i .message-id; ppid = i .ppid; unordered = u; max-retransmissions = i .max-retransmissions; expires-at = e; lifecycle-id = i .lifecycle-id; payload = i .payload; offset = i .offset; mid = m; ssn = s; fsn = i .fsn }
+make-item : Item → Bool → Option ℕ → Option ℕ → ℕ → ℕ → Item
+make-item i u e m s o = record { message-id = i .message-id; ppid = i .ppid; unordered = u; max-retransmissions = i .max-retransmissions; expires-at = e; lifecycle-id = i .lifecycle-id; payload = i .payload; offset = o; mid = m; ssn = s; fsn = i .fsn }
 
 item-same : (now saved k : ℕ) (i : Item) → WellItem i → restored-item now (message-record saved k i) ≡ item-from now (message-state saved k i)
 unfolding restored-item message-record item-from message-state make-item flags
 item-same now saved k i w =
     let f = flags-read (i .unordered) (is-some (i .mid)) (is-some (i .expires-at)) in
-    ap₂ (λ (u : Bool) (e : Option ℕ). make-item i u e (give (has-flag 2 ((message-record saved k i) .flags)) (Option·getD (i .mid) 0)) (i .ssn)) (f .reads-unordered) (expiry-back (has-flag 4 ((message-record saved k i) .flags)) now saved (i .expires-at) (f .reads-lifetime))
-    ∙ ap₂ (λ (m : Option ℕ) (s : ℕ). make-item i (i .unordered) (expires-from now (expires-in saved (i .expires-at))) m s) (mid-back (has-flag 2 ((message-record saved k i) .flags)) (i .mid) (f .reads-mid)) (ssn-back (i .unordered) (i .mid) (i .ssn) (w .no-ssn) (w .unordered-ssn))
+    ap₂ (λ (u : Bool) (e : Option ℕ). make-item i u e (give (has-flag 2 ((message-record saved k i) .flags)) (Option·getD (i .mid) 0)) (i .ssn) (i .offset)) (f .reads-unordered) (expiry-back (has-flag 4 ((message-record saved k i) .flags)) now saved (i .expires-at) (f .reads-lifetime))
+    ∙ ap₂ (λ (m : Option ℕ) (s : ℕ). make-item i (i .unordered) (expires-from now (expires-in saved (i .expires-at))) m s (i .offset)) (mid-back (has-flag 2 ((message-record saved k i) .flags)) (i .mid) (f .reads-mid)) (ssn-back (i .unordered) (i .mid) (i .ssn) (w .no-ssn) (w .unordered-ssn))
+    ∙ (let u = w .unsent in let o : i .offset ≡ min (i .offset) (length (i .payload)) = omega arith in
+    ap (λ (x : ℕ). make-item i (i .unordered) (expires-from now (expires-in saved (i .expires-at))) (i .mid) (Option·getD (ssn-state (i .unordered) (i .mid) (i .ssn)) 0) x) o)
 
 -- ---- all messages
 

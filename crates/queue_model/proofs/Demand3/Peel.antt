@@ -1,11 +1,11 @@
 -- Two calm queues that cannot be told apart have the same counters, messages and next message id: by discarding one message after another. Assumes nothing.
 use mathlib.Core.Path.{_≡_, refl, sym, ap, ap₂, _∙_, subst}
-use mathlib.Core.Bool.{Bool, true, false}
-use mathlib.Core.List.{List, [], _∷_, _++_, map}
+use mathlib.Core.Bool.{Bool}
+use mathlib.Core.List.{List, [], _∷_, map}
 use mathlib.Core.Option.{Option, none, some, Option·getD}
 use Prim.Native.Nat.{ℕ, zero, suc, _+_, _-_, _^_, _≤_, _<_}
 use native.Mathlib.Omega.{arith}
-use lib.ListN.{length, take, drop}
+use lib.ListN.{length}
 use lib.Seq.{take-all}
 use Rattle.queue_model.specs.Table.{find, sum-by}
 use Rattle.queue_model.specs.Types.{Item, Counters, Stream, Options, Queue, Fragment, fragment, nothing-waits, Outcome, Step, remaining}

@@ -2,11 +2,11 @@
 use mathlib.Core.Path.{_≡_, refl, sym, ap, ap₂, _∙_, subst}
 use mathlib.Core.Logic.{_↔_}
 use mathlib.Core.Bool.{Bool, false, not, _||_}
-use mathlib.Core.List.{List, [], _∷_}
+use mathlib.Core.List.{List, []}
 use mathlib.Core.Option.{Option, none, some}
 use Prim.Native.Nat.{ℕ, _^_, _≤_, _<_}
 use native.Mathlib.Omega.{arith}
-use lib.Dec.{ltb, eqb, eqb→eq, nltb→le}
+use lib.Dec.{ltb, eqb, eqb→eq}
 use lib.ListN.{length}
 use Rattle.queue_model.specs.Logic.{is-nil}
 use Rattle.queue_model.specs.Types.{Stream, Options, Queue, refused, done, number, Outcome, Step, reply}

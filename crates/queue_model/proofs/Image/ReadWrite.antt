@@ -7,7 +7,7 @@ use Prim.Native.Nat.{ℕ, zero, suc, _+_, _-_, _*_, _^_, _≤_, _<_}
 use native.Mathlib.Omega.{arith}
 use lib.Dec.{T, leb, eqb, leb→le, le→leb, eqb→eq, eqb-refl}
 use lib.Pow.{areBytes}
-use lib.ListN.{length, take, drop, getD, length-append, length-take, length-drop, take-append-drop}
+use lib.ListN.{length, take, drop, getD, length-append, length-drop, take-append-drop}
 use lib.Seq.{take-at, drop-at, take-add, take-all, drop-drop, length-take-le, drop-append-add, drop-append-seam, take-append-seam}
 use Rattle.queue_model.specs.Logic.{only-if, and-then}
 use Rattle.queue_model.specs.Bytes.{row-bytes, bytes-row, width, Fits}

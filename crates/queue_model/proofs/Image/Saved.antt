@@ -1,13 +1,12 @@
 -- A well-formed queue's image is read back as its handover record: saving keeps every rule. Assumes nothing.
-use mathlib.Core.Path.{_≡_, refl, sym, ap, ap₂, _∙_, subst}
+use mathlib.Core.Path.{_≡_, refl, sym, ap, _∙_, subst}
 use mathlib.Core.Bool.{Bool, true, false, not, _&&_}
 use mathlib.Core.List.{List, [], _∷_, _++_, map}
 use mathlib.Core.Option.{Option, none, some, Option·getD}
-use Prim.Native.Nat.{ℕ, zero, suc, _+_, _-_, _*_, _/_, _^_, _≤_, _<_, min}
+use Prim.Native.Nat.{ℕ, _+_, _*_, _^_, _≤_, _<_}
 use native.Mathlib.Omega.{arith}
 use lib.Dec.{T, ltb, leb, eqb, le→leb, lt→ltb}
 use lib.ListN.{length, length-append}
-use lib.Pow.{areBytes}
 use Rattle.queue_model.specs.Logic.{all-true, implies, if_then_else_, is-some}
 use Rattle.queue_model.specs.Types.{Item, Stream, Queue}
 use Rattle.queue_model.specs.Streams.{waiting, payload-bytes, occupied, stream-key}

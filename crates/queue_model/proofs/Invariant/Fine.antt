@@ -11,17 +11,18 @@ use Rattle.types.specs.Wrap.{wrap-suc}
 use Rattle.queue_model.specs.Logic.{same-bool, any, if_then_else_}
 use Rattle.queue_model.specs.Table.{find}
 use Rattle.queue_model.specs.Types.{Item, PauseState, not-paused, pending, paused, resetting, Counters, Stream, Active, Scheduler, Queue, Answer, refused, done, number, flag, ids, fragment, nothing-waits, Step, remaining, with-pause, with-counters, with-priority, with-threshold, with-state, reply, Message}
-use Rattle.queue_model.specs.Scheduler.{set-bytes-remaining}
+use Rattle.queue_model.specs.Scheduler.{remove-stream}
 use Rattle.queue_model.specs.Streams.{max-messages, find-stream, put-stream, stream-at, too-many, waiting, payload-bytes, occupied, free-bytes, head-size, weight-of, reschedule, reschedule-each, some-items, has-items, zero-counters, know, amounts, stream-key, with-message}
 use Rattle.queue_model.specs.Refusals.{Check, first-refusal, refused-or, checked, max-word, max-time, max-payload, short-of}
 use Rattle.queue_model.specs.Add.{expiry, new-item, starts-waiting, started, added, add-checks}
 use Rattle.queue_model.specs.Close.{untouched, kept, dropped-bytes, swept-bytes, closed-state, closed-scheduler, closed, close-in, closing-bytes, close-checks}
-use Rattle.queue_model.specs.Reset.{is-paused, is-resetting, paused-to-resetting, opened, reopened, put-back, whole-head, reset-stream, all-put-back, reset-checks}
+use Rattle.queue_model.specs.Reset.{reopen, is-paused, is-resetting, paused-to-resetting, opened, reopened, put-back, whole-head, reset-stream, all-put-back, reset-checks}
 use Rattle.queue_model.specs.Settings.{threshold-checks, priority-checks, raised-event, switched}
 use Rattle.queue_model.specs.Demands.{MessageTyped}
 use Rattle.queue_model.proofs.Tests.{ltb-false, eqb-true, eqb-false, less, same, more, tri}
 use Rattle.queue_model.proofs.Table.{Rising, Every, every-map, every-weaken, every-both, every-own, length-map, sum-map, sum-le, rising-map, own, other, is-own}
 use Rattle.queue_model.proofs.Checks.{Passed, all-passed, not-less, not-most}
+use Rattle.queue_model.proofs.Scheduler.{set-none}
 use Rattle.queue_model.proofs.Streams.{at-id, unsent-bytes, unsent-le, unsent-snoc, payload-snoc, length-snoc, size-at, size-here, size-there, size-at-at, size-found, size-unknown, size-map}
 use Rattle.queue_model.proofs.PutBack.{AllCounted, put-back-fits, no-overflow, reset-amounts}
 use Rattle.queue_model.proofs.Invariant.Messages.{WellItem, WellRest, WellItems}
@@ -323,8 +324,8 @@ waits-due q test f P w i p =
     waits-weaken (q .options .payload-limit) (Listed (q .interleaving) (q .streams)) (λ a. due test (a .stream-id) (map f (q .streams)) ≡ false → P a) (q .scheduler)
     (λ a l d. let s = l .sized in let y = l .positive in let u = listed-due test f (a .stream-id) (q .streams) i p (omega arith) in let z : _≡_ {A = ℕ} 0 1 = cc in absurd (omega arith)) (w .waits)
 
-pub fine-reopen : (z : Bool) (q : Queue) → Well q → Fine q (Calls.reopen z q)
-unfolding Calls.reopen
+pub fine-reopen : (z : Bool) (q : Queue) → Well q → Fine q (reopen z q)
+unfolding reopen
 fine-reopen z q w =
     let test : Stream → Bool = λ s. is-resetting s && has-items s in
     let ss : List Stream = map (reopened z) (q .streams) in
@@ -493,11 +494,11 @@ module _ (q : Queue) (k : ℕ) (w : Well q) (fits : k < 2 ^ 16) (free : too-many
   swept = shrunk s (closed-state (kept (s .items))) (s .counters) (swept-bytes (s .items)) (kept (s .items))
 
   -- A stream that loses all its messages ends waiting; one that keeps its half-sent first one waits on with it.
-  closed-waits : Waits (q .options .payload-limit) (Listed (q .interleaving) (put-stream swept (q .streams))) (closed-scheduler (q .interleaving) s (kept (s .items)) (q .scheduler))
+  closed-waits : Waits (q .options .payload-limit) (Listed (q .interleaving) (put-stream swept (q .streams))) (closed-scheduler s (kept (s .items)) (q .scheduler))
   unfolding closed-scheduler has-items head-size
   closed-waits = elim (keeps (s .items) (fit .well-items)) [
-    | keeps-none e ↦ subst (λ (l : List Item). Waits limit P (closed-scheduler (q .interleaving) s l (q .scheduler))) (sym e) (ends (some-items (s .items)) refl)
-    | keeps-first i rest e f ↦ subst (λ (l : List Item). Waits limit P (closed-scheduler (q .interleaving) s l (q .scheduler))) (sym f)
+    | keeps-none e ↦ subst (λ (l : List Item). Waits limit P (closed-scheduler s l (q .scheduler))) (sym e) (ends (some-items (s .items)) refl)
+    | keeps-first i rest e f ↦ subst (λ (l : List Item). Waits limit P (closed-scheduler s l (q .scheduler))) (sym f)
         (waits-put-same limit (q .interleaving) swept (q .streams) (q .scheduler) (λ h. ap head-size f ∙ ap head-size (sym e) ∙ sym (size-own q k)) (w .waits))
   ]
     where
@@ -507,8 +508,8 @@ module _ (q : Queue) (k : ℕ) (w : Well q) (fits : k < 2 ^ 16) (free : too-many
       P : Active → Type 0
       P = Listed (q .interleaving) (put-stream swept (q .streams))
 
-      ends : (b : Bool) → some-items (s .items) ≡ b → Waits limit P (if b then set-bytes-remaining (s .id) 0 (weight-of (q .interleaving) s) (q .scheduler) else q .scheduler)
-      ends true e = waits-put-set limit (q .interleaving) swept 0 (weight-of (q .interleaving) s) (q .streams) (q .scheduler) (λ h. absurd (omega arith)) (weight-fits-of (q .interleaving) s (fit .priority-fits)) (w .waits .sched)
+      ends : (b : Bool) → some-items (s .items) ≡ b → Waits limit P (if b then remove-stream (s .id) (q .scheduler) else q .scheduler)
+      ends true e = subst (Waits limit P) (set-none (s .id) (weight-of (q .interleaving) s) (q .scheduler)) (waits-put-set limit (q .interleaving) swept 0 (weight-of (q .interleaving) s) (q .streams) (q .scheduler) (λ h. absurd (omega arith)) (weight-fits-of (q .interleaving) s (fit .priority-fits)) (w .waits .sched))
       ends false e = waits-put-same limit (q .interleaving) swept (q .streams) (q .scheduler) (λ h. let a = size-own q k in let b = no-items (s .items) e in absurd (omega arith)) (w .waits)
 
   fine-closed : Fine q (closed q s)
@@ -516,14 +517,14 @@ module _ (q : Queue) (k : ℕ) (w : Well q) (fits : k < 2 ^ 16) (free : too-many
   fine-closed =
       let l = leaves (s .items) in
       record {
-        next-well = well-put q k swept (q .total - swept-bytes (s .items)) (q .next-message-id) (closed-scheduler (q .interleaving) s (kept (s .items)) (q .scheduler)) w
+        next-well = well-put q k swept (q .total - swept-bytes (s .items)) (q .next-message-id) (closed-scheduler s (kept (s .items)) (q .scheduler)) w
             (change-shrunk q k s (closed-state (kept (s .items))) (s .counters) (swept-bytes (s .items)) (kept (s .items)) w fits free refl (fit .counters-fit) (kept-well (s .items) (fit .well-items)) (l .0) (l .1) (l .2)) (w .next-fits) closed-waits;
         not-sixteen = refl;
         same-options = refl;
       }
 
-  fine-known : Fine q (reply done [] (know q s))
-  fine-known = record { next-well = known-same q k s w free (at-id (q .options) (q .streams) k) fit refl refl; not-sixteen = refl; same-options = refl }
+  fine-known : Fine q (reply done [] q)
+  fine-known = record { next-well = w; not-sixteen = refl; same-options = refl }
 
   fine-close-in : (p : PauseState) → Fine q (close-in p q s)
   unfolding close-in

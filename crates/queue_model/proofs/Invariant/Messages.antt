@@ -1,12 +1,11 @@
 -- What a well-formed message, stream and queue is, as saving wants it. Assumes nothing.
-use mathlib.Core.Path.{_≡_, refl, sym, ap, ap₂, _∙_, subst}
-use mathlib.Core.Bool.{Bool, true, false, not, _&&_}
-use mathlib.Core.List.{List, [], _∷_, _++_, map}
-use mathlib.Core.Option.{Option, none, some, Option·getD}
-use Prim.Native.Nat.{ℕ, zero, suc, _+_, _-_, _*_, _/_, _^_, _≤_, _<_, min}
-use native.Mathlib.Omega.{arith}
-use lib.Dec.{T, ltb, leb, eqb, le→leb, lt→ltb}
-use lib.ListN.{length, length-append}
+use mathlib.Core.Path.{_≡_}
+use mathlib.Core.Bool.{true}
+use mathlib.Core.List.{List, [], _∷_}
+use mathlib.Core.Option.{none, Option·getD}
+use Prim.Native.Nat.{_^_, _≤_, _<_}
+use lib.Dec.{T}
+use lib.ListN.{length}
 use lib.Pow.{areBytes}
 use Rattle.queue_model.specs.Types.{Item, Stream, Queue}
 use Rattle.queue_model.specs.Streams.{waiting, occupied, stream-key}

@@ -1,6 +1,6 @@
 -- Next fragment and discard are fine: a head that is dropped or sent leaves a well queue, every look at the scheduler finds a head, and the fuel of passing over suffices. Assumes nothing.
-use mathlib.Core.Path.{_≡_, refl, sym, ap, _∙_, subst}
-use mathlib.Core.Bool.{Bool, true, false}
+use mathlib.Core.Path.{ap₂, _≡_, refl, sym, ap, _∙_, subst}
+use mathlib.Core.Bool.{Bool, true, false, _||_}
 use mathlib.Core.List.{List, [], _∷_, _++_}
 use mathlib.Core.Option.{Option, none, some, Option·getD}
 use Prim.Native.Nat.{ℕ, zero, suc, _+_, _-_, _^_, _≤_, _<_, min}
@@ -10,14 +10,15 @@ use lib.ListN.{length}
 use Rattle.types.specs.Wrap.{wrap-suc}
 use Rattle.queue_model.specs.Logic.{if_then_else_}
 use Rattle.queue_model.specs.Types.{Item, PauseState, not-paused, pending, paused, resetting, Counters, Stream, Weight, round-robin, weighted, Active, Scheduler, Options, Queue, Event, done, fragment, Step, remaining, expired, with-numbers, with-state, refuse, reply}
-use Rattle.queue_model.specs.Scheduler.{active-key, find-active, scheduled, put-active, set-bytes-remaining, peek, moved, remember, accept-last, accept-part, accept}
+use Rattle.queue_model.specs.Scheduler.{active-key, find-active, scheduled, put-active, set-bytes-remaining, peek, moved, remember, accept-last, accept-part, accept, remove-stream}
 use Rattle.queue_model.specs.Streams.{find-stream, put-stream, at, stream-at, waiting, payload-bytes, head-size, weight-of, reschedule, stream-key}
-use Rattle.queue_model.specs.Refusals.{max-word, short-of}
+use Rattle.queue_model.specs.Refusals.{max-word, short-of, short-of-head}
 use Rattle.queue_model.specs.Amounts.{sent-events, drop-head-events}
 use Rattle.queue_model.specs.Produce.{Head, no-head, head, head-in, head-of, drop-head, Look, nothing, broken, dropped, chosen, look-expired, look-at, look-for, look, Numbered, give-numbers, numbered-in, numbered, make-fragment, end-pending, next-size, moved-on, handed-out-last, handed-out-part, handed-out, hand-out, after-look, pass-over, produce-checks}
 use Rattle.queue_model.specs.Discard.{discard-in, discarded, discard-at, discard-checks}
-use Rattle.queue_model.proofs.Tests.{holds, leb-true, leb-false, eqb-true, less, same, more, tri}
+use Rattle.queue_model.proofs.Tests.{holds, leb-true, leb-false, eqb-true, less, same, more, tri, ltb-false}
 use Rattle.queue_model.proofs.Table.{found, missing, look-up, empty, first, split, every-find, every-own, find-key}
+use Rattle.queue_model.proofs.Scheduler.{set-none}
 use Rattle.queue_model.proofs.Streams.{at-found, at-new, unsent-bytes, size-at, size-found, size-unknown, size-put-same}
 use Rattle.queue_model.proofs.Invariant.Messages.{WellItem, WellItems}
 use Rattle.queue_model.proofs.Invariant.Waits.{But, Listed, Holds, Remembers, holds-put-own, WeightFits, Sched, Waits, weight-fits-of, sched-weaken, remove-kept, put-kept, set-kept, scheduled-listed, scheduled-numbers, scheduled-id, waits-put, waits-put-set, waits-put-rescheduled, peek-in}
@@ -232,8 +233,8 @@ module _ (q : Queue) (k : ℕ) (s : Stream) (i : Item) (is : List Item) (w : Wel
   unfolding discard-in
   discard-well not-paused = drop-well
   discard-well pending =
-      gone-well paused (s .counters) (set-bytes-remaining (s .id) 0 (weight-of (q .interleaving) s) (q .scheduler)) (head-kept .counters-fit)
-      (waits-put-set limit (q .interleaving) (gone paused (s .counters)) 0 (weight-of (q .interleaving) s) (q .streams) (q .scheduler) (λ z. absurd (omega arith)) (weight-fits-of (q .interleaving) s (head-kept .priority-fits)) (w .waits .sched))
+      gone-well paused (s .counters) (remove-stream (s .id) (q .scheduler)) (head-kept .counters-fit)
+      (subst (Waits limit (Listed (q .interleaving) (put-stream (gone paused (s .counters)) (q .streams)))) (set-none (s .id) (weight-of (q .interleaving) s) (q .scheduler)) (waits-put-set limit (q .interleaving) (gone paused (s .counters)) 0 (weight-of (q .interleaving) s) (q .streams) (q .scheduler) (λ z. absurd (omega arith)) (weight-fits-of (q .interleaving) s (head-kept .priority-fits)) (w .waits .sched)))
   discard-well paused = drop-well
   discard-well resetting = drop-well
 
@@ -401,13 +402,13 @@ maybe-then q r none e f = f
 maybe-then q r (some s) e f = record { next-well = f .next-well; not-sixteen = f .not-sixteen; same-options = f .same-options ∙ e }
 
 fine-hand-out : (size : ℕ) (q : Queue) (es : List Event) (a : Active) (s : Stream) (i : Item) (is : List Item) → Well q → Chosen q a s i is → FineMaybe q (hand-out size q es a s i is)
-unfolding hand-out
+unfolding hand-out short-of-head
 fine-hand-out size q es a s i is w v =
     let n : ℕ = min (a .bytes-remaining) size in
     let z = v .choice-size in
     let l : min (a .bytes-remaining) size ≤ remaining i = omega arith in
     let r : Step = reply (fragment (make-fragment s ((numbered (s .counters) i) .item) n)) (es ++ sent-events q s n) (handed-out q a s i is n) in
-    subst (λ (b : Bool). FineMaybe q (if b then none else some r)) (sym (head-enough q (a .stream-id) s i is w (v .choice-head) n l))
+    subst (λ (b : Bool). FineMaybe q (if b then none else some r)) (sym (ap₂ _||_ (head-enough q (a .stream-id) s i is w (v .choice-head) n l) (ltb-false l)))
     (record { next-well = handed-well q (a .stream-id) s i is w (v .choice-head) a refl (v .choice-size) (v .choice-weight) (v .choice-stands) n l; not-sixteen = refl; same-options = handed-options q a s i is n })
 
 fine-after : (again : Queue → List Event → Option Step) (size : ℕ) (q : Queue) (es : List Event) (l : Look) → Well q → FineLook q l → ((r : Queue) (ds : List Event) → Well r → suc (waiting (r .streams)) ≡ waiting (q .streams) → FineMaybe r (again r ds)) → FineMaybe q (after-look again size q es l)
