@@ -1,4 +1,4 @@
--- Document 01's examples marked P: one table, and one theorem that antt computes. Assumes nothing.
+-- Document 01's examples marked P: one table, and one theorem that antt computes. Then a second table, of sentences that the other theorems leave open. Assumes nothing.
 use mathlib.Core.Path.{_≡_, refl}
 use mathlib.Core.Bool.{Bool, true, false}
 use mathlib.Core.List.{List, [], _∷_, _++_, map}
@@ -10,8 +10,9 @@ use Rattle.queue_model.specs.Scheduler.{cost}
 use Rattle.queue_model.specs.Streams.{new-queue}
 use Rattle.queue_model.specs.Add.{expiry, new-item}
 use Rattle.queue_model.specs.Produce.{give-numbers}
+use Rattle.queue_model.specs.Questions.{readiness}
 use Rattle.queue_model.specs.Image.{bit, ms-left-at, write-image}
-use Rattle.queue_model.specs.Run.{Call, add, produce, reset, set-threshold, set-priority, set-interleaving, ask-amount, run, after}
+use Rattle.queue_model.specs.Run.{Call, add, produce, discard, close, ready-ids, reset, set-threshold, set-priority, set-interleaving, ask-amount, run, after}
 
 -- The queue of the examples: payload limit 1,000, default priority 256, thresholds 0.
 queue : Queue
@@ -135,6 +136,41 @@ table =
 pub examples : map (λ r. r .given) table ≡ map (λ r. r .said) table
 unfolding table
 examples = refl
+
+-- ------------------------------------------------------------------ sentences that no theorem holds by itself
+
+-- A message with a lifecycle id.
+noted : ℕ → ℕ → Call
+noted s l = add 100000 0 (record { stream-id = s; ppid = 0; unordered = false; max-retransmissions = none; lifetime = none; lifecycle-id = l; payload = replicate 10 7 })
+
+-- The readiness with and without a waiting message, where handover with waiting data is off.
+ready-with : List Call → ℕ
+unfolding after new-queue readiness
+ready-with cs = readiness (after cs (new-queue (record { payload-limit = 1000; store-length = 100000; default-priority = 256; default-threshold = 0; total-threshold = 0; handover-with-data = false })))
+
+pub facts : List Row
+unfolding shows fires put get begun ended noted ready-with
+facts =
+    -- "a remaining half-sent one makes the stream pending"; "When a pending stream's message ends or is discarded, it is paused."
+    (shows (put 5 1500 0 none ∷ get 0 1000 ∷ close 2305 5 ∷ ready-ids ∷ get 0 1000 ∷ ready-ids ∷ []) gives (begun 5 ++ ended 5 ++ (5 ∷ [])))
+    -- "messages added to a paused or resetting stream do not start it"; to a pending one without messages they do.
+    ∷ (shows (close 2305 5 ∷ put 5 10 0 none ∷ get 0 10 ∷ []) gives (888 ∷ []))
+    ∷ (shows (put 5 1500 0 (some 0) ∷ get 0 1000 ∷ close 2305 5 ∷ get 1000000 1000 ∷ put 5 10 0 none ∷ get 0 10 ∷ []) gives (begun 5 ++ (888 ∷ 5 ∷ 10 ∷ 1 ∷ 1 ∷ 1 ∷ 1 ∷ 0 ∷ [])))
+    -- "Sending and dropping report total, stream, then 3 and 4 for a drop with an id; closing reports stream before total."
+    ∷ (fires (noted 5 9 ∷ discard 2305 5 0 ∷ []) gives (2 ∷ 0 ∷ 1 ∷ 5 ∷ 3 ∷ 9 ∷ 4 ∷ 9 ∷ []))
+    ∷ (fires (noted 5 9 ∷ close 2305 5 ∷ []) gives (1 ∷ 5 ∷ 2 ∷ 0 ∷ 3 ∷ 9 ∷ 4 ∷ 9 ∷ []))
+    ∷ (fires (put 5 10 0 none ∷ get 0 10 ∷ []) gives (2 ∷ 0 ∷ 1 ∷ 5 ∷ []))
+    -- "Readiness is 2 if handover with waiting data is off and the total is above 0, else 0."
+    ∷ ((ready-with [] ∷ ready-with (put 5 10 0 none ∷ []) ∷ []) gives (0 ∷ 2 ∷ []))
+    -- "the first that applies is given": of 2, 3, 4, 9 and 10; of 4 and 5.
+    ∷ (shows (produce 1 0 0 4611686018427387904 262145 ∷ produce 100000 0 0 4611686018427387904 262145 ∷ produce 100000 2305 0 4611686018427387904 262145 ∷ produce 100000 2305 0 0 262145 ∷ produce 100000 2305 0 0 1 ∷ [])
+    gives (999 ∷ 2 ∷ 999 ∷ 3 ∷ 999 ∷ 4 ∷ 999 ∷ 9 ∷ 999 ∷ 10 ∷ []))
+    ∷ (shows (put 5 0 4611686018427387904 none ∷ put 5 0 0 (some 4611686018427387904) ∷ put 5 0 0 none ∷ []) gives (999 ∷ 4 ∷ 999 ∷ 4 ∷ 999 ∷ 5 ∷ []))
+    ∷ []
+
+pub facts-hold : map (λ r. r .given) facts ≡ map (λ r. r .said) facts
+unfolding facts
+facts-hold = refl
 
 -- Handing out sets the system time to the stream's own new start, as the Rust does: here it falls from 9,000,000 to 10,000.
 times : List Call → ℕ
