@@ -1,0 +1,63 @@
+-- The streams: 256 rows of 10 words from word 544 on, 9 of them used. Assumes nothing.
+use Prim.Native.Nat.{ℕ, _+_, _*_, _%_, _<_}
+use mathlib.Core.List.{List, [], _∷_}
+use lib.Dec.{eqb}
+use lib.ListN.{getD}
+use Rattle.queue_words.specs.Rows.{row, putRow}
+use Rattle.queue_words.specs.Flags.{pick}
+use Rattle.queue_words.specs.declared.streams.OutgoingStream.{OutgoingStream}
+use Rattle.queue_words.specs.declared.streams.PauseState.{PauseState}
+use Rattle.queue_words.specs.declared.streams.PauseState.the-variants.{NotPaused, Pending, Paused, Resetting}
+
+-- a stream in nine words
+abbrev pub streamOf : List ℕ → OutgoingStream
+streamOf vs = record {
+  priority = getD vs 0 0 % 65536;
+  «pause_state» = getD vs 1 0 % 256;
+  «next_ssn» = record { 0 = getD vs 2 0 % 65536 };
+  «next_unordered_mid» = record { 0 = getD vs 3 0 % 4294967296 };
+  «next_ordered_mid» = record { 0 = getD vs 4 0 % 4294967296 };
+  «buffered_amount» = getD vs 5 0;
+  «low_threshold» = getD vs 6 0;
+  first = getD vs 7 0;
+  last = getD vs 8 0;
+}
+
+-- its words
+abbrev pub streamWords : OutgoingStream → List ℕ
+streamWords s = s .priority ∷ s .«pause_state» ∷ s .«next_ssn» .0 ∷ s .«next_unordered_mid» .0 ∷ s .«next_ordered_mid» .0
+    ∷ s .«buffered_amount» ∷ s .«low_threshold» ∷ s .first ∷ s .last ∷ []
+
+-- what load and store do, word by word
+abbrev pub streamOut : List ℕ → ℕ → OutgoingStream
+streamOut ws i = streamOf (row ws (544 + i * 10) 9)
+
+abbrev pub streamIn : List ℕ → ℕ → OutgoingStream → List ℕ
+streamIn ws i s = putRow ws (544 + i * 10) (streamWords s)
+
+-- the stream in row i
+unfoldable pub streamAt : List ℕ → ℕ → OutgoingStream
+streamAt ws i = streamOut ws i
+
+-- the words with s in row i
+unfoldable pub putStream : List ℕ → ℕ → OutgoingStream → List ℕ
+putStream ws i s = streamIn ws i s
+
+-- every narrow field is a value of its type
+pub record FitsStream (s : OutgoingStream) : Type 0 where
+  pub priority-fits : s .priority < 65536
+  pub pause-state-fits : s .«pause_state» < 256
+  pub ssn-fits : s .«next_ssn» .0 < 65536
+  pub unordered-mid-fits : s .«next_unordered_mid» .0 < 4294967296
+  pub ordered-mid-fits : s .«next_ordered_mid» .0 < 4294967296
+
+-- the state of a number; above 3 it is the last
+abbrev pub pauseStateOf : ℕ → PauseState
+pauseStateOf n = pick (eqb n 0) NotPaused (pick (eqb n 1) Pending (pick (eqb n 2) Paused Resetting))
+
+-- the number of a state
+abbrev pub pauseStateNumber : PauseState → ℕ
+pauseStateNumber NotPaused = 0
+pauseStateNumber Pending = 1
+pauseStateNumber Paused = 2
+pauseStateNumber Resetting = 3

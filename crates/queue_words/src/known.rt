@@ -1,0 +1,147 @@
+// The known streams: 256 rows of 2 words from word 32 on, in the order of their ids, and the search among them.
+ghost use mathlib.Core.Path.{_≡_};
+ghost use Prim.Native.Nat.{_<_};
+ghost use Rattle.queue_words.specs.Known.{knownOut, knownIn, knownAt, putKnown, FitsKnown};
+ghost use Rattle.queue_words.specs.Find.{probed, probes, findStream};
+use crate::QUEUE_WORDS;
+use crate::header::load_totals;
+use types::StreamId;
+
+const BASE: usize = 32;
+
+// A known stream's id, and the place of its row in the table of streams.
+pub struct Known {
+    pub id: StreamId,
+    pub place: u64,
+}
+
+fn known_out(queue: &[u64; QUEUE_WORDS], i: usize) -> Known
+    requires { ⌜ i < 256 ⌝ }
+    ensures { λ r. ⌜ r ≡ knownOut (now (queue .entry)) i ⌝ }
+{
+    let at = BASE + i * 2;
+    Known {
+        id: StreamId((queue[at + 0] % 65536) as u16),
+        place: queue[at + 1],
+    }
+}
+
+fn known_in(queue: &mut [u64; QUEUE_WORDS], i: usize, k: Known)
+    requires { ⌜ i < 256 ⌝ }
+    ensures { λ _. ⌜ now (queue .exit) ≡ knownIn (now (queue .entry)) i k ⌝ }
+{
+    let at = BASE + i * 2;
+    queue[at + 0] = k.id.0 as u64;
+    queue[at + 1] = k.place;
+}
+
+pub fn load_known(queue: &[u64; QUEUE_WORDS], i: usize) -> Known
+    requires { ⌜ i < 256 ⌝ }
+    ensures { λ r. ⌜ r ≡ knownAt (now (queue .entry)) i ⌝ }
+{
+    known_out(queue, i)
+}
+
+pub fn store_known(queue: &mut [u64; QUEUE_WORDS], i: usize, k: Known)
+    requires { ⌜ i < 256 ⌝ }
+    ensures { λ _. ⌜ now (queue .exit) ≡ putKnown (now (queue .entry)) i k ⌝ }
+{
+    known_in(queue, i, k)
+}
+
+pub fn known_fits(k: Known)
+    ensures { λ _. ⌜ FitsKnown k ⌝ }
+{}
+
+// Where a stream is: its position among the known and the place of its row, or the position at which it would be put in.
+// Broken: more than 256 streams are said to be known, or the place found is no row.
+pub enum Found {
+    At(usize, usize),
+    Gap(usize),
+    Broken,
+}
+
+// A search half done: the id, if it is known, is at hit, or among the size positions from low on. 256 stands for no hit.
+pub struct Probe {
+    pub low: usize,
+    pub size: usize,
+    pub hit: usize,
+}
+
+// One step: the middle one of the positions left is looked at. The tests on low and mid only keep other values than a search's
+// inside the table.
+fn probe_once(queue: &[u64; QUEUE_WORDS], id: u16, p: Probe) -> Probe
+    ensures { λ r. ⌜ r ≡ probed (now (queue .entry)) id p ⌝ }
+{
+    if p.hit < 256 {
+        return p;
+    }
+    if p.size == 0 {
+        return p;
+    }
+    if p.low > 255 {
+        return p;
+    }
+    let half = p.size / 2;
+    let mid = p.low + half;
+    if mid > 255 {
+        return p;
+    }
+    let row = load_known(queue, mid);
+    let here = row.id.0;
+    if here == id {
+        return Probe {
+            low: p.low,
+            size: p.size,
+            hit: mid,
+        };
+    }
+    if here < id {
+        return Probe {
+            low: mid + 1,
+            size: p.size - half - 1,
+            hit: p.hit,
+        };
+    }
+    Probe {
+        low: p.low,
+        size: half,
+        hit: p.hit,
+    }
+}
+
+// Nine steps, which leave nothing of 256 positions.
+fn probe_all(queue: &[u64; QUEUE_WORDS], id: u16, known: usize) -> Probe
+    ensures { λ r. ⌜ r ≡ probes (now (queue .entry)) id known 9 ⌝ }
+{
+    let mut p = Probe {
+        low: 0,
+        size: known,
+        hit: 256,
+    };
+    let mut k: usize = 0;
+    while k < 9 {
+        p = probe_once(queue, id, p);
+        k += 1;
+    }
+    p
+}
+
+pub fn find_stream(queue: &[u64; QUEUE_WORDS], id: u16) -> Found
+    ensures { λ r. ⌜ r ≡ findStream (now (queue .entry)) id ⌝ }
+{
+    let t = load_totals(queue);
+    if t.known > 256 {
+        return Found::Broken;
+    }
+    let p = probe_all(queue, id, t.known as usize);
+    let hit = p.hit;
+    if hit > 255 {
+        return Found::Gap(p.low);
+    }
+    let row = load_known(queue, hit);
+    if row.place > 255 {
+        return Found::Broken;
+    }
+    Found::At(hit, row.place as usize)
+}

@@ -1,0 +1,73 @@
+// The words of a send queue: its header and its four tables in one array of 20,768 words of 64 bits, one field to a word.
+//
+//     words               holds                                     rows   words a row, of which used
+//         0 to     5      Options, what the queue was created with     1       6   6
+//         6 to    13      Totals                                       1       8   8
+//        14 to    16      SchedulerState                               1       3   3
+//        17 to    31      nothing
+//        32 to   543      Known, the known streams by rising id      256       2   2
+//       544 to  3103      OutgoingStream, the streams                256      10   9
+//      3104 to 19487      Item, the messages                        1024      16  15
+//     19488 to 20767      ActiveStreamInfo, the active streams       256       5   5
+//
+// A row's words are its struct's fields in their order. A word that is too large for its field is read modulo the field's
+// width, and a word for a flag is true where it is 1. A place is the number of a row; 1024 stands for no message.
+ghost use mathlib.Core.Path.{_≡_};
+ghost use lib.ListN.{length};
+
+pub mod active;
+pub mod header;
+pub mod items;
+pub mod known;
+pub mod streams;
+
+pub use active::ActiveStreamInfo;
+pub use active::SchedulingParameters;
+pub use active::active_fits;
+pub use active::load_active;
+pub use active::parameters_of;
+pub use active::parameters_word;
+pub use active::store_active;
+pub use header::Options;
+pub use header::SchedulerState;
+pub use header::Totals;
+pub use header::load_options;
+pub use header::load_scheduler_state;
+pub use header::load_totals;
+pub use header::options_fits;
+pub use header::store_options;
+pub use header::store_scheduler_state;
+pub use header::store_totals;
+pub use header::totals_fits;
+pub use items::Item;
+pub use items::item_fits;
+pub use items::load_item;
+pub use items::load_length;
+pub use items::load_next;
+pub use items::load_place;
+pub use items::store_item;
+pub use items::store_length;
+pub use items::store_next;
+pub use items::store_place;
+pub use known::Found;
+pub use known::Known;
+pub use known::find_stream;
+pub use known::known_fits;
+pub use known::load_known;
+pub use known::store_known;
+pub use streams::OutgoingStream;
+pub use streams::PauseState;
+pub use streams::load_stream;
+pub use streams::pause_state_number;
+pub use streams::pause_state_of;
+pub use streams::store_stream;
+pub use streams::stream_fits;
+
+pub const QUEUE_WORDS: usize = 20768;
+
+// No work: that there are 20,768 words, for a proof.
+pub fn whole(queue: &[u64; QUEUE_WORDS])
+    ensures { λ _. ⌜ length (now (queue .entry)) ≡ 20768 ⌝ }
+{
+    let _words: &[u64] = queue;
+}

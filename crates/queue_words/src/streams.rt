@@ -1,0 +1,107 @@
+// The streams: 256 rows of 10 words from word 544 on, 9 of them used. A row does not hold its stream's id: the known streams say it.
+ghost use mathlib.Core.Path.{_≡_};
+ghost use Prim.Native.Nat.{_<_};
+ghost use Rattle.queue_words.specs.Streams.{streamOut, streamIn, streamAt, putStream, FitsStream};
+ghost use Rattle.queue_words.specs.Streams.{pauseStateOf, pauseStateNumber};
+use crate::QUEUE_WORDS;
+use types::Mid;
+use types::Ssn;
+
+const BASE: usize = 544;
+
+pub struct OutgoingStream {
+    pub priority: u16,
+    // A number of PauseState.
+    pub pause_state: u8,
+    pub next_ssn: Ssn,
+    pub next_unordered_mid: Mid,
+    pub next_ordered_mid: Mid,
+    pub buffered_amount: u64,
+    pub low_threshold: u64,
+    // The places of the first and the last message, 1024 for none.
+    pub first: u64,
+    pub last: u64,
+}
+
+fn stream_out(queue: &[u64; QUEUE_WORDS], i: usize) -> OutgoingStream
+    requires { ⌜ i < 256 ⌝ }
+    ensures { λ r. ⌜ r ≡ streamOut (now (queue .entry)) i ⌝ }
+{
+    let at = BASE + i * 10;
+    OutgoingStream {
+        priority: (queue[at + 0] % 65536) as u16,
+        pause_state: (queue[at + 1] % 256) as u8,
+        next_ssn: Ssn((queue[at + 2] % 65536) as u16),
+        next_unordered_mid: Mid((queue[at + 3] % 4294967296) as u32),
+        next_ordered_mid: Mid((queue[at + 4] % 4294967296) as u32),
+        buffered_amount: queue[at + 5],
+        low_threshold: queue[at + 6],
+        first: queue[at + 7],
+        last: queue[at + 8],
+    }
+}
+
+fn stream_in(queue: &mut [u64; QUEUE_WORDS], i: usize, s: OutgoingStream)
+    requires { ⌜ i < 256 ⌝ }
+    ensures { λ _. ⌜ now (queue .exit) ≡ streamIn (now (queue .entry)) i s ⌝ }
+{
+    let at = BASE + i * 10;
+    queue[at + 0] = s.priority as u64;
+    queue[at + 1] = s.pause_state as u64;
+    queue[at + 2] = s.next_ssn.0 as u64;
+    queue[at + 3] = s.next_unordered_mid.0 as u64;
+    queue[at + 4] = s.next_ordered_mid.0 as u64;
+    queue[at + 5] = s.buffered_amount;
+    queue[at + 6] = s.low_threshold;
+    queue[at + 7] = s.first;
+    queue[at + 8] = s.last;
+}
+
+pub fn load_stream(queue: &[u64; QUEUE_WORDS], i: usize) -> OutgoingStream
+    requires { ⌜ i < 256 ⌝ }
+    ensures { λ r. ⌜ r ≡ streamAt (now (queue .entry)) i ⌝ }
+{
+    stream_out(queue, i)
+}
+
+pub fn store_stream(queue: &mut [u64; QUEUE_WORDS], i: usize, s: OutgoingStream)
+    requires { ⌜ i < 256 ⌝ }
+    ensures { λ _. ⌜ now (queue .exit) ≡ putStream (now (queue .entry)) i s ⌝ }
+{
+    stream_in(queue, i, s)
+}
+
+pub fn stream_fits(s: OutgoingStream)
+    ensures { λ _. ⌜ FitsStream s ⌝ }
+{}
+
+// "States: open, pending, paused, resetting." Open is the Rust's NotPaused.
+pub enum PauseState {
+    NotPaused,
+    Pending,
+    Paused,
+    Resetting,
+}
+
+// The state of a number: 0 to 3 in the order above. A number above 3, which no queue holds, is taken for the last.
+pub fn pause_state_of(n: u8) -> PauseState
+    ensures { λ r. ⌜ r ≡ pauseStateOf n ⌝ }
+{
+    match n {
+        0 => PauseState::NotPaused,
+        1 => PauseState::Pending,
+        2 => PauseState::Paused,
+        _ => PauseState::Resetting,
+    }
+}
+
+pub fn pause_state_number(p: PauseState) -> u8
+    ensures { λ r. ⌜ r ≡ pauseStateNumber p ⌝ }
+{
+    match p {
+        PauseState::NotPaused => 0,
+        PauseState::Pending => 1,
+        PauseState::Paused => 2,
+        PauseState::Resetting => 3,
+    }
+}

@@ -1,0 +1,232 @@
+-- The ways out of the scheduler's functions, over plain values: a callee's result is a variable, what it ensures a hypothesis. Assumes nothing.
+use mathlib.Core.Path.{_≡_, sym, _∙_}
+use mathlib.Core.Bool.{Bool, true, false}
+use mathlib.Core.List.{List}
+use Prim.Native.Nat.{ℕ, suc, _+_, _-_, _*_, _/_, _≤_, _<_, min, max}
+use native.Mathlib.Nat.{div-one, sub-zero}
+use native.Mathlib.Numerals.{add-one}
+use native.Mathlib.Omega.{arith}
+use borrow.Author.Tests.{lt-ltb, le-ltb, le-leb, lt-leb, eq-eqb, ne-eqb}
+use Rattle.queue_model.specs.Scheduler.{cost, saturating}
+use Rattle.queue_model.specs.Types.{weighted}
+use Rattle.queue_words.specs.Active.{activeAt, putActive, parametersOf, parametersWord}
+use Rattle.queue_words.specs.Header.{optionsAt, schedulerAt, putScheduler}
+use Rattle.queue_words.specs.declared.active.ActiveStreamInfo.{ActiveStreamInfo}
+use Rattle.queue_words.specs.declared.active.SchedulingParameters.{SchedulingParameters}
+use Rattle.queue_words.specs.declared.active.SchedulingParameters.the-variants.{RoundRobin, WeightedFairQueuing}
+use Rattle.queue_words.specs.declared.header.Options.{Options}
+use Rattle.queue_words.specs.declared.header.SchedulerState.{SchedulerState}
+use Rattle.stream_scheduler.specs.Rows.{advanced, scheduledRow, seekFrom, seek, bestOf, better, bestTo}
+use Rattle.stream_scheduler.specs.Words.{outcome, currentRow, peekAmong, peekWords, forgotten, rested, stateOf, droppedRow, takenOut, removeStream, setIn, setBytesRemaining, rememberedWord, acceptRow, acceptAt}
+use Rattle.stream_scheduler.specs.declared.Best.{Best}
+use Rattle.stream_scheduler.specs.declared.Peeked.the-variants.{At, Nothing, Broken}
+
+-- ------------------------------------------------------------------ cost and times
+
+module _ (w bytes whole : ℕ) (e : whole ≡ saturating (bytes * 1000000)) where
+  pub cost-zero : w ≡ 0 → whole ≡ cost (weighted w) bytes
+  unfolding cost
+  cost-zero z = rw (z, div-one, e)
+
+  pub cost-some : (w ≡ 0 → ⊥) → whole / w ≡ cost (weighted w) bytes
+  unfolding cost
+  cost-some z =
+      let m : max w 1 ≡ w = omega arith in
+      rw (m, e)
+
+module _ (w start bytes r : ℕ) (p : SchedulingParameters) (ep : p ≡ parametersOf w) where
+  pub advanced-one : p ≡ RoundRobin → r ≡ saturating (start + 1) → r ≡ advanced w start bytes
+  unfolding advanced cost
+  advanced-one ev er = rw (← ep, ev, er)
+
+  pub advanced-weighted : (v x : ℕ) → p ≡ WeightedFairQueuing v → x ≡ cost (weighted v) bytes → r ≡ saturating (start + x) → r ≡ advanced w start bytes
+  unfolding advanced
+  advanced-weighted v x ev ex er = rw (← ep, ev, er, ex)
+
+pub chunk-row : (limit id w start bytes chunk finish : ℕ) → chunk ≡ min bytes limit → finish ≡ advanced w start chunk
+    → _≡_ {A = ActiveStreamInfo} (record {
+      «stream_id» = record { 0 = id };
+      parameters = w;
+      «virtual_start_time» = start;
+      «virtual_finish_time» = finish;
+      «bytes_remaining» = bytes;
+    }) (scheduledRow limit id w start bytes)
+chunk-row limit id w start bytes chunk finish ec ef = rw (ef, ec)
+
+-- ------------------------------------------------------------------ the search for a stream's row
+
+module _ (ws : List ℕ) (id n : ℕ) where
+  pub seek-start : seek ws id n ≡ seekFrom ws id 0 (n - 0)
+  unfolding seek
+  seek-start = rw sub-zero
+
+  module _ (i : ℕ) (inv : seek ws id n ≡ seekFrom ws id i (n - i)) where
+    module _ (h : i < n) (a : ActiveStreamInfo) (ea : a ≡ activeAt ws i) where
+      pub seek-here : a .«stream_id» .0 ≡ id → i ≡ seek ws id n
+      unfolding seekFrom
+      seek-here e =
+          let s : n - i ≡ suc (n - (i + 1)) = omega arith in
+          sym (inv ∙ rw (s, ← ea, eq-eqb _ _ e))
+
+      pub seek-next : (a .«stream_id» .0 ≡ id → ⊥) → seek ws id n ≡ seekFrom ws id (i + 1) (n - (i + 1))
+      unfolding seekFrom
+      seek-next e =
+          let s : n - i ≡ suc (n - (i + 1)) = omega arith in
+          inv ∙ rw (s, ← ea, ne-eqb _ _ e, add-one)
+
+    pub seek-end : i ≤ n → n ≤ i → n ≡ seek ws id n
+    unfolding seekFrom
+    seek-end l g =
+        let s : n - i ≡ 0 = omega arith in
+        let z : i ≡ n = omega arith in
+        sym (inv ∙ rw (s, z))
+
+-- ------------------------------------------------------------------ the search for the least row
+
+module _ (a b : Best) where
+  pub better-finish : b .finish < a .finish → b ≡ better a b
+  unfolding better
+  better-finish h = rw (lt-ltb _ _ h)
+
+  pub better-kept : a .finish < b .finish → a ≡ better a b
+  unfolding better
+  better-kept h =
+      let l : a .finish ≤ b .finish = omega arith in
+      let ne : b .finish ≡ a .finish → ⊥ = λ e. omega arith in
+      rw (le-ltb _ _ l, ne-eqb _ _ ne)
+
+  module _ (l : a .finish ≤ b .finish) (g : b .finish ≤ a .finish) where
+    pub better-id : b .id < a .id → b ≡ better a b
+    unfolding better
+    better-id h =
+        let e : b .finish ≡ a .finish = omega arith in
+        rw (le-ltb _ _ l, eq-eqb _ _ e, lt-ltb _ _ h)
+
+    pub better-same : a .id ≤ b .id → a ≡ better a b
+    unfolding better
+    better-same h =
+        let e : b .finish ≡ a .finish = omega arith in
+        rw (le-ltb _ _ l, eq-eqb _ _ e, le-ltb _ _ h)
+
+pub least-first : (ws : List ℕ) (b : Best) → b ≡ bestOf ws 0 → b ≡ bestTo ws 0
+unfolding bestTo
+least-first ws b e = e
+
+pub least-next : (ws : List ℕ) (i : ℕ) (b next c : Best) → b ≡ bestTo ws i → next ≡ bestOf ws (i + 1) → c ≡ better b next → c ≡ bestTo ws (i + 1)
+unfolding bestTo
+least-next ws i b next c eb en ec = rw (ec, en, eb, add-one)
+
+pub least-end : (ws : List ℕ) (i n : ℕ) (b : Best) → b ≡ bestTo ws i → i < n → n ≤ i + 1 → b ≡ bestTo ws (n - 1)
+least-end ws i n b e l g =
+    let z : n - 1 ≡ i = omega arith in
+    rw (z, e)
+
+-- ------------------------------------------------------------------ the choice
+
+module _ (ws : List ℕ) (n c : ℕ) where
+  pub current-sought : (r : ℕ) → c < 65536 → r ≡ seek ws c n → r ≡ currentRow ws n c
+  unfolding currentRow
+  current-sought r h e = rw (lt-ltb _ _ h, e)
+
+  pub current-none : 65536 ≤ c → n ≡ currentRow ws n c
+  unfolding currentRow
+  current-none h = rw (le-ltb _ _ h)
+
+module _ (ws : List ℕ) (s : SchedulerState) (es : s ≡ schedulerAt ws) where
+  pub peek-broken : 256 < s .active → Broken ≡ peekWords ws
+  unfolding peekWords
+  peek-broken h = rw (← es, lt-ltb _ _ h)
+
+  pub peek-nothing : s .active ≤ 256 → s .active ≡ 0 → Nothing ≡ peekWords ws
+  unfolding peekWords
+  peek-nothing h z = rw (← es, le-ltb _ _ h, eq-eqb _ _ z)
+
+  module _ (h : s .active ≤ 256) (z : s .active ≡ 0 → ⊥) (i : ℕ) (ei : i ≡ currentRow ws (s .active) (s .current)) where
+    pub peek-current : i < s .active → At i ≡ peekWords ws
+    unfolding peekWords peekAmong
+    peek-current l = rw (← es, le-ltb _ _ h, ne-eqb _ _ z, ← ei, lt-ltb _ _ l)
+
+    pub peek-least : (b : Best) → s .active ≤ i → b ≡ bestTo ws (s .active - 1) → At (b .at) ≡ peekWords ws
+    unfolding peekWords peekAmong
+    peek-least b g eb = rw (← es, le-ltb _ _ h, ne-eqb _ _ z, ← ei, le-ltb _ _ g, eb)
+
+-- ------------------------------------------------------------------ taking a row out
+
+pub row-dropped : (ws : List ℕ) (at c t n : ℕ) (last : ActiveStreamInfo) (rest : ℕ) (l m : List ℕ) → last ≡ activeAt ws (n - 1) → rest ≡ rested t (n - 1)
+    → l ≡ putActive ws at last → m ≡ putScheduler l (stateOf c rest (n - 1)) → m ≡ droppedRow ws at c t n
+unfolding droppedRow
+row-dropped ws at c t n last rest l m ea er el em = rw (em, el, ea, er)
+
+module _ (ws : List ℕ) (id at n : ℕ) (s : SchedulerState) (es : s ≡ schedulerAt ws) (c : ℕ) (ec : c ≡ forgotten (s .current) id) where
+  pub taken-row : (l : List ℕ) → at < n → l ≡ droppedRow ws at c (s .«system_virtual_time») n → l ≡ takenOut ws id at n
+  unfolding takenOut
+  taken-row l h el = rw (← es, lt-ltb _ _ h, el, ec)
+
+  pub taken-none : (rest : ℕ) (l : List ℕ) → n ≤ at → rest ≡ rested (s .«system_virtual_time») n → l ≡ putScheduler ws (stateOf c rest n) → l ≡ takenOut ws id at n
+  unfolding takenOut
+  taken-none rest l h er el = rw (← es, le-ltb _ _ h, el, er, ec)
+
+module _ (ws : List ℕ) (id : ℕ) (s : SchedulerState) (es : s ≡ schedulerAt ws) where
+  pub remove-broken : 256 < s .active → outcome false ws ≡ removeStream ws id
+  unfolding removeStream
+  remove-broken h = rw (← es, lt-ltb _ _ h)
+
+  pub remove-done : (at : ℕ) (l : List ℕ) → s .active ≤ 256 → at ≡ seek ws id (s .active) → l ≡ takenOut ws id at (s .active) → outcome true l ≡ removeStream ws id
+  unfolding removeStream
+  remove-done at l h ea el = rw (← es, le-ltb _ _ h, el, ea)
+
+-- ------------------------------------------------------------------ setting a row
+
+module _ (ws : List ℕ) (id bytes w at n : ℕ) (o : Options) (eo : o ≡ optionsAt ws) where
+  pub set-old : (a row : ActiveStreamInfo) (l : List ℕ) → at < n → a ≡ activeAt ws at → row ≡ scheduledRow (o .«payload_limit») id w (a .«virtual_start_time») bytes
+      → l ≡ putActive ws at row → outcome true l ≡ setIn ws id bytes w at n
+  unfolding setIn
+  set-old a row l h ea er el = rw (← eo, lt-ltb _ _ h, el, er, ea)
+
+  pub set-new : (s : SchedulerState) (row : ActiveStreamInfo) (l m : List ℕ) → n ≤ at → n < 256 → s ≡ schedulerAt ws
+      → row ≡ scheduledRow (o .«payload_limit») id w (s .«system_virtual_time») bytes → l ≡ putActive ws n row
+      → m ≡ putScheduler l (stateOf (s .current) (s .«system_virtual_time») (n + 1)) → outcome true m ≡ setIn ws id bytes w at n
+  unfolding setIn
+  set-new s row l m h f es er el em = rw (← eo, ← es, le-ltb _ _ h, lt-ltb _ _ f, em, el, er)
+
+  pub set-full : n ≤ at → 256 ≤ n → outcome false ws ≡ setIn ws id bytes w at n
+  unfolding setIn
+  set-full h f = rw (le-ltb _ _ h, le-ltb _ _ f)
+
+module _ (ws : List ℕ) (id bytes : ℕ) (p : SchedulingParameters) (s : SchedulerState) (es : s ≡ schedulerAt ws) where
+  pub bytes-broken : 256 < s .active → outcome false ws ≡ setBytesRemaining ws id bytes p
+  unfolding setBytesRemaining
+  bytes-broken h = rw (← es, lt-ltb _ _ h)
+
+  module _ (at : ℕ) (l : List ℕ) (h : s .active ≤ 256) (ea : at ≡ seek ws id (s .active)) where
+    pub bytes-none : bytes ≡ 0 → l ≡ takenOut ws id at (s .active) → outcome true l ≡ setBytesRemaining ws id bytes p
+    unfolding setBytesRemaining
+    bytes-none z el = rw (← es, le-ltb _ _ h, eq-eqb _ _ z, el, ea)
+
+    pub bytes-some : (w : ℕ) (r : Bool) → (bytes ≡ 0 → ⊥) → w ≡ parametersWord p → outcome r l ≡ setIn ws id bytes w at (s .active)
+        → outcome r l ≡ setBytesRemaining ws id bytes p
+    unfolding setBytesRemaining
+    bytes-some w r z ew el = rw (← es, le-ltb _ _ h, ne-eqb _ _ z, ← ew, ← ea) el
+
+-- ------------------------------------------------------------------ handing out
+
+module _ (ws : List ℕ) (at bytes : ℕ) (s : SchedulerState) (es : s ≡ schedulerAt ws) where
+  pub accept-broken : 256 < s .active → outcome false ws ≡ acceptAt ws at bytes
+  unfolding acceptAt
+  accept-broken h = rw (← es, lt-ltb _ _ h)
+
+  module _ (h : s .active ≤ 256) where
+    pub accept-no-row : s .active ≤ at → outcome false ws ≡ acceptAt ws at bytes
+    unfolding acceptAt
+    accept-no-row g = rw (← es, le-ltb _ _ h, le-leb _ _ g)
+
+    module _ (f : at < s .active) (a : ActiveStreamInfo) (ea : a ≡ activeAt ws at) (t : ℕ) (et : t ≡ advanced (a .parameters) (a .«virtual_start_time») bytes) where
+      pub accept-last : (l : List ℕ) → a .«bytes_remaining» ≤ bytes → l ≡ droppedRow ws at 65536 t (s .active) → outcome true l ≡ acceptAt ws at bytes
+      unfolding acceptAt acceptRow
+      accept-last l g el = rw (← es, le-ltb _ _ h, lt-leb _ _ f, ← ea, le-leb _ _ g, el, et)
+
+      pub accept-part : (o : Options) (row : ActiveStreamInfo) (c : ℕ) (l m : List ℕ) → bytes < a .«bytes_remaining» → o ≡ optionsAt ws
+          → row ≡ scheduledRow (o .«payload_limit») (a .«stream_id» .0) (a .parameters) t (a .«bytes_remaining» - bytes) → l ≡ putActive ws at row
+          → c ≡ rememberedWord (a .«stream_id» .0) (a .parameters) → m ≡ putScheduler l (stateOf c t (s .active)) → outcome true m ≡ acceptAt ws at bytes
+      unfolding acceptAt acceptRow
+      accept-part o row c l m g eo er el ec em = rw (← es, le-ltb _ _ h, lt-leb _ _ f, ← ea, lt-leb _ _ g, ← eo, em, el, er, ec, et)

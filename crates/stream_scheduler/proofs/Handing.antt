@@ -1,0 +1,262 @@
+-- From good words `accept` leaves good words that stand for the model's, and `peek` chooses what the model chooses. Assumes nothing.
+use mathlib.Core.Path.{_≡_, refl, sym, ap, ap₂, _∙_, subst}
+use mathlib.Core.Bool.{Bool, true, false}
+use mathlib.Core.List.{List, [], _∷_}
+use mathlib.Core.Option.{Option, none, some}
+use Prim.Native.Nat.{ℕ, zero, suc, _+_, _-_, _≤_, _<_}
+use native.Mathlib.Omega.{arith}
+use lib.Dec.{eqb, ltb, leb}
+use Rattle.queue_model.specs.Logic.{if_then_else_}
+use Rattle.queue_model.specs.Types.{Weight, round-robin, weighted, Active, Scheduler}
+use Rattle.queue_model.specs.Scheduler.{moved, scheduled, find-active, put-active, without-active, forget, rest-time, remove-stream, least-of, remembered, or-else, peek, remember, accept-last, accept-part, accept}
+use Rattle.queue_model.proofs.Tests.{Tri, ltb-true, ltb-false, leb-true, leb-false, eqb-true, eqb-false, less, same, more, tri}
+use Rattle.queue_words.specs.Active.{activeAt, putActive, FitsActive}
+use Rattle.queue_words.specs.Header.{optionsAt, schedulerAt, putScheduler}
+use Rattle.queue_words.specs.declared.active.ActiveStreamInfo.{ActiveStreamInfo}
+use Rattle.queue_words.specs.declared.header.Options.{Options}
+use Rattle.queue_words.specs.declared.header.SchedulerState.{SchedulerState}
+use Rattle.queue_words.proofs.Laws.{active-at-fits, scheduler-at-put, options-put-active, options-put-scheduler, whole-put-active, whole-put-scheduler}
+use Rattle.stream_scheduler.specs.declared.Peeked.{Peeked}
+use Rattle.stream_scheduler.specs.declared.Peeked.the-variants.{At, Nothing, Broken}
+use Rattle.queue_words.specs.declared.active.SchedulingParameters.the-variants.{RoundRobin, WeightedFairQueuing}
+use Rattle.stream_scheduler.specs.Rows.{weightOf, weightAt, advanced, scheduledRow, seek, bestTo}
+use Rattle.stream_scheduler.specs.Words.{Outcome, outcome, currentRow, peekAmong, peekWords, stateOf, droppedRow, rememberedWord, partRow, acceptRow, acceptAt}
+use Rattle.stream_scheduler.specs.Link.{entryOf, entryAt, tableOf, currentOf, modelScheduler, Unlike, GoodScheduler}
+use Rattle.stream_scheduler.proofs.Index.{table-nil, table-at, table-none, table-set, unlike-same, table-least}
+use Rattle.stream_scheduler.proofs.Search.{Sought, hit, miss, sought, best-is}
+use Rattle.stream_scheduler.proofs.Link.{make, model-of, entry-put, entry-put-other, entry-state, entry-row, id-fits, current-some, current-none, forget-own, dropped-good, dropped-model, none-there, some-there, count, Steps, scheduled-row}
+
+-- ---- accept
+
+moved-is : (ws : List ℕ) (at bytes : ℕ) → moved (entryAt ws at) bytes ≡ advanced ((activeAt ws at) .parameters) ((activeAt ws at) .«virtual_start_time») bytes
+unfolding moved advanced entryAt
+moved-is ws at bytes = refl
+
+last-is : (ws : List ℕ) (a : Active) (bytes : ℕ) → accept-last a bytes (modelScheduler ws) ≡
+    make ((optionsAt ws) .«payload_limit») (forget (a .stream-id) (some (a .stream-id))) (rest-time (moved a bytes) (without-active (a .stream-id) (tableOf (entryAt ws) ((schedulerAt ws) .active)))) (without-active (a .stream-id) (tableOf (entryAt ws) ((schedulerAt ws) .active)))
+unfolding accept-last remove-stream modelScheduler
+last-is ws a bytes = refl
+
+part-is : (ws : List ℕ) (a : Active) (bytes : ℕ) → accept-part a bytes (modelScheduler ws) ≡
+    make ((optionsAt ws) .«payload_limit») (remember (a .stream-id) (a .weight)) (moved a bytes) (put-active (scheduled ((optionsAt ws) .«payload_limit») (a .stream-id) (a .weight) (moved a bytes) (a .bytes-remaining - bytes)) (tableOf (entryAt ws) ((schedulerAt ws) .active)))
+unfolding accept-part modelScheduler
+part-is ws a bytes = refl
+
+-- The word of the remembered stream, by the weight.
+remember-weighted : (id w : ℕ) → w < 65536 → currentOf (rememberedWord id w) ≡ remember id (weightAt w)
+unfolding remember
+remember-weighted id w h =
+    ap (λ (b : Bool). currentOf (if b then 65536 else id)) (ltb-true h) ∙ current-none 65536 (omega arith)
+    ∙ ap (λ (b : Bool). remember id (weightOf (if b then WeightedFairQueuing w else RoundRobin))) (sym (ltb-true h))
+
+remember-turns : (id w : ℕ) → id < 65536 → 65536 ≤ w → currentOf (rememberedWord id w) ≡ remember id (weightAt w)
+unfolding remember
+remember-turns id w f h =
+    ap (λ (b : Bool). currentOf (if b then 65536 else id)) (ltb-false h) ∙ current-some id f
+    ∙ ap (λ (b : Bool). remember id (weightOf (if b then WeightedFairQueuing w else RoundRobin))) (sym (ltb-false h))
+
+remember-word : (id w : ℕ) → id < 65536 → currentOf (rememberedWord id w) ≡ remember id (weightAt w)
+remember-word id w f = elim (tri w 65536) [
+  | less l ↦ remember-weighted id w l
+  | same e ↦ remember-turns id w f (omega arith)
+  | more l ↦ remember-turns id w f (omega arith)
+]
+
+module _ (ws : List ℕ) (g : GoodScheduler ws) (at bytes : ℕ) (h : at < (schedulerAt ws) .active) where
+  abbrev row : ActiveStreamInfo
+  row = activeAt ws at
+
+  abbrev time : ℕ
+  time = advanced ((activeAt ws at) .parameters) ((activeAt ws at) .«virtual_start_time») bytes
+
+  accept-last-link : Steps ws (outcome true (droppedRow ws at 65536 time ((schedulerAt ws) .active))) (accept-last (entryAt ws at) bytes (modelScheduler ws))
+  accept-last-link = elim (count ((schedulerAt ws) .active)) [
+    | none-there z ↦ absurd (omega arith)
+    | some-there m z ↦ (let h′ : at < suc m = subst (λ (x : ℕ). at < x) z h in
+        let l : ℕ = (optionsAt ws) .«payload_limit» in
+        let id : ℕ = (entryAt ws at) .stream-id in
+        let q : droppedRow ws at 65536 time ((schedulerAt ws) .active) ≡ droppedRow ws at 65536 time (suc m) = ap (droppedRow ws at 65536 time) z in
+        record {
+          step-done = refl;
+          step-good = subst GoodScheduler (sym q) (dropped-good ws g at m 65536 time h′ z);
+          step-model = ap modelScheduler q ∙ dropped-model ws g at m 65536 time h′ z
+              ∙ ap₂ (λ (x : Option ℕ) (y : ℕ). make l x (rest-time time (without-active id (tableOf (entryAt ws) y))) (without-active id (tableOf (entryAt ws) y))) (current-none 65536 (omega arith) ∙ sym (forget-own id)) (sym z)
+              ∙ ap (λ (x : ℕ). make l (forget id (some id)) (rest-time x (without-active id (tableOf (entryAt ws) ((schedulerAt ws) .active)))) (without-active id (tableOf (entryAt ws) ((schedulerAt ws) .active)))) (sym (moved-is ws at bytes))
+              ∙ sym (last-is ws (entryAt ws at) bytes);
+        })
+  ]
+
+  abbrev part : ActiveStreamInfo
+  part = partRow ws (activeAt ws at) time bytes
+
+  part-fits : FitsActive part
+  part-fits = let f = active-at-fits ws at in record { stream-id-fits = f .stream-id-fits; parameters-fits = f .parameters-fits }
+
+  part-entry : entryOf part ≡ scheduled ((optionsAt ws) .«payload_limit») ((entryAt ws at) .stream-id) ((entryAt ws at) .weight) (moved (entryAt ws at) bytes) ((entryAt ws at) .bytes-remaining - bytes)
+  unfolding entryAt
+  part-entry =
+      scheduled-row ((optionsAt ws) .«payload_limit») ((activeAt ws at) .«stream_id» .0) ((activeAt ws at) .parameters) time ((activeAt ws at) .«bytes_remaining» - bytes)
+      ∙ ap (λ (t : ℕ). scheduled ((optionsAt ws) .«payload_limit») ((activeAt ws at) .«stream_id» .0) (weightAt ((activeAt ws at) .parameters)) t ((activeAt ws at) .«bytes_remaining» - bytes)) (sym (moved-is ws at bytes))
+
+  part-current : currentOf (rememberedWord ((activeAt ws at) .«stream_id» .0) ((activeAt ws at) .parameters)) ≡ remember ((entryAt ws at) .stream-id) ((entryAt ws at) .weight)
+  unfolding entryAt
+  part-current = remember-word ((activeAt ws at) .«stream_id» .0) ((activeAt ws at) .parameters) ((active-at-fits ws at) .stream-id-fits)
+
+  part-id : part .«stream_id» .0 ≡ (entryAt ws at) .stream-id
+  unfolding entryAt
+  part-id = refl
+
+  accept-part-link : Steps ws (outcome true (putScheduler (putActive ws at part) (stateOf (rememberedWord ((activeAt ws at) .«stream_id» .0) ((activeAt ws at) .parameters)) time ((schedulerAt ws) .active)))) (accept-part (entryAt ws at) bytes (modelScheduler ws))
+  accept-part-link =
+      let s : SchedulerState = schedulerAt ws in
+      let l : ℕ = (optionsAt ws) .«payload_limit» in
+      let few : s .active ≤ 256 = g .few in
+      let us : List ℕ = putActive ws at part in
+      let v : SchedulerState = stateOf (rememberedWord ((activeAt ws at) .«stream_id» .0) ((activeAt ws at) .parameters)) time (s .active) in
+      let ws′ : List ℕ = putScheduler us v in
+      let ev : schedulerAt ws′ ≡ v = scheduler-at-put us v (whole-put-active ws at part ∙ g .long) in
+      let here : entryAt ws′ at ≡ entryOf part = entry-state us v at ∙ entry-put ws at part (g .long) (omega arith) part-fits in
+      let there : (j : ℕ) → (at ≡ j → ⊥) → entryAt ws′ j ≡ entryAt ws j = λ j ne. entry-state us v j ∙ entry-put-other ws at part j ne in
+      let et : tableOf (entryAt ws′) (s .active) ≡ put-active (entryOf part) (tableOf (entryAt ws) (s .active)) = table-set (entryAt ws) (entryAt ws′) (s .active) at (entryOf part) (g .unlike) h part-id here there in
+      let ids : (j : ℕ) → (entryAt ws′ j) .stream-id ≡ (entryAt ws j) .stream-id = λ j. elim (tri at j) [
+        | less o ↦ ap (λ (x : Active). x .stream-id) (there j (λ f. omega arith))
+        | same f ↦ subst (λ (k : ℕ). (entryAt ws′ k) .stream-id ≡ (entryAt ws k) .stream-id) f (ap (λ (x : Active). x .stream-id) here ∙ part-id)
+        | more o ↦ ap (λ (x : Active). x .stream-id) (there j (λ f. omega arith))
+      ] in
+      record {
+        step-done = refl;
+        step-good = record {
+          long = whole-put-scheduler us v ∙ whole-put-active ws at part ∙ g .long;
+          few = subst (λ (x : SchedulerState). x .active ≤ 256) (sym ev) (g .few);
+          unlike = subst (λ (x : SchedulerState). Unlike (entryAt ws′) (x .active)) (sym ev) (unlike-same (entryAt ws) (entryAt ws′) (s .active) (λ j o. ids j) (g .unlike));
+        };
+        step-model =
+            model-of ws′ l v (put-active (entryOf part) (tableOf (entryAt ws) (s .active))) (ap (λ (o : Options). o .«payload_limit») (options-put-scheduler us v ∙ options-put-active ws at part)) ev et
+            ∙ ap₂ (λ (c : Option ℕ) (t : ℕ). make l c t (put-active (entryOf part) (tableOf (entryAt ws) (s .active)))) part-current (sym (moved-is ws at bytes))
+            ∙ ap (λ (a : Active). make l (remember ((entryAt ws at) .stream-id) ((entryAt ws at) .weight)) (moved (entryAt ws at) bytes) (put-active a (tableOf (entryAt ws) (s .active)))) part-entry
+            ∙ sym (part-is ws (entryAt ws at) bytes);
+      }
+
+  same-size : (entryAt ws at) .bytes-remaining ≡ (activeAt ws at) .«bytes_remaining»
+  unfolding entryAt
+  same-size = refl
+
+  by-size : (b : Bool) → leb ((activeAt ws at) .«bytes_remaining») bytes ≡ b
+      → Steps ws (outcome true (if b then droppedRow ws at 65536 time ((schedulerAt ws) .active) else putScheduler (putActive ws at part) (stateOf (rememberedWord ((activeAt ws at) .«stream_id» .0) ((activeAt ws at) .parameters)) time ((schedulerAt ws) .active))))
+      (if b then accept-last (entryAt ws at) bytes (modelScheduler ws) else accept-part (entryAt ws at) bytes (modelScheduler ws))
+  by-size true e = accept-last-link
+  by-size false e = accept-part-link
+
+  accept-is : accept (entryAt ws at) bytes (modelScheduler ws) ≡ (if leb ((activeAt ws at) .«bytes_remaining») bytes then accept-last (entryAt ws at) bytes (modelScheduler ws) else accept-part (entryAt ws at) bytes (modelScheduler ws))
+  unfolding accept
+  accept-is = ap (λ (x : ℕ). if leb x bytes then accept-last (entryAt ws at) bytes (modelScheduler ws) else accept-part (entryAt ws at) bytes (modelScheduler ws)) same-size
+
+  pub accept-link : Steps ws (acceptAt ws at bytes) (accept (entryAt ws at) bytes (modelScheduler ws))
+  unfolding acceptAt acceptRow
+  accept-link =
+      let n : ℕ = (schedulerAt ws) .active in
+      subst (λ (b : Bool). Steps ws (if b then outcome false ws else if leb n at then outcome false ws else outcome true (acceptRow ws at bytes n)) (accept (entryAt ws at) bytes (modelScheduler ws))) (sym (ltb-false (g .few)))
+      (subst (λ (b : Bool). Steps ws (if b then outcome false ws else outcome true (acceptRow ws at bytes n)) (accept (entryAt ws at) bytes (modelScheduler ws))) (sym (leb-false h))
+      (subst (Steps ws (outcome true (acceptRow ws at bytes n))) (sym accept-is) (by-size (leb ((activeAt ws at) .«bytes_remaining») bytes) refl)))
+
+-- ---- peek
+
+-- What a choice on the words says of the model's.
+pub data Chooses (ws : List ℕ) (x : Option Active) : Peeked → Type 0 where
+  row-chosen : (i : ℕ) → i < (schedulerAt ws) .active → x ≡ some (entryAt ws i) → Chooses ws x (At i)
+  none-chosen : x ≡ none → Chooses ws x Nothing
+
+module _ (ws : List ℕ) (g : GoodScheduler ws) where
+  remembered-some : (c : ℕ) → remembered (some c) (tableOf (entryAt ws) ((schedulerAt ws) .active)) ≡ find-active c (tableOf (entryAt ws) ((schedulerAt ws) .active))
+  unfolding remembered
+  remembered-some c = refl
+
+  remembered-none : remembered none (tableOf (entryAt ws) ((schedulerAt ws) .active)) ≡ none
+  unfolding remembered
+  remembered-none = refl
+
+  or-some : (a : Active) (o : Option Active) → or-else (some a) o ≡ some a
+  unfolding or-else
+  or-some a o = refl
+
+  or-none : (o : Option Active) → or-else none o ≡ o
+  unfolding or-else
+  or-none o = refl
+
+  peek-is : peek (modelScheduler ws) ≡ or-else (remembered (currentOf ((schedulerAt ws) .current)) (tableOf (entryAt ws) ((schedulerAt ws) .active))) (least-of (tableOf (entryAt ws) ((schedulerAt ws) .active)))
+  unfolding peek modelScheduler
+  peek-is = refl
+
+  least-nil : least-of [] ≡ none
+  unfolding least-of
+  least-nil = refl
+
+  -- No row: no stream is chosen.
+  peek-nothing : (schedulerAt ws) .active ≡ 0 → peek (modelScheduler ws) ≡ none
+  peek-nothing z =
+      let e : tableOf (entryAt ws) ((schedulerAt ws) .active) ≡ [] = ap (tableOf (entryAt ws)) z ∙ table-nil (entryAt ws) in
+      peek-is ∙ ap₂ or-else (nothing-remembered (currentOf ((schedulerAt ws) .current))) (ap least-of e ∙ least-nil) ∙ or-none none
+    where
+      nothing-remembered : (c : Option ℕ) → remembered c (tableOf (entryAt ws) ((schedulerAt ws) .active)) ≡ none
+      nothing-remembered none = remembered-none
+      nothing-remembered (some k) = remembered-some k ∙ table-none (entryAt ws) ((schedulerAt ws) .active) k (λ i h f. omega arith)
+
+  -- The remembered stream's row.
+  peek-current : (c i : ℕ) → (schedulerAt ws) .current ≡ c → c < 65536 → i < (schedulerAt ws) .active → (entryAt ws i) .stream-id ≡ c → peek (modelScheduler ws) ≡ some (entryAt ws i)
+  peek-current c i ec f h e =
+      let t : List Active = tableOf (entryAt ws) ((schedulerAt ws) .active) in
+      peek-is ∙ ap (λ (x : Option Active). or-else x (least-of t)) (ap (λ (x : ℕ). remembered (currentOf x) t) ec ∙ ap (λ (x : Option ℕ). remembered x t) (current-some c f) ∙ remembered-some c
+      ∙ ap (λ (k : ℕ). find-active k t) (sym e) ∙ table-at (entryAt ws) ((schedulerAt ws) .active) i (g .unlike) h) ∙ or-some (entryAt ws i) (least-of t)
+
+  -- The least row, where none is remembered that waits.
+  peek-least : (m : ℕ) → (schedulerAt ws) .active ≡ suc m → remembered (currentOf ((schedulerAt ws) .current)) (tableOf (entryAt ws) ((schedulerAt ws) .active)) ≡ none → peek (modelScheduler ws) ≡ some (entryAt ws ((bestTo ws m) .at))
+  peek-least m z r =
+      let b = best-is ws m in let o = b .best-in in
+      peek-is ∙ ap (λ (x : Option Active). or-else x (least-of (tableOf (entryAt ws) ((schedulerAt ws) .active)))) r ∙ or-none (least-of (tableOf (entryAt ws) ((schedulerAt ws) .active)))
+      ∙ table-least (entryAt ws) ((schedulerAt ws) .active) ((bestTo ws m) .at) (g .unlike) (omega arith) (λ j l. b .best-least j (omega arith))
+
+  among : (i : ℕ) → i < (schedulerAt ws) .active → peekAmong ws ((schedulerAt ws) .active) i ≡ At i
+  unfolding peekAmong
+  among i h = ap (λ (b : Bool). if b then At i else At ((bestTo ws ((schedulerAt ws) .active - 1)) .at)) (ltb-true h)
+
+  among-least : (i m : ℕ) → (schedulerAt ws) .active ≡ suc m → (schedulerAt ws) .active ≤ i → peekAmong ws ((schedulerAt ws) .active) i ≡ At ((bestTo ws m) .at)
+  unfolding peekAmong
+  among-least i m z h =
+      let k : (schedulerAt ws) .active - 1 ≡ m = omega arith in
+      ap (λ (b : Bool). if b then At i else At ((bestTo ws ((schedulerAt ws) .active - 1)) .at)) (ltb-false h) ∙ ap (λ (x : ℕ). At ((bestTo ws x) .at)) k
+
+  least-chosen : (i m : ℕ) → (schedulerAt ws) .active ≡ suc m → (schedulerAt ws) .active ≤ i → remembered (currentOf ((schedulerAt ws) .current)) (tableOf (entryAt ws) ((schedulerAt ws) .active)) ≡ none → Chooses ws (peek (modelScheduler ws)) (peekAmong ws ((schedulerAt ws) .active) i)
+  least-chosen i m z h r = let o = (best-is ws m) .best-in in subst (Chooses ws (peek (modelScheduler ws))) (sym (among-least i m z h)) (row-chosen ((bestTo ws m) .at) (omega arith) (peek-least m z r))
+
+  current-row-some : (c : ℕ) → c < 65536 → currentRow ws ((schedulerAt ws) .active) c ≡ seek ws c ((schedulerAt ws) .active)
+  unfolding currentRow
+  current-row-some c h = ap (λ (b : Bool). if b then seek ws c ((schedulerAt ws) .active) else (schedulerAt ws) .active) (ltb-true h)
+
+  current-row-none : (c : ℕ) → 65536 ≤ c → currentRow ws ((schedulerAt ws) .active) c ≡ (schedulerAt ws) .active
+  unfolding currentRow
+  current-row-none c h = ap (λ (b : Bool). if b then seek ws c ((schedulerAt ws) .active) else (schedulerAt ws) .active) (ltb-false h)
+
+  chooses-some : (m : ℕ) → (schedulerAt ws) .active ≡ suc m → (c : ℕ) → (schedulerAt ws) .current ≡ c → c < 65536 → (i : ℕ) → Sought ws c ((schedulerAt ws) .active) i → Chooses ws (peek (modelScheduler ws)) (peekAmong ws ((schedulerAt ws) .active) i)
+  chooses-some m z c ec f i (hit h e) = subst (Chooses ws (peek (modelScheduler ws))) (sym (among i h)) (row-chosen i h (peek-current c i ec f h e))
+  chooses-some m z c ec f i (miss k h) =
+      least-chosen i m z (omega arith) (ap (λ (x : ℕ). remembered (currentOf x) (tableOf (entryAt ws) ((schedulerAt ws) .active))) ec ∙ ap (λ (x : Option ℕ). remembered x (tableOf (entryAt ws) ((schedulerAt ws) .active))) (current-some c f) ∙ remembered-some c ∙ table-none (entryAt ws) ((schedulerAt ws) .active) c h)
+
+  chooses-none : (m : ℕ) → (schedulerAt ws) .active ≡ suc m → 65536 ≤ (schedulerAt ws) .current → Chooses ws (peek (modelScheduler ws)) (peekAmong ws ((schedulerAt ws) .active) ((schedulerAt ws) .active))
+  chooses-none m z h = least-chosen ((schedulerAt ws) .active) m z (omega arith) (ap (λ (x : Option ℕ). remembered x (tableOf (entryAt ws) ((schedulerAt ws) .active))) (current-none ((schedulerAt ws) .current) h) ∙ remembered-none)
+
+  by-current : (m : ℕ) → (schedulerAt ws) .active ≡ suc m → Chooses ws (peek (modelScheduler ws)) (peekAmong ws ((schedulerAt ws) .active) (currentRow ws ((schedulerAt ws) .active) ((schedulerAt ws) .current)))
+  by-current m z = elim (tri ((schedulerAt ws) .current) 65536) [
+    | less l ↦ subst (λ (i : ℕ). Chooses ws (peek (modelScheduler ws)) (peekAmong ws ((schedulerAt ws) .active) i)) (sym (current-row-some ((schedulerAt ws) .current) l)) (chooses-some m z ((schedulerAt ws) .current) refl l (seek ws ((schedulerAt ws) .current) ((schedulerAt ws) .active)) (sought ws ((schedulerAt ws) .current) ((schedulerAt ws) .active)))
+    | same e ↦ (let k : 65536 ≤ (schedulerAt ws) .current = omega arith in subst (λ (i : ℕ). Chooses ws (peek (modelScheduler ws)) (peekAmong ws ((schedulerAt ws) .active) i)) (sym (current-row-none ((schedulerAt ws) .current) k)) (chooses-none m z k))
+    | more l ↦ (let k : 65536 ≤ (schedulerAt ws) .current = omega arith in subst (λ (i : ℕ). Chooses ws (peek (modelScheduler ws)) (peekAmong ws ((schedulerAt ws) .active) i)) (sym (current-row-none ((schedulerAt ws) .current) k)) (chooses-none m z k))
+  ]
+
+  pub peek-link : Chooses ws (peek (modelScheduler ws)) (peekWords ws)
+  unfolding peekWords
+  peek-link =
+      let n : ℕ = (schedulerAt ws) .active in
+      subst (λ (b : Bool). Chooses ws (peek (modelScheduler ws)) (if b then Broken else if eqb n 0 then Nothing else peekAmong ws n (currentRow ws n ((schedulerAt ws) .current)))) (sym (ltb-false (g .few)))
+      (elim (count ((schedulerAt ws) .active)) [
+        | none-there z ↦ subst (λ (b : Bool). Chooses ws (peek (modelScheduler ws)) (if b then Nothing else peekAmong ws n (currentRow ws n ((schedulerAt ws) .current)))) (sym (eqb-true z)) (none-chosen (peek-nothing z))
+        | some-there m z ↦ (let ne : (schedulerAt ws) .active ≡ 0 → ⊥ = λ f. omega arith in subst (λ (b : Bool). Chooses ws (peek (modelScheduler ws)) (if b then Nothing else peekAmong ws n (currentRow ws n ((schedulerAt ws) .current)))) (sym (eqb-false ne)) (by-current m z))
+      ])

@@ -1,0 +1,6 @@
+-- What the proofs of several functions use. Assumes nothing.
+pub mod Exits
+pub mod Index
+pub mod Search
+pub mod Link
+pub mod Handing

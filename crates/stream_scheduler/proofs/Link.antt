@@ -1,0 +1,407 @@
+-- From good words each function of the scheduler leaves good words, which stand for what the model's function of that name makes. Assumes nothing.
+use mathlib.Core.Path.{_≡_, refl, sym, ap, ap₂, _∙_, subst}
+use mathlib.Core.Bool.{Bool, true, false}
+use mathlib.Core.List.{List, [], _∷_}
+use mathlib.Core.Option.{Option, none, some}
+use Prim.Native.Nat.{ℕ, zero, suc, _+_, _-_, _≤_, _<_}
+use native.Mathlib.Omega.{arith}
+use lib.Dec.{eqb, ltb, leb}
+use lib.ListN.{length}
+use Rattle.queue_model.specs.Logic.{if_then_else_}
+use Rattle.queue_model.specs.Table.{put}
+use Rattle.queue_model.specs.Types.{Weight, round-robin, weighted, Active, Scheduler}
+use Rattle.queue_model.specs.Scheduler.{saturating, cost, moved, scheduled, active-key, find-active, put-active, without-active, forget, rest-time, remove-stream, start-of, set-bytes-remaining, least-of, remembered, or-else, peek, remember, accept-last, accept-part, accept}
+use Rattle.queue_model.proofs.Tests.{Tri, ltb-true, ltb-false, leb-true, leb-false, eqb-true, eqb-false, less, same, more, tri}
+use Rattle.queue_model.proofs.Table.{put-later, put-here, put-before, put-end}
+use Rattle.queue_model.proofs.Scheduler.{set-none, set-some}
+use Rattle.queue_words.specs.Active.{activeAt, putActive, FitsActive, parametersOf, parametersWord}
+use Rattle.queue_words.specs.Header.{optionsAt, schedulerAt, putScheduler}
+use Rattle.queue_words.specs.declared.active.ActiveStreamInfo.{ActiveStreamInfo}
+use Rattle.queue_words.specs.declared.active.SchedulingParameters.{SchedulingParameters}
+use Rattle.queue_words.specs.declared.active.SchedulingParameters.the-variants.{RoundRobin, WeightedFairQueuing}
+use Rattle.queue_words.specs.declared.header.Options.{Options}
+use Rattle.queue_words.specs.declared.header.SchedulerState.{SchedulerState}
+use Rattle.queue_words.proofs.Laws.{active-at-fits, active-at-put, active-at-put-other, active-put-scheduler, scheduler-put-active, scheduler-at-put, options-put-active, options-put-scheduler, whole-put-active, whole-put-scheduler}
+use Rattle.stream_scheduler.specs.declared.Peeked.{Peeked}
+use Rattle.stream_scheduler.specs.declared.Peeked.the-variants.{At, Nothing, Broken}
+use Rattle.stream_scheduler.specs.Rows.{weightOf, weightAt, advanced, scheduledRow, seek, bestTo}
+use Rattle.stream_scheduler.specs.Words.{Outcome, outcome, currentRow, peekAmong, peekWords, forgotten, rested, stateOf, droppedRow, takenOut, removeStream, setIn, setBytesRemaining, rememberedWord, partRow, acceptRow, acceptAt}
+use Rattle.stream_scheduler.specs.Link.{entryOf, entryAt, tableOf, currentOf, modelScheduler, Unlike, GoodScheduler}
+use Rattle.stream_scheduler.proofs.Index.{table-nil, table-suc, table-at, table-none, table-same, table-set, table-add, unlike-same, unlike-add, unlike-drop, table-drop, table-without, table-least}
+use Rattle.stream_scheduler.proofs.Search.{Sought, hit, miss, sought, best-is}
+
+-- ---- the scheduler by its parts
+
+abbrev pub make : ℕ → Option ℕ → ℕ → List Active → Scheduler
+make l c t as′ = record { payload-limit = l; current = c; system-time = t; active = as′ }
+
+-- What the words stand for, from their state and their rows.
+pub model-of : (ws : List ℕ) (l : ℕ) (s : SchedulerState) (as′ : List Active) → (optionsAt ws) .«payload_limit» ≡ l → schedulerAt ws ≡ s → tableOf (entryAt ws) (s .active) ≡ as′ → modelScheduler ws ≡ make l (currentOf (s .current)) (s .«system_virtual_time») as′
+unfolding modelScheduler
+model-of ws l s as′ el es ea =
+    ap (λ (x : SchedulerState). make ((optionsAt ws) .«payload_limit») (currentOf (x .current)) (x .«system_virtual_time») (tableOf (entryAt ws) (x .active))) es
+    ∙ ap₂ (λ (x : ℕ) (y : List Active). make x (currentOf (s .current)) (s .«system_virtual_time») y) el ea
+
+model-parts : (ws : List ℕ) → modelScheduler ws ≡ make ((optionsAt ws) .«payload_limit») (currentOf ((schedulerAt ws) .current)) ((schedulerAt ws) .«system_virtual_time») (tableOf (entryAt ws) ((schedulerAt ws) .active))
+unfolding modelScheduler
+model-parts ws = refl
+
+-- ---- rows after a store
+
+pub entry-put : (ws : List ℕ) (i : ℕ) (a : ActiveStreamInfo) → length ws ≡ 20768 → i < 256 → FitsActive a → entryAt (putActive ws i a) i ≡ entryOf a
+unfolding entryAt
+entry-put ws i a l h f = ap entryOf (active-at-put ws i a l h f)
+
+pub entry-put-other : (ws : List ℕ) (i : ℕ) (a : ActiveStreamInfo) (j : ℕ) → (i ≡ j → ⊥) → entryAt (putActive ws i a) j ≡ entryAt ws j
+unfolding entryAt
+entry-put-other ws i a j n = ap entryOf (active-at-put-other ws i a j n)
+
+pub entry-state : (ws : List ℕ) (s : SchedulerState) (j : ℕ) → entryAt (putScheduler ws s) j ≡ entryAt ws j
+unfolding entryAt
+entry-state ws s j = ap entryOf (active-put-scheduler ws s j)
+
+pub entry-row : (ws : List ℕ) (i : ℕ) → entryAt ws i ≡ entryOf (activeAt ws i)
+unfolding entryAt
+entry-row ws i = refl
+
+-- ---- numbers
+
+pub id-fits : (ws : List ℕ) (i : ℕ) → (entryAt ws i) .stream-id < 65536
+unfolding entryAt
+id-fits ws i = (active-at-fits ws i) .stream-id-fits
+
+pub current-some : (c : ℕ) → c < 65536 → currentOf c ≡ some c
+unfolding currentOf
+current-some c h = ap (λ (b : Bool). if b then some c else none) (ltb-true h)
+
+pub current-none : (c : ℕ) → 65536 ≤ c → currentOf c ≡ none
+unfolding currentOf
+current-none c h = ap (λ (b : Bool). if b then some c else none) (ltb-false h)
+
+forget-some : (id c : ℕ) → (c ≡ id → ⊥) → forget id (some c) ≡ some c
+unfolding forget
+forget-some id c n = ap (λ (b : Bool). if b then none else some c) (eqb-false n)
+
+pub forget-own : (id : ℕ) → forget id (some id) ≡ none
+unfolding forget
+forget-own id = ap (λ (b : Bool). if b then none else some id) (eqb-true {a = id} refl)
+
+forget-none : (id : ℕ) → forget id none ≡ none
+unfolding forget
+forget-none id = refl
+
+forgotten-current : (c id : ℕ) → id < 65536 → currentOf (forgotten c id) ≡ forget id (currentOf c)
+forgotten-current c id h = elim (tri c id) [
+  | less l ↦ kept (λ e. omega arith)
+  | same e ↦ ap (λ (b : Bool). currentOf (if b then 65536 else c)) (eqb-true e) ∙ current-none 65536 (omega arith) ∙ sym (ap (λ (x : ℕ). forget id (currentOf x)) e ∙ ap (forget id) (current-some id h) ∙ forget-own id)
+  | more l ↦ kept (λ e. omega arith)
+]
+  where
+    kept : (c ≡ id → ⊥) → currentOf (forgotten c id) ≡ forget id (currentOf c)
+    kept n = ap (λ (b : Bool). currentOf (if b then 65536 else c)) (eqb-false n) ∙ (elim (tri c 65536) as (λ _. currentOf c ≡ forget id (currentOf c)) [
+      | less l ↦ current-some c l ∙ sym (ap (forget id) (current-some c l) ∙ forget-some id c n)
+      | same e ↦ (let g : 65536 ≤ c = omega arith in current-none c g ∙ sym (ap (forget id) (current-none c g) ∙ forget-none id))
+      | more l ↦ (let g : 65536 ≤ c = omega arith in current-none c g ∙ sym (ap (forget id) (current-none c g) ∙ forget-none id))
+    ])
+
+rest-put : (t : ℕ) (a : Active) (as′ : List Active) → rest-time t (put-active a as′) ≡ t
+unfolding rest-time
+rest-put t a [] = ap (rest-time t) (put-end active-key a)
+rest-put t a (b ∷ bs) = elim (tri (b .stream-id) (a .stream-id)) [
+  | less l ↦ ap (rest-time t) (put-later active-key a b bs l)
+  | same e ↦ ap (rest-time t) (put-here active-key a b bs e)
+  | more l ↦ ap (rest-time t) (put-before active-key a b bs l)
+]
+
+rest-nil : (t : ℕ) → rest-time t [] ≡ 0
+unfolding rest-time
+rest-nil t = refl
+
+rested-table : (t : ℕ) (e : ℕ → Active) (n : ℕ) → rested t n ≡ rest-time t (tableOf e n)
+rested-table t e zero = sym (ap (rest-time t) (table-nil e) ∙ rest-nil t)
+rested-table t e (suc n) = let z : suc n ≡ 0 → ⊥ = λ f. omega arith in ap (λ (b : Bool). if b then 0 else t) (eqb-false z) ∙ sym (ap (rest-time t) (table-suc e n) ∙ rest-put t (e n) (tableOf e n))
+
+-- ---- taking a row out
+
+module _ (ws : List ℕ) (g : GoodScheduler ws) where
+  -- The last row in the place of another, with a state of one row fewer.
+  module _ (at m c t : ℕ) (h : at < suc m) (en : (schedulerAt ws) .active ≡ suc m) where
+    unlike-n : Unlike (entryAt ws) (suc m)
+    unlike-n = subst (Unlike (entryAt ws)) en (g .unlike)
+
+    few-n : suc m ≤ 256
+    few-n = subst (λ (x : ℕ). x ≤ 256) en (g .few)
+
+    suc-less : suc m - 1 ≡ m
+    suc-less = omega arith
+
+    dropped-is : droppedRow ws at c t (suc m) ≡ putScheduler (putActive ws at (activeAt ws m)) (stateOf c (rested t m) m)
+    unfolding droppedRow
+    dropped-is = ap (λ (x : ℕ). putScheduler (putActive ws at (activeAt ws x)) (stateOf c (rested t x) x)) suc-less
+
+    here : entryAt (droppedRow ws at c t (suc m)) at ≡ entryAt ws m
+    here = ap (λ (x : List ℕ). entryAt x at) dropped-is ∙ entry-state (putActive ws at (activeAt ws m)) (stateOf c (rested t m) m) at
+        ∙ (let k = few-n in entry-put ws at (activeAt ws m) (g .long) (omega arith) (active-at-fits ws m)) ∙ sym (entry-row ws m)
+
+    there : (j : ℕ) → (at ≡ j → ⊥) → entryAt (droppedRow ws at c t (suc m)) j ≡ entryAt ws j
+    there j ne = ap (λ (x : List ℕ). entryAt x j) dropped-is ∙ entry-state (putActive ws at (activeAt ws m)) (stateOf c (rested t m) m) j ∙ entry-put-other ws at (activeAt ws m) j ne
+
+    state-is : schedulerAt (droppedRow ws at c t (suc m)) ≡ stateOf c (rested t m) m
+    state-is = ap schedulerAt dropped-is ∙ scheduler-at-put (putActive ws at (activeAt ws m)) (stateOf c (rested t m) m) (whole-put-active ws at (activeAt ws m) ∙ g .long)
+
+    pub dropped-good : GoodScheduler (droppedRow ws at c t (suc m))
+    dropped-good = let k = few-n in record {
+      long = ap length dropped-is ∙ whole-put-scheduler (putActive ws at (activeAt ws m)) (stateOf c (rested t m) m) ∙ whole-put-active ws at (activeAt ws m) ∙ g .long;
+      few = subst (λ (x : SchedulerState). x .active ≤ 256) (sym state-is) (omega arith);
+      unlike = subst (λ (x : SchedulerState). Unlike (entryAt (droppedRow ws at c t (suc m))) (x .active)) (sym state-is) (unlike-drop (entryAt ws) (entryAt (droppedRow ws at c t (suc m))) m at unlike-n h here there);
+    }
+
+    pub dropped-model : modelScheduler (droppedRow ws at c t (suc m)) ≡ make ((optionsAt ws) .«payload_limit») (currentOf c) (rest-time t (without-active ((entryAt ws at) .stream-id) (tableOf (entryAt ws) (suc m)))) (without-active ((entryAt ws at) .stream-id) (tableOf (entryAt ws) (suc m)))
+    dropped-model =
+        let e = table-drop (entryAt ws) (entryAt (droppedRow ws at c t (suc m))) m at unlike-n h here there in
+        model-of (droppedRow ws at c t (suc m)) ((optionsAt ws) .«payload_limit») (stateOf c (rested t m) m) (without-active ((entryAt ws at) .stream-id) (tableOf (entryAt ws) (suc m)))
+        (ap (λ (x : List ℕ). (optionsAt x) .«payload_limit») dropped-is ∙ ap (λ (o : Options). o .«payload_limit») (options-put-scheduler (putActive ws at (activeAt ws m)) (stateOf c (rested t m) m) ∙ options-put-active ws at (activeAt ws m)))
+        state-is e
+        ∙ ap (λ (x : ℕ). make ((optionsAt ws) .«payload_limit») (currentOf c) x (without-active ((entryAt ws at) .stream-id) (tableOf (entryAt ws) (suc m)))) (rested-table t (entryAt (droppedRow ws at c t (suc m))) m ∙ ap (rest-time t) e)
+
+-- A count is 0 or one more than another.
+pub data Count (n : ℕ) : Type 0 where
+  none-there : n ≡ 0 → Count n
+  some-there : (m : ℕ) → n ≡ suc m → Count n
+
+pub count : (n : ℕ) → Count n
+count zero = none-there refl
+count (suc m) = some-there m refl
+
+-- ---- what a function must show
+
+-- Done, good, and the model's step.
+pub record Steps (ws : List ℕ) (r : Outcome) (sc : Scheduler) : Type 0 where
+  pub step-done : r .done ≡ true
+  pub step-good : GoodScheduler (r .next)
+  pub step-model : modelScheduler (r .next) ≡ sc
+
+-- The scheduler that the words stand for, without a stream.
+removed : (ws : List ℕ) (id : ℕ) → remove-stream id (modelScheduler ws) ≡
+    make ((optionsAt ws) .«payload_limit») (forget id (currentOf ((schedulerAt ws) .current))) (rest-time ((schedulerAt ws) .«system_virtual_time») (without-active id (tableOf (entryAt ws) ((schedulerAt ws) .active)))) (without-active id (tableOf (entryAt ws) ((schedulerAt ws) .active)))
+unfolding remove-stream modelScheduler
+removed ws id = refl
+
+-- ---- remove_stream
+
+module _ (ws : List ℕ) (g : GoodScheduler ws) (id : ℕ) (fits : id < 65536) where
+  out-hit : (at : ℕ) → at < (schedulerAt ws) .active → (entryAt ws at) .stream-id ≡ id → takenOut ws id at ((schedulerAt ws) .active) ≡ droppedRow ws at (forgotten ((schedulerAt ws) .current) id) ((schedulerAt ws) .«system_virtual_time») ((schedulerAt ws) .active)
+  unfolding takenOut
+  out-hit at h e =
+      let s : SchedulerState = schedulerAt ws in
+      ap (λ (b : Bool). if b then droppedRow ws at (forgotten (s .current) id) (s .«system_virtual_time») (s .active) else putScheduler ws (stateOf (forgotten (s .current) id) (rested (s .«system_virtual_time») (s .active)) (s .active))) (ltb-true h)
+
+  out-miss : takenOut ws id ((schedulerAt ws) .active) ((schedulerAt ws) .active) ≡ putScheduler ws (stateOf (forgotten ((schedulerAt ws) .current) id) (rested ((schedulerAt ws) .«system_virtual_time») ((schedulerAt ws) .active)) ((schedulerAt ws) .active))
+  unfolding takenOut
+  out-miss =
+      let s : SchedulerState = schedulerAt ws in let k : s .active ≤ s .active = omega arith in
+      ap (λ (b : Bool). if b then droppedRow ws (s .active) (forgotten (s .current) id) (s .«system_virtual_time») (s .active) else putScheduler ws (stateOf (forgotten (s .current) id) (rested (s .«system_virtual_time») (s .active)) (s .active))) (ltb-false k)
+
+  -- A row that is there.
+  taken-hit : (at : ℕ) → at < (schedulerAt ws) .active → (entryAt ws at) .stream-id ≡ id → Steps ws (outcome true (takenOut ws id at ((schedulerAt ws) .active))) (remove-stream id (modelScheduler ws))
+  taken-hit at h e = elim (count ((schedulerAt ws) .active)) [
+    | none-there z ↦ absurd (omega arith)
+    | some-there m z ↦ (let s : SchedulerState = schedulerAt ws in
+        let c : ℕ = forgotten (s .current) id in
+        let h′ : at < suc m = subst (λ (x : ℕ). at < x) z h in
+        let q : takenOut ws id at (s .active) ≡ droppedRow ws at c (s .«system_virtual_time») (suc m) = out-hit at h e ∙ ap (droppedRow ws at c (s .«system_virtual_time»)) z in
+        record {
+          step-done = refl;
+          step-good = subst GoodScheduler (sym q) (dropped-good ws g at m c (s .«system_virtual_time») h′ z);
+          step-model = ap modelScheduler q ∙ dropped-model ws g at m c (s .«system_virtual_time») h′ z
+              ∙ ap (λ (x : ℕ). make ((optionsAt ws) .«payload_limit») (currentOf c) (rest-time (s .«system_virtual_time») (without-active x (tableOf (entryAt ws) (suc m)))) (without-active x (tableOf (entryAt ws) (suc m)))) e
+              ∙ ap₂ (λ (x : Option ℕ) (y : ℕ). make ((optionsAt ws) .«payload_limit») x (rest-time (s .«system_virtual_time») (without-active id (tableOf (entryAt ws) y))) (without-active id (tableOf (entryAt ws) y))) (forgotten-current (s .current) id fits) (sym z)
+              ∙ sym (removed ws id);
+        })
+  ]
+
+  -- No row is the stream's.
+  taken-miss : ((i : ℕ) → i < (schedulerAt ws) .active → (entryAt ws i) .stream-id ≡ id → ⊥) → Steps ws (outcome true (takenOut ws id ((schedulerAt ws) .active) ((schedulerAt ws) .active))) (remove-stream id (modelScheduler ws))
+  taken-miss none-has =
+      let s : SchedulerState = schedulerAt ws in
+      let v : SchedulerState = stateOf (forgotten (s .current) id) (rested (s .«system_virtual_time») (s .active)) (s .active) in
+      let q : takenOut ws id (s .active) (s .active) ≡ putScheduler ws v = out-miss in
+      let ev : schedulerAt (putScheduler ws v) ≡ v = scheduler-at-put ws v (g .long) in
+      let same-rows : (i : ℕ) → entryAt (putScheduler ws v) i ≡ entryAt ws i = entry-state ws v in
+      let et : tableOf (entryAt (putScheduler ws v)) (s .active) ≡ tableOf (entryAt ws) (s .active) = table-same (entryAt ws) (entryAt (putScheduler ws v)) (s .active) (λ i l. same-rows i) in
+      let ew : without-active id (tableOf (entryAt ws) (s .active)) ≡ tableOf (entryAt ws) (s .active) = table-without (entryAt ws) (s .active) id none-has in
+      record {
+        step-done = refl;
+        step-good = subst GoodScheduler (sym q) (record {
+          long = whole-put-scheduler ws v ∙ g .long;
+          few = subst (λ (x : SchedulerState). x .active ≤ 256) (sym ev) (g .few);
+          unlike = subst (λ (x : SchedulerState). Unlike (entryAt (putScheduler ws v)) (x .active)) (sym ev) (unlike-same (entryAt ws) (entryAt (putScheduler ws v)) (s .active) (λ i l. ap (λ (x : Active). x .stream-id) (same-rows i)) (g .unlike));
+        });
+        step-model = ap modelScheduler q
+            ∙ model-of (putScheduler ws v) ((optionsAt ws) .«payload_limit») v (tableOf (entryAt ws) (s .active)) (ap (λ (o : Options). o .«payload_limit») (options-put-scheduler ws v)) ev et
+            ∙ ap₂ (λ (x : Option ℕ) (y : ℕ). make ((optionsAt ws) .«payload_limit») x y (tableOf (entryAt ws) (s .active))) (forgotten-current (s .current) id fits) (rested-table (s .«system_virtual_time») (entryAt ws) (s .active))
+            ∙ ap (λ (x : List Active). make ((optionsAt ws) .«payload_limit») (forget id (currentOf (s .current))) (rest-time (s .«system_virtual_time») x) x) (sym ew)
+            ∙ sym (removed ws id);
+      }
+
+  taken : (at : ℕ) → Sought ws id ((schedulerAt ws) .active) at → Steps ws (outcome true (takenOut ws id at ((schedulerAt ws) .active))) (remove-stream id (modelScheduler ws))
+  taken at (hit h e) = taken-hit at h e
+  taken at (miss z h) = subst (λ (x : ℕ). Steps ws (outcome true (takenOut ws id x ((schedulerAt ws) .active))) (remove-stream id (modelScheduler ws))) (sym z) (taken-miss h)
+
+  pub remove-link : Steps ws (removeStream ws id) (remove-stream id (modelScheduler ws))
+  unfolding removeStream
+  remove-link =
+      let n : ℕ = (schedulerAt ws) .active in
+      subst (λ (b : Bool). Steps ws (if b then outcome false ws else outcome true (takenOut ws id (seek ws id n) n)) (remove-stream id (modelScheduler ws))) (sym (ltb-false (g .few))) (taken (seek ws id n) (sought ws id n))
+
+-- ---- set_bytes_remaining
+
+-- Scheduling parameters whose weight is a 16-bit number.
+abbrev pub FitsParameters : SchedulingParameters → Type 0
+FitsParameters RoundRobin = Unit {0}
+FitsParameters (WeightedFairQueuing w) = w < 65536
+
+word-fits : (p : SchedulingParameters) → FitsParameters p → parametersWord p < 4294967296
+word-fits RoundRobin f = omega arith
+word-fits (WeightedFairQueuing w) f = omega arith
+
+word-weight : (p : SchedulingParameters) → FitsParameters p → weightAt (parametersWord p) ≡ weightOf p
+word-weight RoundRobin f = refl
+word-weight (WeightedFairQueuing w) f = ap (λ (b : Bool). weightOf (if b then WeightedFairQueuing w else RoundRobin)) (ltb-true f)
+
+pub scheduled-row : (l id w t bytes : ℕ) → entryOf (scheduledRow l id w t bytes) ≡ scheduled l id (weightAt w) t bytes
+unfolding scheduled advanced
+scheduled-row l id w t bytes = refl
+
+set-table : (ws : List ℕ) (id bytes : ℕ) (w : Weight) → 0 < bytes → set-bytes-remaining id bytes w (modelScheduler ws) ≡
+    make ((optionsAt ws) .«payload_limit») (currentOf ((schedulerAt ws) .current)) ((schedulerAt ws) .«system_virtual_time»)
+    (put-active (scheduled ((optionsAt ws) .«payload_limit») id w (start-of ((schedulerAt ws) .«system_virtual_time») (find-active id (tableOf (entryAt ws) ((schedulerAt ws) .active)))) bytes) (tableOf (entryAt ws) ((schedulerAt ws) .active)))
+unfolding modelScheduler
+set-table ws id bytes w h = set-some id bytes w (modelScheduler ws) h
+
+start-some : (t : ℕ) (a : Active) → start-of t (some a) ≡ a .start
+unfolding start-of
+start-some t a = refl
+
+start-none : (t : ℕ) → start-of t none ≡ t
+unfolding start-of
+start-none t = refl
+
+-- Whether a stream can be let wait: it has a row, or there is room for one.
+pub data Room (ws : List ℕ) (id : ℕ) : Type 0 where
+  listed : (i : ℕ) → i < (schedulerAt ws) .active → (entryAt ws i) .stream-id ≡ id → Room ws id
+  free : (schedulerAt ws) .active < 256 → Room ws id
+
+module _ (ws : List ℕ) (g : GoodScheduler ws) (id bytes : ℕ) (p : SchedulingParameters) (fits : id < 65536) (fp : FitsParameters p) where
+  abbrev row-at : ℕ → ActiveStreamInfo
+  row-at t = scheduledRow ((optionsAt ws) .«payload_limit») id (parametersWord p) t bytes
+
+  row-fits : (t : ℕ) → FitsActive (row-at t)
+  row-fits t = record { stream-id-fits = fits; parameters-fits = word-fits p fp }
+
+  row-entry : (t : ℕ) → entryOf (row-at t) ≡ scheduled ((optionsAt ws) .«payload_limit») id (weightOf p) t bytes
+  row-entry t = scheduled-row ((optionsAt ws) .«payload_limit») id (parametersWord p) t bytes ∙ ap (λ (w : Weight). scheduled ((optionsAt ws) .«payload_limit») id w t bytes) (word-weight p fp)
+
+  set-hit : (at : ℕ) → 0 < bytes → at < (schedulerAt ws) .active → (entryAt ws at) .stream-id ≡ id → Steps ws (outcome true (putActive ws at (row-at ((activeAt ws at) .«virtual_start_time»)))) (set-bytes-remaining id bytes (weightOf p) (modelScheduler ws))
+  set-hit at pos h e =
+      let s : SchedulerState = schedulerAt ws in
+      let l : ℕ = (optionsAt ws) .«payload_limit» in
+      let t : ℕ = (activeAt ws at) .«virtual_start_time» in
+      let few : s .active ≤ 256 = g .few in
+      let ws′ : List ℕ = putActive ws at (row-at t) in
+      let here : entryAt ws′ at ≡ entryOf (row-at t) = entry-put ws at (row-at t) (g .long) (omega arith) (row-fits t) in
+      let there : (j : ℕ) → (at ≡ j → ⊥) → entryAt ws′ j ≡ entryAt ws j = entry-put-other ws at (row-at t) in
+      let es : schedulerAt ws′ ≡ s = scheduler-put-active ws at (row-at t) in
+      let et : tableOf (entryAt ws′) (s .active) ≡ put-active (entryOf (row-at t)) (tableOf (entryAt ws) (s .active)) = table-set (entryAt ws) (entryAt ws′) (s .active) at (entryOf (row-at t)) (g .unlike) h (sym e) here there in
+      let ids : (j : ℕ) → (entryAt ws′ j) .stream-id ≡ (entryAt ws j) .stream-id = λ j. elim (tri at j) [
+        | less o ↦ ap (λ (x : Active). x .stream-id) (there j (λ f. omega arith))
+        | same f ↦ subst (λ (k : ℕ). (entryAt ws′ k) .stream-id ≡ (entryAt ws k) .stream-id) f (ap (λ (x : Active). x .stream-id) here ∙ sym e)
+        | more o ↦ ap (λ (x : Active). x .stream-id) (there j (λ f. omega arith))
+      ] in
+      let found : find-active id (tableOf (entryAt ws) (s .active)) ≡ some (entryAt ws at) = ap (λ (k : ℕ). find-active k (tableOf (entryAt ws) (s .active))) (sym e) ∙ table-at (entryAt ws) (s .active) at (g .unlike) h in
+      let start : start-of (s .«system_virtual_time») (find-active id (tableOf (entryAt ws) (s .active))) ≡ t = ap (start-of (s .«system_virtual_time»)) found ∙ start-some (s .«system_virtual_time») (entryAt ws at) ∙ ap (λ (x : Active). x .start) (entry-row ws at) in
+      record {
+        step-done = refl;
+        step-good = record {
+          long = whole-put-active ws at (row-at t) ∙ g .long;
+          few = subst (λ (x : SchedulerState). x .active ≤ 256) (sym es) (g .few);
+          unlike = subst (λ (x : SchedulerState). Unlike (entryAt ws′) (x .active)) (sym es) (unlike-same (entryAt ws) (entryAt ws′) (s .active) (λ j o. ids j) (g .unlike));
+        };
+        step-model =
+            model-of ws′ l s (put-active (entryOf (row-at t)) (tableOf (entryAt ws) (s .active))) (ap (λ (o : Options). o .«payload_limit») (options-put-active ws at (row-at t))) es et
+            ∙ ap (λ (a : Active). make l (currentOf (s .current)) (s .«system_virtual_time») (put-active a (tableOf (entryAt ws) (s .active)))) (row-entry t)
+            ∙ ap (λ (x : ℕ). make l (currentOf (s .current)) (s .«system_virtual_time») (put-active (scheduled l id (weightOf p) x bytes) (tableOf (entryAt ws) (s .active)))) (sym start)
+            ∙ sym (set-table ws id bytes (weightOf p) pos);
+      }
+
+  set-miss : 0 < bytes → ((i : ℕ) → i < (schedulerAt ws) .active → (entryAt ws i) .stream-id ≡ id → ⊥) → (schedulerAt ws) .active < 256
+      → Steps ws (outcome true (putScheduler (putActive ws ((schedulerAt ws) .active) (row-at ((schedulerAt ws) .«system_virtual_time»))) (stateOf ((schedulerAt ws) .current) ((schedulerAt ws) .«system_virtual_time») ((schedulerAt ws) .active + 1))))
+      (set-bytes-remaining id bytes (weightOf p) (modelScheduler ws))
+  set-miss pos none-has h =
+      let s : SchedulerState = schedulerAt ws in
+      let l : ℕ = (optionsAt ws) .«payload_limit» in
+      let t : ℕ = s .«system_virtual_time» in
+      let n : ℕ = s .active in
+      let us : List ℕ = putActive ws (s .active) (row-at t) in
+      let v : SchedulerState = stateOf (s .current) t (s .active + 1) in
+      let ws′ : List ℕ = putScheduler us v in
+      let ev : schedulerAt ws′ ≡ v = scheduler-at-put us v (whole-put-active ws (s .active) (row-at t) ∙ g .long) in
+      let here : entryAt ws′ (s .active) ≡ entryOf (row-at t) = entry-state us v (s .active) ∙ entry-put ws (s .active) (row-at t) (g .long) h (row-fits t) in
+      let there : (j : ℕ) → j < s .active → entryAt ws′ j ≡ entryAt ws j = λ j o. entry-state us v j ∙ entry-put-other ws (s .active) (row-at t) j (λ f. omega arith) in
+      let one : s .active + 1 ≡ suc (s .active) = omega arith in
+      let et : tableOf (entryAt ws′) (s .active + 1) ≡ put-active (entryOf (row-at t)) (tableOf (entryAt ws) (s .active)) = ap (tableOf (entryAt ws′)) one ∙ table-add (entryAt ws) (entryAt ws′) (s .active) (entryOf (row-at t)) here there in
+      let start : start-of t (find-active id (tableOf (entryAt ws) (s .active))) ≡ t = ap (start-of t) (table-none (entryAt ws) (s .active) id none-has) ∙ start-none t in
+      record {
+        step-done = refl;
+        step-good = record {
+          long = whole-put-scheduler us v ∙ whole-put-active ws (s .active) (row-at t) ∙ g .long;
+          few = subst (λ (x : SchedulerState). x .active ≤ 256) (sym ev) (omega arith);
+          unlike = subst (λ (x : SchedulerState). Unlike (entryAt ws′) (x .active)) (sym ev) (subst (Unlike (entryAt ws′)) (sym one)
+              (unlike-add (entryAt ws) (entryAt ws′) (s .active) (g .unlike) (λ i o f. none-has i o (f ∙ ap (λ (x : Active). x .stream-id) here)) there));
+        };
+        step-model =
+            model-of ws′ l v (put-active (entryOf (row-at t)) (tableOf (entryAt ws) (s .active))) (ap (λ (o : Options). o .«payload_limit») (options-put-scheduler us v ∙ options-put-active ws (s .active) (row-at t))) ev et
+            ∙ ap (λ (a : Active). make l (currentOf (s .current)) t (put-active a (tableOf (entryAt ws) (s .active)))) (row-entry t)
+            ∙ ap (λ (x : ℕ). make l (currentOf (s .current)) t (put-active (scheduled l id (weightOf p) x bytes) (tableOf (entryAt ws) (s .active)))) (sym start)
+            ∙ sym (set-table ws id bytes (weightOf p) pos);
+      }
+
+  set-some-link : 0 < bytes → Room ws id → (at : ℕ) → Sought ws id ((schedulerAt ws) .active) at → Steps ws (setIn ws id bytes (parametersWord p) at ((schedulerAt ws) .active)) (set-bytes-remaining id bytes (weightOf p) (modelScheduler ws))
+  unfolding setIn
+  set-some-link pos r at (hit h e) =
+      let s : SchedulerState = schedulerAt ws in
+      subst (λ (b : Bool). Steps ws (if b then outcome true (putActive ws at (row-at ((activeAt ws at) .«virtual_start_time»))) else if ltb (s .active) 256 then outcome true (putScheduler (putActive ws (s .active) (row-at (s .«system_virtual_time»))) (stateOf (s .current) (s .«system_virtual_time») (s .active + 1))) else outcome false ws) (set-bytes-remaining id bytes (weightOf p) (modelScheduler ws)))
+      (sym (ltb-true h)) (set-hit at pos h e)
+  set-some-link pos r at (miss z none-has) =
+      let s : SchedulerState = schedulerAt ws in
+      let k : s .active ≤ at = omega arith in
+      subst (λ (b : Bool). Steps ws (if b then outcome true (putActive ws at (row-at ((activeAt ws at) .«virtual_start_time»))) else if ltb (s .active) 256 then outcome true (putScheduler (putActive ws (s .active) (row-at (s .«system_virtual_time»))) (stateOf (s .current) (s .«system_virtual_time») (s .active + 1))) else outcome false ws) (set-bytes-remaining id bytes (weightOf p) (modelScheduler ws)))
+      (sym (ltb-false k)) (room r)
+    where
+      room : Room ws id → Steps ws (if ltb ((schedulerAt ws) .active) 256 then outcome true (putScheduler (putActive ws ((schedulerAt ws) .active) (row-at ((schedulerAt ws) .«system_virtual_time»))) (stateOf ((schedulerAt ws) .current) ((schedulerAt ws) .«system_virtual_time») ((schedulerAt ws) .active + 1))) else outcome false ws)
+          (set-bytes-remaining id bytes (weightOf p) (modelScheduler ws))
+      room (listed i h e) = absurd (none-has i h e)
+      room (free h) =
+          let s : SchedulerState = schedulerAt ws in
+          subst (λ (b : Bool). Steps ws (if b then outcome true (putScheduler (putActive ws (s .active) (row-at (s .«system_virtual_time»))) (stateOf (s .current) (s .«system_virtual_time») (s .active + 1))) else outcome false ws) (set-bytes-remaining id bytes (weightOf p) (modelScheduler ws)))
+          (sym (ltb-true h)) (set-miss pos none-has h)
+
+  pub set-link : Room ws id → Steps ws (setBytesRemaining ws id bytes p) (set-bytes-remaining id bytes (weightOf p) (modelScheduler ws))
+  unfolding setBytesRemaining
+  set-link r =
+      let n : ℕ = (schedulerAt ws) .active in
+      subst (λ (b : Bool). Steps ws (if b then outcome false ws else if eqb bytes 0 then outcome true (takenOut ws id (seek ws id n) n) else setIn ws id bytes (parametersWord p) (seek ws id n) n) (set-bytes-remaining id bytes (weightOf p) (modelScheduler ws)))
+      (sym (ltb-false (g .few))) (by-bytes (tri bytes 0))
+    where
+      by-bytes : Tri bytes 0 → Steps ws (if eqb bytes 0 then outcome true (takenOut ws id (seek ws id ((schedulerAt ws) .active)) ((schedulerAt ws) .active)) else setIn ws id bytes (parametersWord p) (seek ws id ((schedulerAt ws) .active)) ((schedulerAt ws) .active))
+          (set-bytes-remaining id bytes (weightOf p) (modelScheduler ws))
+      by-bytes (less l) = absurd (omega arith)
+      by-bytes (same z) =
+          let n : ℕ = (schedulerAt ws) .active in
+          subst (λ (b : Bool). Steps ws (if b then outcome true (takenOut ws id (seek ws id n) n) else setIn ws id bytes (parametersWord p) (seek ws id n) n) (set-bytes-remaining id bytes (weightOf p) (modelScheduler ws))) (sym (eqb-true z))
+          (subst (Steps ws (outcome true (takenOut ws id (seek ws id n) n))) (sym (ap (λ (x : ℕ). set-bytes-remaining id x (weightOf p) (modelScheduler ws)) z ∙ set-none id (weightOf p) (modelScheduler ws))) (taken ws g id fits (seek ws id n) (sought ws id n)))
+      by-bytes (more l) =
+          let n : ℕ = (schedulerAt ws) .active in
+          let ne : bytes ≡ 0 → ⊥ = λ f. omega arith in
+          subst (λ (b : Bool). Steps ws (if b then outcome true (takenOut ws id (seek ws id n) n) else setIn ws id bytes (parametersWord p) (seek ws id n) n) (set-bytes-remaining id bytes (weightOf p) (modelScheduler ws))) (sym (eqb-false ne))
+          (set-some-link l r (seek ws id n) (sought ws id n))

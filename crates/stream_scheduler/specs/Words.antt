@@ -1,0 +1,98 @@
+-- What the scheduler's functions leave in the words, for every input. Assumes nothing.
+use Prim.Native.Nat.{ℕ, suc, _+_, _-_}
+use mathlib.Core.Bool.{Bool, true, false}
+use mathlib.Core.List.{List}
+use lib.Dec.{eqb, ltb, leb}
+use Rattle.queue_model.specs.Logic.{if_then_else_}
+use Rattle.queue_words.specs.Active.{activeAt, putActive, parametersWord}
+use Rattle.queue_words.specs.Header.{optionsAt, schedulerAt, putScheduler}
+use Rattle.queue_words.specs.declared.active.ActiveStreamInfo.{ActiveStreamInfo}
+use Rattle.queue_words.specs.declared.active.SchedulingParameters.{SchedulingParameters}
+use Rattle.queue_words.specs.declared.header.SchedulerState.{SchedulerState}
+use Rattle.stream_scheduler.specs.Rows.{advanced, scheduledRow, seek, bestTo}
+use Rattle.stream_scheduler.specs.declared.Peeked.{Peeked}
+use Rattle.stream_scheduler.specs.declared.Peeked.the-variants.{At, Nothing, Broken}
+
+-- Whether the words could be used, and the words after: `false` leaves them as they were.
+pub record Outcome : Type 0 where
+  pub done : Bool
+  pub next : List ℕ
+
+abbrev pub outcome : Bool → List ℕ → Outcome
+outcome d ws = record { done = d; next = ws }
+
+-- ------------------------------------------------------------------ the choice
+
+-- The remembered stream's row, or n.
+unfoldable pub currentRow : List ℕ → ℕ → ℕ → ℕ
+currentRow ws n c = if ltb c 65536 then seek ws c n else n
+
+unfoldable pub peekAmong : List ℕ → ℕ → ℕ → Peeked
+peekAmong ws n i = if ltb i n then At i else At ((bestTo ws (n - 1)) .at)
+
+unfoldable pub peekWords : List ℕ → Peeked
+unfolding peekAmong
+peekWords ws =
+    let n = (schedulerAt ws) .active in
+    if ltb 256 n then Broken else if eqb n 0 then Nothing else peekAmong ws n (currentRow ws n ((schedulerAt ws) .current))
+
+-- ------------------------------------------------------------------ taking a row out
+
+-- The remembered stream, unless it is this one; and the system time, 0 where no row is left.
+abbrev pub forgotten : ℕ → ℕ → ℕ
+forgotten c id = if eqb c id then 65536 else c
+
+abbrev pub rested : ℕ → ℕ → ℕ
+rested t n = if eqb n 0 then 0 else t
+
+abbrev pub stateOf : ℕ → ℕ → ℕ → SchedulerState
+stateOf c t n = record { current = c; «system_virtual_time» = t; active = n }
+
+-- The last of n rows takes a row's place.
+unfoldable pub droppedRow : List ℕ → ℕ → ℕ → ℕ → ℕ → List ℕ
+droppedRow ws at c t n = putScheduler (putActive ws at (activeAt ws (n - 1))) (stateOf c (rested t (n - 1)) (n - 1))
+
+-- A stream's waiting ended, whose row is `at`, or that has none where `at` is n.
+unfoldable pub takenOut : List ℕ → ℕ → ℕ → ℕ → List ℕ
+takenOut ws id at n =
+    let s = schedulerAt ws in
+    if ltb at n then droppedRow ws at (forgotten (s .current) id) (s .«system_virtual_time») n else putScheduler ws (stateOf (forgotten (s .current) id) (rested (s .«system_virtual_time») n) n)
+
+unfoldable pub removeStream : List ℕ → ℕ → Outcome
+removeStream ws id = let n = (schedulerAt ws) .active in if ltb 256 n then outcome false ws else outcome true (takenOut ws id (seek ws id n) n)
+
+-- ------------------------------------------------------------------ setting a row
+
+unfoldable pub setIn : List ℕ → ℕ → ℕ → ℕ → ℕ → ℕ → Outcome
+setIn ws id bytes w at n =
+    let s = schedulerAt ws in
+    let limit = (optionsAt ws) .«payload_limit» in
+    if ltb at n then outcome true (putActive ws at (scheduledRow limit id w ((activeAt ws at) .«virtual_start_time») bytes))
+    else if ltb n 256 then outcome true (putScheduler (putActive ws n (scheduledRow limit id w (s .«system_virtual_time») bytes)) (stateOf (s .current) (s .«system_virtual_time») (n + 1)))
+    else outcome false ws
+
+unfoldable pub setBytesRemaining : List ℕ → ℕ → ℕ → SchedulingParameters → Outcome
+setBytesRemaining ws id bytes p =
+    let n = (schedulerAt ws) .active in
+    if ltb 256 n then outcome false ws
+    else if eqb bytes 0 then outcome true (takenOut ws id (seek ws id n) n)
+    else setIn ws id bytes (parametersWord p) (seek ws id n) n
+
+-- ------------------------------------------------------------------ handing out
+
+abbrev pub rememberedWord : ℕ → ℕ → ℕ
+rememberedWord id w = if ltb w 65536 then 65536 else id
+
+-- A row after bytes of it are handed out, at a time, that are not its last.
+abbrev pub partRow : List ℕ → ActiveStreamInfo → ℕ → ℕ → ActiveStreamInfo
+partRow ws a t bytes = scheduledRow ((optionsAt ws) .«payload_limit») (a .«stream_id» .0) (a .parameters) t (a .«bytes_remaining» - bytes)
+
+unfoldable pub acceptRow : List ℕ → ℕ → ℕ → ℕ → List ℕ
+acceptRow ws at bytes n =
+    let a = activeAt ws at in
+    let t = advanced (a .parameters) (a .«virtual_start_time») bytes in
+    if leb (a .«bytes_remaining») bytes then droppedRow ws at 65536 t n else putScheduler (putActive ws at (partRow ws a t bytes)) (stateOf (rememberedWord (a .«stream_id» .0) (a .parameters)) t n)
+
+unfoldable pub acceptAt : List ℕ → ℕ → ℕ → Outcome
+unfolding acceptRow
+acceptAt ws at bytes = let n = (schedulerAt ws) .active in if ltb 256 n then outcome false ws else if leb n at then outcome false ws else outcome true (acceptRow ws at bytes n)

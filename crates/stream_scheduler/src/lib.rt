@@ -1,0 +1,388 @@
+// The stream scheduler (tx/stream_scheduler.rs) over the table of active streams in the queue's words.
+//
+// A stream that waits has a row. Rows stand as the Rust's `Vec` has them: a new one at the end, and the last one in the place
+// of one that is removed. Every function is total: where the number of rows is above 256, or a place is not among them, it
+// answers `false` or `Broken`, and nothing has changed.
+ghost use mathlib.Core.Path.{_≡_};
+ghost use Prim.Native.Nat.{_+_, _-_, _*_, _<_, _≤_, min};
+ghost use Rattle.queue_model.specs.Scheduler.{cost, saturating};
+ghost use Rattle.queue_model.specs.Types.{weighted};
+ghost use Rattle.stream_scheduler.specs.Rows.{advanced, scheduledRow, bestOf, better, seek, bestTo};
+ghost use Rattle.stream_scheduler.specs.Words.{outcome, forgotten, rested, rememberedWord, currentRow, peekWords, droppedRow, takenOut, removeStream, setIn, setBytesRemaining, acceptAt};
+use queue_words::QUEUE_WORDS;
+use queue_words::active::ActiveStreamInfo;
+use queue_words::active::SchedulingParameters;
+use queue_words::active::load_active;
+use queue_words::active::parameters_of;
+use queue_words::active::parameters_word;
+use queue_words::active::store_active;
+use queue_words::header::SchedulerState;
+use queue_words::header::load_options;
+use queue_words::header::load_scheduler_state;
+use queue_words::header::store_scheduler_state;
+use types::StreamId;
+
+// "Sums stop at 2^64 - 1."
+fn saturating_add(a: u64, b: u64) -> u64
+    ensures { λ r. ⌜ r ≡ saturating (a + b) ⌝ }
+{
+    if b <= u64::MAX - a {
+        return a + b;
+    }
+    u64::MAX
+}
+
+fn saturating_million(bytes: u64) -> u64
+    ensures { λ r. ⌜ r ≡ saturating (bytes * 1000000) ⌝ }
+{
+    if bytes <= 18446744073709 {
+        return bytes * 1000000;
+    }
+    u64::MAX
+}
+
+// "bytes × 1,000,000 / weight rounded down, weight 0 counting as 1".
+fn weighted_cost(weight: u16, bytes: u64) -> u64
+    ensures { λ r. ⌜ r ≡ cost (weighted weight) bytes ⌝ }
+{
+    let whole = saturating_million(bytes);
+    if weight == 0 {
+        return whole;
+    }
+    whole / (weight as u64)
+}
+
+// The virtual time at which handing out bytes ends that start at a time.
+pub fn calculate_vt(parameters: u32, start: u64, bytes: u64) -> u64
+    ensures { λ r. ⌜ r ≡ advanced parameters start bytes ⌝ }
+{
+    let p = parameters_of(parameters);
+    match p {
+        SchedulingParameters::RoundRobin => saturating_add(start, 1),
+        SchedulingParameters::WeightedFairQueuing(weight) => {
+            let increment = weighted_cost(weight, bytes);
+            saturating_add(start, increment)
+        }
+    }
+}
+
+fn min(a: u64, b: u64) -> u64
+    ensures { λ r. ⌜ r ≡ Prim.Native.Nat.min a b ⌝ }
+{
+    if a < b {
+        return a;
+    }
+    b
+}
+
+// A stream's row from a start on: "finish = start + cost of min(remaining, payload limit)".
+pub fn schedule_next_chunk(
+    limit: u64,
+    stream_id: u16,
+    parameters: u32,
+    start: u64,
+    bytes: u64,
+) -> ActiveStreamInfo
+    ensures { λ r. ⌜ r ≡ scheduledRow limit «stream_id» parameters start bytes ⌝ }
+{
+    let chunk = min(bytes, limit);
+    let finish = calculate_vt(parameters, start, chunk);
+    ActiveStreamInfo {
+        stream_id: StreamId(stream_id),
+        parameters,
+        virtual_start_time: start,
+        virtual_finish_time: finish,
+        bytes_remaining: bytes,
+    }
+}
+
+// The first row of a stream among n rows, or n.
+pub fn seek(queue: &[u64; QUEUE_WORDS], stream_id: u16, n: usize) -> usize
+    requires { ⌜ n ≤ 256 ⌝ }
+    ensures { λ r. ⌜ r ≡ seek (now (queue .entry)) «stream_id» n ⌝ }
+{
+    let mut i = 0;
+    while i < n {
+        let a = load_active(queue, i);
+        if a.stream_id.0 == stream_id {
+            return i;
+        }
+        i += 1;
+    }
+    n
+}
+
+// A row in the search for the least: its place, finish time and stream.
+pub struct Best {
+    pub id: u16,
+    pub at: usize,
+    pub finish: u64,
+}
+
+fn best_of(queue: &[u64; QUEUE_WORDS], i: usize) -> Best
+    requires { ⌜ i < 256 ⌝ }
+    ensures { λ r. ⌜ r ≡ bestOf (now (queue .entry)) i ⌝ }
+{
+    let a = load_active(queue, i);
+    Best {
+        id: a.stream_id.0,
+        at: i,
+        finish: a.virtual_finish_time,
+    }
+}
+
+// The smaller finish time, then the smaller id.
+fn better(a: Best, b: Best) -> Best
+    ensures { λ r. ⌜ r ≡ better a b ⌝ }
+{
+    if b.finish < a.finish {
+        return b;
+    }
+    if a.finish < b.finish {
+        return a;
+    }
+    if b.id < a.id {
+        return b;
+    }
+    a
+}
+
+// The least of n rows.
+pub fn least(queue: &[u64; QUEUE_WORDS], n: usize) -> Best
+    requires { ⌜ (0 < n) × (n ≤ 256) ⌝ }
+    ensures { λ r. ⌜ r ≡ bestTo (now (queue .entry)) (n - 1) ⌝ }
+{
+    let mut best = best_of(queue, 0);
+    let mut i = 0;
+    while i + 1 < n {
+        let next = best_of(queue, i + 1);
+        best = better(best, next);
+        i += 1;
+    }
+    best
+}
+
+// What the scheduler would hand out from.
+pub enum Peeked {
+    At(usize),
+    Nothing,
+    Broken,
+}
+
+// The row of the remembered stream, or n.
+fn current_row(queue: &[u64; QUEUE_WORDS], n: usize, current: u64) -> usize
+    requires { ⌜ n ≤ 256 ⌝ }
+    ensures { λ r. ⌜ r ≡ currentRow (now (queue .entry)) n current ⌝ }
+{
+    if current < 65536 {
+        return seek(queue, current as u16, n);
+    }
+    n
+}
+
+// "Choice: the stream in mid-message if one is remembered, else the smallest finish time, then the smallest id."
+pub fn peek(queue: &[u64; QUEUE_WORDS]) -> Peeked
+    ensures { λ r. ⌜ r ≡ peekWords (now (queue .entry)) ⌝ }
+{
+    let s = load_scheduler_state(queue);
+    if s.active > 256 {
+        return Peeked::Broken;
+    }
+    let n = s.active as usize;
+    if n == 0 {
+        return Peeked::Nothing;
+    }
+    let i = current_row(queue, n, s.current);
+    if i < n {
+        return Peeked::At(i);
+    }
+    let best = least(queue, n);
+    Peeked::At(best.at)
+}
+
+// "The system time is 0 when no stream waits."
+fn rest_time(time: u64, n: u64) -> u64
+    ensures { λ r. ⌜ r ≡ rested time n ⌝ }
+{
+    if n == 0 {
+        return 0;
+    }
+    time
+}
+
+fn forget(current: u64, stream_id: u16) -> u64
+    ensures { λ r. ⌜ r ≡ forgotten current «stream_id» ⌝ }
+{
+    if current == (stream_id as u64) {
+        return 65536;
+    }
+    current
+}
+
+// Takes a row out: the last of n rows takes its place.
+fn drop_row(queue: &mut [u64; QUEUE_WORDS], at: usize, current: u64, time: u64, n: usize)
+    requires { ⌜ (at < n) × (n ≤ 256) ⌝ }
+    ensures { λ _. ⌜ now (queue .exit) ≡ droppedRow (now (queue .entry)) at current time n ⌝ }
+{
+    let last = load_active(&*queue, n - 1);
+    let left = (n - 1) as u64;
+    let rest = rest_time(time, left);
+    store_active(queue, at, last);
+    store_scheduler_state(
+        queue,
+        SchedulerState {
+            current,
+            system_virtual_time: rest,
+            active: left,
+        },
+    );
+}
+
+// Ends a stream's waiting, whose row is `at`, or that has none where `at` is n.
+fn take_out(queue: &mut [u64; QUEUE_WORDS], stream_id: u16, at: usize, n: usize)
+    requires { ⌜ n ≤ 256 ⌝ }
+    ensures { λ _. ⌜ now (queue .exit) ≡ takenOut (now (queue .entry)) «stream_id» at n ⌝ }
+{
+    let s = load_scheduler_state(&*queue);
+    let current = forget(s.current, stream_id);
+    let time = s.system_virtual_time;
+    if at < n {
+        drop_row(queue, at, current, time, n);
+        return;
+    }
+    let left = n as u64;
+    let rest = rest_time(time, left);
+    store_scheduler_state(
+        queue,
+        SchedulerState {
+            current,
+            system_virtual_time: rest,
+            active: left,
+        },
+    );
+}
+
+// Ends a stream's waiting.
+pub fn remove_stream(queue: &mut [u64; QUEUE_WORDS], stream_id: u16) -> bool
+    ensures { λ r. ⌜ outcome r (now (queue .exit)) ≡ removeStream (now (queue .entry)) «stream_id» ⌝ }
+{
+    let s = load_scheduler_state(&*queue);
+    if s.active > 256 {
+        return false;
+    }
+    let n = s.active as usize;
+    let at = seek(&*queue, stream_id, n);
+    take_out(queue, stream_id, at, n);
+    true
+}
+
+// Sets a stream's row, which is `at`, or a new one where `at` is n.
+fn set_row(
+    queue: &mut [u64; QUEUE_WORDS],
+    stream_id: u16,
+    bytes: u64,
+    parameters: u32,
+    at: usize,
+    n: usize,
+) -> bool
+    requires { ⌜ n ≤ 256 ⌝ }
+    ensures { λ r. ⌜ outcome r (now (queue .exit)) ≡ setIn (now (queue .entry)) «stream_id» bytes parameters at n ⌝ }
+{
+    let o = load_options(&*queue);
+    let limit = o.payload_limit as u64;
+    if at < n {
+        let a = load_active(&*queue, at);
+        let row = schedule_next_chunk(limit, stream_id, parameters, a.virtual_start_time, bytes);
+        store_active(queue, at, row);
+        return true;
+    }
+    if n < 256 {
+        let s = load_scheduler_state(&*queue);
+        let row = schedule_next_chunk(limit, stream_id, parameters, s.system_virtual_time, bytes);
+        store_active(queue, n, row);
+        let more = (n + 1) as u64;
+        store_scheduler_state(
+            queue,
+            SchedulerState {
+                current: s.current,
+                system_virtual_time: s.system_virtual_time,
+                active: more,
+            },
+        );
+        return true;
+    }
+    false
+}
+
+// Lets a stream wait with so many bytes, or ends its waiting with 0.
+pub fn set_bytes_remaining(
+    queue: &mut [u64; QUEUE_WORDS],
+    stream_id: u16,
+    bytes: u64,
+    priority: SchedulingParameters,
+) -> bool
+    ensures { λ r. ⌜ outcome r (now (queue .exit)) ≡ setBytesRemaining (now (queue .entry)) «stream_id» bytes priority ⌝ }
+{
+    let s = load_scheduler_state(&*queue);
+    if s.active > 256 {
+        return false;
+    }
+    let n = s.active as usize;
+    let at = seek(&*queue, stream_id, n);
+    if bytes == 0 {
+        take_out(queue, stream_id, at, n);
+        return true;
+    }
+    let parameters = parameters_word(priority);
+    set_row(queue, stream_id, bytes, parameters, at, n)
+}
+
+// "Without interleaving a stream is remembered from any fragment but a last one".
+fn remember(stream_id: u16, parameters: u32) -> u64
+    ensures { λ r. ⌜ r ≡ rememberedWord «stream_id» parameters ⌝ }
+{
+    if parameters < 65536 {
+        return 65536;
+    }
+    stream_id as u64
+}
+
+// Hands out bytes of the row `at`: its start moves by their cost, and the system time becomes that start.
+pub fn accept(queue: &mut [u64; QUEUE_WORDS], at: usize, bytes: u64) -> bool
+    ensures { λ r. ⌜ outcome r (now (queue .exit)) ≡ acceptAt (now (queue .entry)) at bytes ⌝ }
+{
+    let s = load_scheduler_state(&*queue);
+    if s.active > 256 {
+        return false;
+    }
+    let n = s.active as usize;
+    if at >= n {
+        return false;
+    }
+    let a = load_active(&*queue, at);
+    let time = calculate_vt(a.parameters, a.virtual_start_time, bytes);
+    if a.bytes_remaining <= bytes {
+        drop_row(queue, at, 65536, time, n);
+        return true;
+    }
+    let o = load_options(&*queue);
+    let left = a.bytes_remaining - bytes;
+    let row = schedule_next_chunk(
+        o.payload_limit as u64,
+        a.stream_id.0,
+        a.parameters,
+        time,
+        left,
+    );
+    store_active(queue, at, row);
+    let current = remember(a.stream_id.0, a.parameters);
+    store_scheduler_state(
+        queue,
+        SchedulerState {
+            current,
+            system_virtual_time: time,
+            active: n as u64,
+        },
+    );
+    true
+}
