@@ -24,7 +24,7 @@ use Rattle.stream_scheduler.specs.Words.{Outcome, outcome, currentRow, p
 use Rattle.stream_scheduler.specs.Link.{entryOf, entryAt, tableOf, currentOf, modelScheduler, Unlike, GoodScheduler}
 use Rattle.stream_scheduler.proofs.Index.{table-nil, table-at, table-none, table-set, unlike-same, table-least}
 use Rattle.stream_scheduler.proofs.Search.{Sought, hit, miss, sought, best-is}
-use Rattle.stream_scheduler.proofs.Link.{make, model-of, entry-put, entry-put-other, entry-state, entry-row, id-fits, current-some, current-none, forget-own, dropped-good, dropped-model, none-there, some-there, count, Steps, scheduled-row}
+use Rattle.stream_scheduler.proofs.Link.{make, model-of, entry-put, entry-put-other, entry-state, entry-row, id-fits, current-some, current-none, forget-own, dropped-good, dropped-count, dropped-model, none-there, some-there, count, Steps, scheduled-row}
 
 -- ---- accept
 
@@ -83,6 +83,7 @@ module _ (ws : List ℕ) (g : GoodScheduler ws) (at bytes : ℕ) (h : at < (sche
               ∙ ap₂ (λ (x : Option ℕ) (y : ℕ). make l x (rest-time time (without-active id (tableOf (entryAt ws) y))) (without-active id (tableOf (entryAt ws) y))) (current-none 65536 (omega arith) ∙ sym (forget-own id)) (sym z)
               ∙ ap (λ (x : ℕ). make l (forget id (some id)) (rest-time x (without-active id (tableOf (entryAt ws) ((schedulerAt ws) .active)))) (without-active id (tableOf (entryAt ws) ((schedulerAt ws) .active)))) (sym (moved-is ws at bytes))
               ∙ sym (last-is ws (entryAt ws at) bytes);
+          step-count = subst (λ (x : List ℕ). (schedulerAt x) .active ≤ suc ((schedulerAt ws) .active)) (sym q) (dropped-count ws g at m 65536 time h′ z);
         })
   ]
 
@@ -135,6 +136,7 @@ module _ (ws : List ℕ) (g : GoodScheduler ws) (at bytes : ℕ) (h : at < (sche
             ∙ ap₂ (λ (c : Option ℕ) (t : ℕ). make l c t (put-active (entryOf part) (tableOf (entryAt ws) (s .active)))) part-current (sym (moved-is ws at bytes))
             ∙ ap (λ (a : Active). make l (remember ((entryAt ws at) .stream-id) ((entryAt ws at) .weight)) (moved (entryAt ws at) bytes) (put-active a (tableOf (entryAt ws) (s .active)))) part-entry
             ∙ sym (part-is ws (entryAt ws at) bytes);
+        step-count = subst (λ (x : SchedulerState). x .active ≤ suc (s .active)) (sym ev) (omega arith);
       }
 
   same-size : (entryAt ws at) .bytes-remaining ≡ (activeAt ws at) .«bytes_remaining»

@@ -4,3 +4,4 @@ pub mod Index
 pub mod Search
 pub mod Link
 pub mod Handing
+pub mod Worked

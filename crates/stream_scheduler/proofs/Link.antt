@@ -156,6 +156,9 @@ module _ (ws : List ℕ) (g : GoodScheduler ws) where
       unlike = subst (λ (x : SchedulerState). Unlike (entryAt (droppedRow ws at c t (suc m))) (x .active)) (sym state-is) (unlike-drop (entryAt ws) (entryAt (droppedRow ws at c t (suc m))) m at unlike-n h here there);
     }
 
+    pub dropped-count : (schedulerAt (droppedRow ws at c t (suc m))) .active ≤ suc ((schedulerAt ws) .active)
+    dropped-count = subst (λ (x : SchedulerState). x .active ≤ suc ((schedulerAt ws) .active)) (sym state-is) (omega arith)
+
     pub dropped-model : modelScheduler (droppedRow ws at c t (suc m)) ≡ make ((optionsAt ws) .«payload_limit») (currentOf c) (rest-time t (without-active ((entryAt ws at) .stream-id) (tableOf (entryAt ws) (suc m)))) (without-active ((entryAt ws at) .stream-id) (tableOf (entryAt ws) (suc m)))
     dropped-model =
         let e = table-drop (entryAt ws) (entryAt (droppedRow ws at c t (suc m))) m at unlike-n h here there in
@@ -180,6 +183,7 @@ pub record Steps (ws : List ℕ) (r : Outcome) (sc : Scheduler) : Type 0 where
   pub step-done : r .done ≡ true
   pub step-good : GoodScheduler (r .next)
   pub step-model : modelScheduler (r .next) ≡ sc
+  pub step-count : (schedulerAt (r .next)) .active ≤ suc ((schedulerAt ws) .active)
 
 -- The scheduler that the words stand for, without a stream.
 removed : (ws : List ℕ) (id : ℕ) → remove-stream id (modelScheduler ws) ≡
@@ -217,6 +221,7 @@ module _ (ws : List ℕ) (g : GoodScheduler ws) (id : ℕ) (fits : id < 65536) w
               ∙ ap (λ (x : ℕ). make ((optionsAt ws) .«payload_limit») (currentOf c) (rest-time (s .«system_virtual_time») (without-active x (tableOf (entryAt ws) (suc m)))) (without-active x (tableOf (entryAt ws) (suc m)))) e
               ∙ ap₂ (λ (x : Option ℕ) (y : ℕ). make ((optionsAt ws) .«payload_limit») x (rest-time (s .«system_virtual_time») (without-active id (tableOf (entryAt ws) y))) (without-active id (tableOf (entryAt ws) y))) (forgotten-current (s .current) id fits) (sym z)
               ∙ sym (removed ws id);
+          step-count = subst (λ (x : List ℕ). (schedulerAt x) .active ≤ suc (s .active)) (sym q) (dropped-count ws g at m c (s .«system_virtual_time») h′ z);
         })
   ]
 
@@ -242,6 +247,7 @@ module _ (ws : List ℕ) (g : GoodScheduler ws) (id : ℕ) (fits : id < 65536) w
             ∙ ap₂ (λ (x : Option ℕ) (y : ℕ). make ((optionsAt ws) .«payload_limit») x y (tableOf (entryAt ws) (s .active))) (forgotten-current (s .current) id fits) (rested-table (s .«system_virtual_time») (entryAt ws) (s .active))
             ∙ ap (λ (x : List Active). make ((optionsAt ws) .«payload_limit») (forget id (currentOf (s .current))) (rest-time (s .«system_virtual_time») x) x) (sym ew)
             ∙ sym (removed ws id);
+        step-count = subst (λ (x : List ℕ). (schedulerAt x) .active ≤ suc (s .active)) (sym q) (subst (λ (x : SchedulerState). x .active ≤ suc (s .active)) (sym ev) (omega arith));
       }
 
   taken : (at : ℕ) → Sought ws id ((schedulerAt ws) .active) at → Steps ws (outcome true (takenOut ws id at ((schedulerAt ws) .active))) (remove-stream id (modelScheduler ws))
@@ -332,6 +338,7 @@ module _ (ws : List ℕ) (g : GoodScheduler ws) (id bytes : ℕ) (p : Scheduling
             ∙ ap (λ (a : Active). make l (currentOf (s .current)) (s .«system_virtual_time») (put-active a (tableOf (entryAt ws) (s .active)))) (row-entry t)
             ∙ ap (λ (x : ℕ). make l (currentOf (s .current)) (s .«system_virtual_time») (put-active (scheduled l id (weightOf p) x bytes) (tableOf (entryAt ws) (s .active)))) (sym start)
             ∙ sym (set-table ws id bytes (weightOf p) pos);
+        step-count = subst (λ (x : SchedulerState). x .active ≤ suc (s .active)) (sym es) (omega arith);
       }
 
   set-miss : 0 < bytes → ((i : ℕ) → i < (schedulerAt ws) .active → (entryAt ws i) .stream-id ≡ id → ⊥) → (schedulerAt ws) .active < 256
@@ -364,6 +371,7 @@ module _ (ws : List ℕ) (g : GoodScheduler ws) (id bytes : ℕ) (p : Scheduling
             ∙ ap (λ (a : Active). make l (currentOf (s .current)) t (put-active a (tableOf (entryAt ws) (s .active)))) (row-entry t)
             ∙ ap (λ (x : ℕ). make l (currentOf (s .current)) t (put-active (scheduled l id (weightOf p) x bytes) (tableOf (entryAt ws) (s .active)))) (sym start)
             ∙ sym (set-table ws id bytes (weightOf p) pos);
+        step-count = subst (λ (x : SchedulerState). x .active ≤ suc (s .active)) (sym ev) (omega arith);
       }
 
   set-some-link : 0 < bytes → Room ws id → (at : ℕ) → Sought ws id ((schedulerAt ws) .active) at → Steps ws (setIn ws id bytes (parametersWord p) at ((schedulerAt ws) .active)) (set-bytes-remaining id bytes (weightOf p) (modelScheduler ws))

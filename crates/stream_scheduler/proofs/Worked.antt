@@ -1,0 +1,213 @@
+-- Document 01's examples that concern the scheduler hold on the words: through the link, and by computation on the model. Assumes nothing.
+use mathlib.Core.Path.{_≡_, refl, sym, ap, ap₂, _∙_, subst}
+use mathlib.Core.List.{List, [], _∷_, _++_, map}
+use mathlib.Core.Option.{Option, none, some}
+use Prim.Native.Nat.{ℕ, suc, _+_, _≤_, _<_}
+use native.Mathlib.Omega.{arith}
+use lib.ListN.{length}
+use Rattle.queue_model.specs.Types.{Weight, Active, Scheduler}
+use Rattle.queue_model.specs.Scheduler.{cost, set-bytes-remaining, peek, accept, new-scheduler}
+use Rattle.queue_words.specs.Header.{optionsAt, putOptions, FitsOptions, schedulerAt, putScheduler}
+use Rattle.queue_words.specs.declared.header.Options.{Options}
+use Rattle.queue_words.specs.declared.header.SchedulerState.{SchedulerState}
+use Rattle.queue_words.proofs.Laws.{whole-put-options, whole-put-scheduler, options-at-put, scheduler-at-put, options-put-scheduler}
+use Rattle.queue_words.specs.declared.active.SchedulingParameters.{SchedulingParameters}
+use Rattle.queue_words.specs.declared.active.SchedulingParameters.the-variants.{RoundRobin, WeightedFairQueuing}
+use Rattle.stream_scheduler.specs.declared.Peeked.{Peeked}
+use Rattle.stream_scheduler.specs.declared.Peeked.the-variants.{At, Nothing, Broken}
+use Rattle.stream_scheduler.specs.Rows.{weightOf, advanced}
+use Rattle.stream_scheduler.specs.Words.{Outcome, peekWords, setBytesRemaining, acceptAt}
+use Rattle.stream_scheduler.specs.Link.{entryAt, tableOf, currentOf, modelScheduler, GoodScheduler}
+use Rattle.stream_scheduler.proofs.Link.{FitsParameters, Room, free, Steps, set-link}
+use Rattle.stream_scheduler.proofs.Handing.{accept-link, Chooses, row-chosen, none-chosen, peek-link}
+
+-- A stream let wait, or bytes handed out of the choice.
+pub data Move : Type 0 where
+  wait : (id bytes : ℕ) → SchedulingParameters → Move
+  send : (bytes : ℕ) → Move
+
+-- On the words: the words after a move, and the chosen stream's id.
+pub sent : List ℕ → ℕ → Peeked → List ℕ
+sent ws bytes (At i) = (acceptAt ws i bytes) .next
+sent ws bytes Nothing = ws
+sent ws bytes Broken = ws
+
+pub moved : Move → List ℕ → List ℕ
+unfolding sent
+moved (wait id bytes p) ws = (setBytesRemaining ws id bytes p) .next
+moved (send bytes) ws = sent ws bytes (peekWords ws)
+
+pub chosen : List ℕ → Peeked → List ℕ
+chosen ws (At i) = (entryAt ws i) .stream-id ∷ []
+chosen ws Nothing = []
+chosen ws Broken = []
+
+pub shows : Move → List ℕ → List ℕ
+unfolding chosen
+shows (wait id bytes p) ws = []
+shows (send bytes) ws = chosen ws (peekWords ws)
+
+-- The streams that a list of moves is sent from, and the words after it.
+pub order : List Move → List ℕ → List ℕ
+unfolding shows moved
+order [] ws = []
+order (m ∷ ms) ws = shows m ws ++ order ms (moved m ws)
+
+pub after : List Move → List ℕ → List ℕ
+unfolding moved
+after [] ws = ws
+after (m ∷ ms) ws = after ms (moved m ws)
+
+-- The same on the model.
+pub model-sent : Scheduler → ℕ → Option Active → Scheduler
+model-sent sc bytes none = sc
+model-sent sc bytes (some a) = accept a bytes sc
+
+pub model-moved : Move → Scheduler → Scheduler
+unfolding model-sent
+model-moved (wait id bytes p) sc = set-bytes-remaining id bytes (weightOf p) sc
+model-moved (send bytes) sc = model-sent sc bytes (peek sc)
+
+pub model-chosen : Option Active → List ℕ
+model-chosen none = []
+model-chosen (some a) = a .stream-id ∷ []
+
+pub model-shows : Move → Scheduler → List ℕ
+unfolding model-chosen
+model-shows (wait id bytes p) sc = []
+model-shows (send bytes) sc = model-chosen (peek sc)
+
+pub model-order : List Move → Scheduler → List ℕ
+unfolding model-shows model-moved
+model-order [] sc = []
+model-order (m ∷ ms) sc = model-shows m sc ++ model-order ms (model-moved m sc)
+
+pub model-after : List Move → Scheduler → Scheduler
+unfolding model-moved
+model-after [] sc = sc
+model-after (m ∷ ms) sc = model-after ms (model-moved m sc)
+
+-- ---- a move is the model's
+
+abbrev pub Fits : Move → Type 0
+Fits (wait id bytes p) = (id < 65536) × FitsParameters p
+Fits (send bytes) = Unit {0}
+
+abbrev pub AllFit : List Move → Type 0
+AllFit [] = Unit {0}
+AllFit (m ∷ ms) = Fits m × AllFit ms
+
+record Goes (ws : List ℕ) (m : Move) : Type 0 where
+  goes-good : GoodScheduler (moved m ws)
+  goes-model : modelScheduler (moved m ws) ≡ model-moved m (modelScheduler ws)
+  goes-shows : shows m ws ≡ model-shows m (modelScheduler ws)
+  goes-count : (schedulerAt (moved m ws)) .active ≤ suc ((schedulerAt ws) .active)
+
+goes-send : (ws : List ℕ) (bytes : ℕ) (p : Peeked) → GoodScheduler ws → Chooses ws (peek (modelScheduler ws)) p → peekWords ws ≡ p → Goes ws (send bytes)
+unfolding moved sent model-moved model-sent shows chosen model-shows model-chosen
+goes-send ws bytes p g (row-chosen i h e) q =
+    let l = accept-link ws g i bytes h in
+    let w : moved (send bytes) ws ≡ (acceptAt ws i bytes) .next = ap (sent ws bytes) q in
+    record {
+      goes-good = subst GoodScheduler (sym w) (l .step-good);
+      goes-model = ap modelScheduler w ∙ l .step-model ∙ sym (ap (model-sent (modelScheduler ws) bytes) e);
+      goes-shows = ap (chosen ws) q ∙ sym (ap model-chosen e);
+      goes-count = subst (λ (x : List ℕ). (schedulerAt x) .active ≤ suc ((schedulerAt ws) .active)) (sym w) (l .step-count);
+    }
+goes-send ws bytes p g (none-chosen e) q =
+    let w : moved (send bytes) ws ≡ ws = ap (sent ws bytes) q in
+    record {
+      goes-good = subst GoodScheduler (sym w) g;
+      goes-model = ap modelScheduler w ∙ sym (ap (model-sent (modelScheduler ws) bytes) e);
+      goes-shows = ap (chosen ws) q ∙ sym (ap model-chosen e);
+      goes-count = subst (λ (x : List ℕ). (schedulerAt x) .active ≤ suc ((schedulerAt ws) .active)) (sym w) (omega arith);
+    }
+
+goes : (m : Move) (ws : List ℕ) → GoodScheduler ws → Fits m → (schedulerAt ws) .active < 256 → Goes ws m
+unfolding moved model-moved shows model-shows
+goes (wait id bytes p) ws g f h = let l = set-link ws g id bytes p (f .0) (f .1) (free h) in record { goes-good = l .step-good; goes-model = l .step-model; goes-shows = refl; goes-count = l .step-count }
+goes (send bytes) ws g f h = goes-send ws bytes (peekWords ws) g (peek-link ws g) refl
+
+-- ---- lists of moves
+
+pub plays : (ms : List Move) (ws : List ℕ) → GoodScheduler ws → AllFit ms → (schedulerAt ws) .active + length ms ≤ 256 → order ms ws ≡ model-order ms (modelScheduler ws)
+unfolding order model-order
+plays [] ws g f h = refl
+plays (m ∷ ms) ws g f h =
+    let s = goes m ws g (f .0) (omega arith) in let c = s .goes-count in
+    ap₂ _++_ (s .goes-shows) (plays ms (moved m ws) (s .goes-good) (f .1) (omega arith) ∙ ap (model-order ms) (s .goes-model))
+
+pub leads : (ms : List Move) (ws : List ℕ) → GoodScheduler ws → AllFit ms → (schedulerAt ws) .active + length ms ≤ 256 → modelScheduler (after ms ws) ≡ model-after ms (modelScheduler ws)
+unfolding after model-after
+leads [] ws g f h = refl
+leads (m ∷ ms) ws g f h =
+    let s = goes m ws g (f .0) (omega arith) in let c = s .goes-count in
+    leads ms (moved m ws) (s .goes-good) (f .1) (omega arith) ∙ ap (model-after ms) (s .goes-model)
+
+-- ---- the examples
+
+pub turns : List Move
+turns = wait 5 1500 RoundRobin ∷ wait 3 1500 RoundRobin ∷ send 1000 ∷ send 500 ∷ send 1000 ∷ send 500 ∷ []
+
+pub weights : List Move
+weights = wait 5 1500 (WeightedFairQueuing 512) ∷ wait 3 1500 (WeightedFairQueuing 256) ∷ []
+
+pub four : List Move
+four = send 1000 ∷ send 500 ∷ send 1000 ∷ send 500 ∷ []
+
+pub finishes : Scheduler → List ℕ
+finishes sc = map (λ a. a .finish) (sc .active)
+
+-- The state of a new scheduler: nothing remembered, no time, no row.
+pub at-rest : SchedulerState
+at-rest = record { current = 65536; «system_virtual_time» = 0; active = 0 }
+
+-- Words whose scheduler is a new one's with the payload limit 1,000.
+pub record Start (ws : List ℕ) : Type 0 where
+  start-good : GoodScheduler ws
+  start-none : (schedulerAt ws) .active ≡ 0
+  start-model : modelScheduler ws ≡ new-scheduler 1000
+
+seen : List ℕ → ℕ → SchedulerState → Scheduler
+seen ws n x = record { payload-limit = n; current = currentOf (x .current); system-time = x .«system_virtual_time»; active = tableOf (entryAt ws) (x .active) }
+
+-- Such words there are: every words of the right length with these two parts stored.
+pub starts : (ws : List ℕ) (o : Options) → length ws ≡ 20768 → FitsOptions o → o .«payload_limit» ≡ 1000 → Start (putScheduler (putOptions ws o) at-rest)
+unfolding modelScheduler seen tableOf currentOf at-rest new-scheduler
+starts ws o l f e =
+    let l' : length (putOptions ws o) ≡ 20768 = whole-put-options ws o ∙ l in
+    let s : schedulerAt (putScheduler (putOptions ws o) at-rest) ≡ at-rest = scheduler-at-put (putOptions ws o) at-rest l' in
+    let p : (optionsAt (putScheduler (putOptions ws o) at-rest)) .«payload_limit» ≡ 1000 = ap (λ (x : Options). x .«payload_limit») (options-put-scheduler (putOptions ws o) at-rest ∙ options-at-put ws o l f) ∙ e in
+    let z : (schedulerAt (putScheduler (putOptions ws o) at-rest)) .active ≡ 0 = ap (λ (x : SchedulerState). x .active) s in
+    record {
+      start-good = record { long = whole-put-scheduler (putOptions ws o) at-rest ∙ l'; few = omega arith; unlike = λ i j h k q. omega arith };
+      start-none = z;
+      start-model = ap₂ (seen (putScheduler (putOptions ws o) at-rest)) p s;
+    }
+
+-- "two 1,500-byte messages, on 5 then 3: without interleaving sent 3, 3, 5, 5 as 1,000 and 500."
+pub by-turns : (ws : List ℕ) → Start ws → order turns ws ≡ 3 ∷ 3 ∷ 5 ∷ 5 ∷ []
+unfolding turns model-order new-scheduler peek set-bytes-remaining accept
+by-turns ws s =
+    let z = s .start-none in
+    plays turns ws (s .start-good) ((omega arith, tt), ((omega arith, tt), (tt, (tt, (tt, (tt, tt)))))) (omega arith) ∙ ap (model-order turns) (s .start-model)
+
+-- "With it, weights 512 on 5 and 256 on 3: 5, 5, 3, 3; finish times 1,953,125, 2,929,687, then 3,906,250."
+pub by-weights : (ws : List ℕ) → Start ws → order (weights ++ four) ws ≡ 5 ∷ 5 ∷ 3 ∷ 3 ∷ []
+unfolding weights four model-order new-scheduler peek set-bytes-remaining accept
+by-weights ws s =
+    let z = s .start-none in
+    plays (weights ++ four) ws (s .start-good) ((omega arith, omega arith), ((omega arith, omega arith), (tt, (tt, (tt, (tt, tt)))))) (omega arith) ∙ ap (model-order (weights ++ four)) (s .start-model)
+
+pub finish-times : (ws : List ℕ) → Start ws → (finishes (modelScheduler (after weights ws)) ≡ 3906250 ∷ 1953125 ∷ []) × (finishes (modelScheduler (after (weights ++ (send 1000 ∷ [])) ws)) ≡ 3906250 ∷ 2929687 ∷ [])
+unfolding weights model-after new-scheduler finishes set-bytes-remaining peek accept
+finish-times ws s =
+    let z = s .start-none in (
+      ap finishes (leads weights ws (s .start-good) ((omega arith, omega arith), ((omega arith, omega arith), tt)) (omega arith) ∙ ap (model-after weights) (s .start-model)),
+      ap finishes (leads (weights ++ (send 1000 ∷ [])) ws (s .start-good) ((omega arith, omega arith), ((omega arith, omega arith), (tt, tt))) (omega arith) ∙ ap (model-after (weights ++ (send 1000 ∷ []))) (s .start-model)),
+    )
+
+-- "Weight 0, 7 bytes: 7,000,000."
+pub weight-zero : advanced 0 0 7 ≡ 7000000
+unfolding advanced cost
+weight-zero = refl
