@@ -6,6 +6,12 @@ ghost use Rattle.queue_words.specs.Header.{schedulerOut, schedulerIn, sc
 use crate::QUEUE_WORDS;
 use types::OutgoingMessageId;
 
+const OPTIONS: usize = 0;
+
+const TOTALS: usize = 6;
+
+const SCHEDULER: usize = 14;
+
 // What a queue was created with.
 pub struct Options {
     pub payload_limit: u16,
@@ -44,24 +50,24 @@ fn options_out(queue: &[u64; QUEUE_WORDS]) -> Options
     ensures { λ r. ⌜ r ≡ optionsOut (now (queue .entry)) ⌝ }
 {
     Options {
-        payload_limit: (queue[0] % 65536) as u16,
-        default_priority: (queue[1] % 65536) as u16,
-        handover_with_data: queue[2] == 1,
-        store_length: queue[3],
-        default_threshold: queue[4],
-        total_threshold: queue[5],
+        payload_limit: (queue[OPTIONS + 0] % 65536) as u16,
+        default_priority: (queue[OPTIONS + 1] % 65536) as u16,
+        handover_with_data: queue[OPTIONS + 2] == 1,
+        store_length: queue[OPTIONS + 3],
+        default_threshold: queue[OPTIONS + 4],
+        total_threshold: queue[OPTIONS + 5],
     }
 }
 
 fn options_in(queue: &mut [u64; QUEUE_WORDS], o: Options)
     ensures { λ _. ⌜ now (queue .exit) ≡ optionsIn (now (queue .entry)) o ⌝ }
 {
-    queue[0] = o.payload_limit as u64;
-    queue[1] = o.default_priority as u64;
-    queue[2] = o.handover_with_data as u64;
-    queue[3] = o.store_length;
-    queue[4] = o.default_threshold;
-    queue[5] = o.total_threshold;
+    queue[OPTIONS + 0] = o.payload_limit as u64;
+    queue[OPTIONS + 1] = o.default_priority as u64;
+    queue[OPTIONS + 2] = o.handover_with_data as u64;
+    queue[OPTIONS + 3] = o.store_length;
+    queue[OPTIONS + 4] = o.default_threshold;
+    queue[OPTIONS + 5] = o.total_threshold;
 }
 
 pub fn load_options(queue: &[u64; QUEUE_WORDS]) -> Options
@@ -76,7 +82,7 @@ pub fn store_options(queue: &mut [u64; QUEUE_WORDS], o: Options)
     options_in(queue, o)
 }
 
-// No work: what its type says of each field, for a proof. So is each `.._fits` of the tables.
+// Does nothing at run time; gives a proof the bounds of the fields' types. So does each `.._fits` of the tables.
 pub fn options_fits(o: Options)
     ensures { λ _. ⌜ FitsOptions o ⌝ }
 {}
@@ -85,28 +91,28 @@ fn totals_out(queue: &[u64; QUEUE_WORDS]) -> Totals
     ensures { λ r. ⌜ r ≡ totalsOut (now (queue .entry)) ⌝ }
 {
     Totals {
-        interleaving: queue[6] == 1,
-        next_message_id: OutgoingMessageId((queue[7] % 4294967296) as u32),
-        total: queue[8],
-        known: queue[9],
-        waiting: queue[10],
-        free: queue[11],
-        used: queue[12],
-        end: queue[13],
+        interleaving: queue[TOTALS + 0] == 1,
+        next_message_id: OutgoingMessageId((queue[TOTALS + 1] % 4294967296) as u32),
+        total: queue[TOTALS + 2],
+        known: queue[TOTALS + 3],
+        waiting: queue[TOTALS + 4],
+        free: queue[TOTALS + 5],
+        used: queue[TOTALS + 6],
+        end: queue[TOTALS + 7],
     }
 }
 
 fn totals_in(queue: &mut [u64; QUEUE_WORDS], t: Totals)
     ensures { λ _. ⌜ now (queue .exit) ≡ totalsIn (now (queue .entry)) t ⌝ }
 {
-    queue[6] = t.interleaving as u64;
-    queue[7] = t.next_message_id.0 as u64;
-    queue[8] = t.total;
-    queue[9] = t.known;
-    queue[10] = t.waiting;
-    queue[11] = t.free;
-    queue[12] = t.used;
-    queue[13] = t.end;
+    queue[TOTALS + 0] = t.interleaving as u64;
+    queue[TOTALS + 1] = t.next_message_id.0 as u64;
+    queue[TOTALS + 2] = t.total;
+    queue[TOTALS + 3] = t.known;
+    queue[TOTALS + 4] = t.waiting;
+    queue[TOTALS + 5] = t.free;
+    queue[TOTALS + 6] = t.used;
+    queue[TOTALS + 7] = t.end;
 }
 
 pub fn load_totals(queue: &[u64; QUEUE_WORDS]) -> Totals
@@ -129,18 +135,18 @@ fn scheduler_out(queue: &[u64; QUEUE_WORDS]) -> SchedulerState
     ensures { λ r. ⌜ r ≡ schedulerOut (now (queue .entry)) ⌝ }
 {
     SchedulerState {
-        current: queue[14],
-        system_virtual_time: queue[15],
-        active: queue[16],
+        current: queue[SCHEDULER + 0],
+        system_virtual_time: queue[SCHEDULER + 1],
+        active: queue[SCHEDULER + 2],
     }
 }
 
 fn scheduler_in(queue: &mut [u64; QUEUE_WORDS], s: SchedulerState)
     ensures { λ _. ⌜ now (queue .exit) ≡ schedulerIn (now (queue .entry)) s ⌝ }
 {
-    queue[14] = s.current;
-    queue[15] = s.system_virtual_time;
-    queue[16] = s.active;
+    queue[SCHEDULER + 0] = s.current;
+    queue[SCHEDULER + 1] = s.system_virtual_time;
+    queue[SCHEDULER + 2] = s.active;
 }
 
 pub fn load_scheduler_state(queue: &[u64; QUEUE_WORDS]) -> SchedulerState

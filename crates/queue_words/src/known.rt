@@ -68,8 +68,8 @@ pub struct Probe {
     pub hit: usize,
 }
 
-// One step: the middle one of the positions left is looked at. The tests on low and mid only keep other values than a search's
-// inside the table.
+// One step: the middle one of the positions left is looked at. The tests on low and mid
+// are for values that no search has.
 fn probe_once(queue: &[u64; QUEUE_WORDS], id: u16, p: Probe) -> Probe
     ensures { λ r. ⌜ r ≡ probed (now (queue .entry)) id p ⌝ }
 {

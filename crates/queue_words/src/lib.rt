@@ -65,7 +65,7 @@ pub use streams::stream_fits;
 
 pub const QUEUE_WORDS: usize = 20768;
 
-// No work: that there are 20,768 words, for a proof.
+// Does nothing at run time; gives a proof that there are 20,768 words.
 pub fn whole(queue: &[u64; QUEUE_WORDS])
     ensures { λ _. ⌜ length (now (queue .entry)) ≡ 20768 ⌝ }
 {

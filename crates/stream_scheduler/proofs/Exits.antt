@@ -230,3 +230,10 @@ module _ (ws : List ℕ) (at bytes : ℕ) (s : SchedulerState) (es : s ≡ sched
           → c ≡ rememberedWord (a .«stream_id» .0) (a .parameters) → m ≡ putScheduler l (stateOf c t (s .active)) → outcome true m ≡ acceptAt ws at bytes
       unfolding acceptAt acceptRow
       accept-part o row c l m g eo er el ec em = rw (← es, le-ltb _ _ h, lt-leb _ _ f, ← ea, lt-leb _ _ g, ← eo, em, el, er, ec, et)
+
+module _ (id w : ℕ) (p : SchedulingParameters) (ep : p ≡ parametersOf w) where
+  pub remembered-turns : p ≡ RoundRobin → id ≡ rememberedWord id w
+  remembered-turns ev = rw (← ep, ev)
+
+  pub remembered-weighted : (v : ℕ) → p ≡ WeightedFairQueuing v → 65536 ≡ rememberedWord id w
+  remembered-weighted v ev = rw (← ep, ev)

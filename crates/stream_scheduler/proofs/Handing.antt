@@ -10,7 +10,8 @@ use Rattle.queue_model.specs.Logic.{if_then_else_}
 use Rattle.queue_model.specs.Types.{Weight, round-robin, weighted, Active, Scheduler}
 use Rattle.queue_model.specs.Scheduler.{moved, scheduled, find-active, put-active, without-active, forget, rest-time, remove-stream, least-of, remembered, or-else, peek, remember, accept-last, accept-part, accept}
 use Rattle.queue_model.proofs.Tests.{Tri, ltb-true, ltb-false, leb-true, leb-false, eqb-true, eqb-false, less, same, more, tri}
-use Rattle.queue_words.specs.Active.{activeAt, putActive, FitsActive}
+use Rattle.queue_words.specs.Active.{activeAt, putActive, FitsActive, parametersOf}
+use Rattle.queue_words.specs.declared.active.SchedulingParameters.{SchedulingParameters}
 use Rattle.queue_words.specs.Header.{optionsAt, schedulerAt, putScheduler}
 use Rattle.queue_words.specs.declared.active.ActiveStreamInfo.{ActiveStreamInfo}
 use Rattle.queue_words.specs.declared.header.Options.{Options}
@@ -20,11 +21,11 @@ use Rattle.stream_scheduler.specs.declared.Peeked.{Peeked}
 use Rattle.stream_scheduler.specs.declared.Peeked.the-variants.{At, Nothing, Broken}
 use Rattle.queue_words.specs.declared.active.SchedulingParameters.the-variants.{RoundRobin, WeightedFairQueuing}
 use Rattle.stream_scheduler.specs.Rows.{weightOf, weightAt, advanced, scheduledRow, seek, bestTo}
-use Rattle.stream_scheduler.specs.Words.{Outcome, outcome, currentRow, peekAmong, peekWords, stateOf, droppedRow, rememberedWord, partRow, acceptRow, acceptAt}
-use Rattle.stream_scheduler.specs.Link.{entryOf, entryAt, tableOf, currentOf, modelScheduler, Unlike, GoodScheduler}
+use Rattle.stream_scheduler.specs.Words.{Outcome, outcome, currentRow, peekAmong, peekWords, stateOf, droppedRow, rememberedIn, rememberedWord, partRow, acceptRow, acceptAt}
+use Rattle.stream_scheduler.specs.Link.{entryOf, entryAt, tableOf, currentOf, modelScheduler, Unlike, GoodScheduler, Steps, Chooses, row-chosen, none-chosen}
 use Rattle.stream_scheduler.proofs.Index.{table-nil, table-at, table-none, table-set, unlike-same, table-least}
 use Rattle.stream_scheduler.proofs.Search.{Sought, hit, miss, sought, best-is}
-use Rattle.stream_scheduler.proofs.Link.{make, model-of, entry-put, entry-put-other, entry-state, entry-row, id-fits, current-some, current-none, forget-own, dropped-good, dropped-count, dropped-model, none-there, some-there, count, Steps, scheduled-row}
+use Rattle.stream_scheduler.proofs.Link.{make, model-of, entry-put, entry-put-other, entry-state, entry-row, id-fits, current-some, current-none, forget-own, dropped-good, dropped-count, dropped-model, none-there, some-there, count, scheduled-row}
 
 -- ---- accept
 
@@ -43,24 +44,13 @@ unfolding accept-part modelScheduler
 part-is ws a bytes = refl
 
 -- The word of the remembered stream, by the weight.
-remember-weighted : (id w : ℕ) → w < 65536 → currentOf (rememberedWord id w) ≡ remember id (weightAt w)
+remember-in : (id : ℕ) (p : SchedulingParameters) → id < 65536 → currentOf (rememberedIn id p) ≡ remember id (weightOf p)
 unfolding remember
-remember-weighted id w h =
-    ap (λ (b : Bool). currentOf (if b then 65536 else id)) (ltb-true h) ∙ current-none 65536 (omega arith)
-    ∙ ap (λ (b : Bool). remember id (weightOf (if b then WeightedFairQueuing w else RoundRobin))) (sym (ltb-true h))
-
-remember-turns : (id w : ℕ) → id < 65536 → 65536 ≤ w → currentOf (rememberedWord id w) ≡ remember id (weightAt w)
-unfolding remember
-remember-turns id w f h =
-    ap (λ (b : Bool). currentOf (if b then 65536 else id)) (ltb-false h) ∙ current-some id f
-    ∙ ap (λ (b : Bool). remember id (weightOf (if b then WeightedFairQueuing w else RoundRobin))) (sym (ltb-false h))
+remember-in id RoundRobin f = current-some id f
+remember-in id (WeightedFairQueuing v) f = current-none 65536 (omega arith)
 
 remember-word : (id w : ℕ) → id < 65536 → currentOf (rememberedWord id w) ≡ remember id (weightAt w)
-remember-word id w f = elim (tri w 65536) [
-  | less l ↦ remember-weighted id w l
-  | same e ↦ remember-turns id w f (omega arith)
-  | more l ↦ remember-turns id w f (omega arith)
-]
+remember-word id w f = remember-in id (parametersOf w) f
 
 module _ (ws : List ℕ) (g : GoodScheduler ws) (at bytes : ℕ) (h : at < (schedulerAt ws) .active) where
   abbrev row : ActiveStreamInfo
@@ -162,11 +152,6 @@ module _ (ws : List ℕ) (g : GoodScheduler ws) (at bytes : ℕ) (h : at < (sche
       (subst (Steps ws (outcome true (acceptRow ws at bytes n))) (sym accept-is) (by-size (leb ((activeAt ws at) .«bytes_remaining») bytes) refl)))
 
 -- ---- peek
-
--- What a choice on the words says of the model's.
-pub data Chooses (ws : List ℕ) (x : Option Active) : Peeked → Type 0 where
-  row-chosen : (i : ℕ) → i < (schedulerAt ws) .active → x ≡ some (entryAt ws i) → Chooses ws x (At i)
-  none-chosen : x ≡ none → Chooses ws x Nothing
 
 module _ (ws : List ℕ) (g : GoodScheduler ws) where
   remembered-some : (c : ℕ) → remembered (some c) (tableOf (entryAt ws) ((schedulerAt ws) .active)) ≡ find-active c (tableOf (entryAt ws) ((schedulerAt ws) .active))

@@ -5,3 +5,4 @@ pub mod Search
 pub mod Link
 pub mod Handing
 pub mod Worked
+pub mod Frames

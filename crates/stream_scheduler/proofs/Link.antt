@@ -26,7 +26,7 @@ use Rattle.stream_scheduler.specs.declared.Peeked.{Peeked}
 use Rattle.stream_scheduler.specs.declared.Peeked.the-variants.{At, Nothing, Broken}
 use Rattle.stream_scheduler.specs.Rows.{weightOf, weightAt, advanced, scheduledRow, seek, bestTo}
 use Rattle.stream_scheduler.specs.Words.{Outcome, outcome, currentRow, peekAmong, peekWords, forgotten, rested, stateOf, droppedRow, takenOut, removeStream, setIn, setBytesRemaining, rememberedWord, partRow, acceptRow, acceptAt}
-use Rattle.stream_scheduler.specs.Link.{entryOf, entryAt, tableOf, currentOf, modelScheduler, Unlike, GoodScheduler}
+use Rattle.stream_scheduler.specs.Link.{entryOf, entryAt, tableOf, currentOf, modelScheduler, Unlike, GoodScheduler, Steps, FitsParameters, Room, listed, free}
 use Rattle.stream_scheduler.proofs.Index.{table-nil, table-suc, table-at, table-none, table-same, table-set, table-add, unlike-same, unlike-add, unlike-drop, table-drop, table-without, table-least}
 use Rattle.stream_scheduler.proofs.Search.{Sought, hit, miss, sought, best-is}
 
@@ -176,15 +176,6 @@ pub count : (n : ℕ) → Count n
 count zero = none-there refl
 count (suc m) = some-there m refl
 
--- ---- what a function must show
-
--- Done, good, and the model's step.
-pub record Steps (ws : List ℕ) (r : Outcome) (sc : Scheduler) : Type 0 where
-  pub step-done : r .done ≡ true
-  pub step-good : GoodScheduler (r .next)
-  pub step-model : modelScheduler (r .next) ≡ sc
-  pub step-count : (schedulerAt (r .next)) .active ≤ suc ((schedulerAt ws) .active)
-
 -- The scheduler that the words stand for, without a stream.
 removed : (ws : List ℕ) (id : ℕ) → remove-stream id (modelScheduler ws) ≡
     make ((optionsAt ws) .«payload_limit») (forget id (currentOf ((schedulerAt ws) .current))) (rest-time ((schedulerAt ws) .«system_virtual_time») (without-active id (tableOf (entryAt ws) ((schedulerAt ws) .active)))) (without-active id (tableOf (entryAt ws) ((schedulerAt ws) .active)))
@@ -262,11 +253,6 @@ module _ (ws : List ℕ) (g : GoodScheduler ws) (id : ℕ) (fits : id < 65536) w
 
 -- ---- set_bytes_remaining
 
--- Scheduling parameters whose weight is a 16-bit number.
-abbrev pub FitsParameters : SchedulingParameters → Type 0
-FitsParameters RoundRobin = Unit {0}
-FitsParameters (WeightedFairQueuing w) = w < 65536
-
 word-fits : (p : SchedulingParameters) → FitsParameters p → parametersWord p < 4294967296
 word-fits RoundRobin f = omega arith
 word-fits (WeightedFairQueuing w) f = omega arith
@@ -292,11 +278,6 @@ start-some t a = refl
 start-none : (t : ℕ) → start-of t none ≡ t
 unfolding start-of
 start-none t = refl
-
--- Whether a stream can be let wait: it has a row, or there is room for one.
-pub data Room (ws : List ℕ) (id : ℕ) : Type 0 where
-  listed : (i : ℕ) → i < (schedulerAt ws) .active → (entryAt ws i) .stream-id ≡ id → Room ws id
-  free : (schedulerAt ws) .active < 256 → Room ws id
 
 module _ (ws : List ℕ) (g : GoodScheduler ws) (id bytes : ℕ) (p : SchedulingParameters) (fits : id < 65536) (fp : FitsParameters p) where
   abbrev row-at : ℕ → ActiveStreamInfo

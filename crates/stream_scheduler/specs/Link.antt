@@ -11,9 +11,18 @@ use Rattle.queue_model.specs.Table.{put}
 use Rattle.queue_model.specs.Types.{Active, Scheduler}
 use Rattle.queue_model.specs.Scheduler.{put-active}
 use Rattle.queue_words.specs.Active.{activeAt}
-use Rattle.queue_words.specs.Header.{optionsAt, schedulerAt}
+use Rattle.queue_words.specs.Header.{optionsAt, totalsAt, schedulerAt}
+use Rattle.queue_words.specs.Items.{itemAt}
+use Rattle.queue_words.specs.Known.{knownAt}
+use Rattle.queue_words.specs.Streams.{streamAt}
 use Rattle.queue_words.specs.declared.active.ActiveStreamInfo.{ActiveStreamInfo}
+use Rattle.queue_words.specs.declared.active.SchedulingParameters.{SchedulingParameters}
+use Rattle.queue_words.specs.declared.active.SchedulingParameters.the-variants.{RoundRobin, WeightedFairQueuing}
+use Rattle.queue_words.specs.declared.header.SchedulerState.{SchedulerState}
 use Rattle.stream_scheduler.specs.Rows.{weightAt}
+use Rattle.stream_scheduler.specs.Words.{Outcome}
+use Rattle.stream_scheduler.specs.declared.Peeked.{Peeked}
+use Rattle.stream_scheduler.specs.declared.Peeked.the-variants.{At, Nothing}
 
 -- The entry that a row stands for.
 abbrev pub entryOf : ActiveStreamInfo → Active
@@ -45,3 +54,39 @@ pub record GoodScheduler (ws : List ℕ) : Type 0 where
   pub long : length ws ≡ 20768
   pub few : (schedulerAt ws) .active ≤ 256
   pub unlike : Unlike (entryAt ws) ((schedulerAt ws) .active)
+
+-- The state of a new scheduler: nothing remembered, no time, no row.
+abbrev pub at-rest : SchedulerState
+at-rest = record { current = 65536; «system_virtual_time» = 0; active = 0 }
+
+-- ------------------------------------------------------------------ what a function must show
+
+-- Done, good, and the model's step.
+pub record Steps (ws : List ℕ) (r : Outcome) (sc : Scheduler) : Type 0 where
+  pub step-done : r .done ≡ true
+  pub step-good : GoodScheduler (r .next)
+  pub step-model : modelScheduler (r .next) ≡ sc
+  pub step-count : (schedulerAt (r .next)) .active ≤ suc ((schedulerAt ws) .active)
+
+-- Scheduling parameters whose weight is a 16-bit number.
+abbrev pub FitsParameters : SchedulingParameters → Type 0
+FitsParameters RoundRobin = Unit {0}
+FitsParameters (WeightedFairQueuing w) = w < 65536
+
+-- Whether a stream can be let wait: it has a row, or there is room for one.
+pub data Room (ws : List ℕ) (id : ℕ) : Type 0 where
+  listed : (i : ℕ) → i < (schedulerAt ws) .active → (entryAt ws i) .stream-id ≡ id → Room ws id
+  free : (schedulerAt ws) .active < 256 → Room ws id
+
+-- What a choice on the words says of the model's.
+pub data Chooses (ws : List ℕ) (x : Option Active) : Peeked → Type 0 where
+  row-chosen : (i : ℕ) → i < (schedulerAt ws) .active → x ≡ some (entryAt ws i) → Chooses ws x (At i)
+  none-chosen : x ≡ none → Chooses ws x Nothing
+
+-- No part of the queue but the scheduler's has changed.
+pub record Untouched (ws us : List ℕ) : Type 0 where
+  pub same-options : optionsAt us ≡ optionsAt ws
+  pub same-totals : totalsAt us ≡ totalsAt ws
+  pub same-known : (i : ℕ) → i < 256 → knownAt us i ≡ knownAt ws i
+  pub same-streams : (i : ℕ) → i < 256 → streamAt us i ≡ streamAt ws i
+  pub same-items : (i : ℕ) → i < 1024 → itemAt us i ≡ itemAt ws i

@@ -20,7 +20,7 @@ weightOf (WeightedFairQueuing w) = weighted w
 abbrev pub weightAt : ℕ → Weight
 weightAt w = weightOf (parametersOf w)
 
--- The time at which handing out bytes ends that start at a time.
+-- The time reached by handing out `bytes` from `start` on.
 unfoldable pub advanced : ℕ → ℕ → ℕ → ℕ
 advanced w start bytes = saturating (start + cost (weightAt w) bytes)
 

@@ -4,16 +4,17 @@ use mathlib.Core.Bool.{Bool, true, false}
 use mathlib.Core.List.{List}
 use lib.Dec.{eqb, ltb, leb}
 use Rattle.queue_model.specs.Logic.{if_then_else_}
-use Rattle.queue_words.specs.Active.{activeAt, putActive, parametersWord}
+use Rattle.queue_words.specs.Active.{activeAt, putActive, parametersOf, parametersWord}
 use Rattle.queue_words.specs.Header.{optionsAt, schedulerAt, putScheduler}
 use Rattle.queue_words.specs.declared.active.ActiveStreamInfo.{ActiveStreamInfo}
 use Rattle.queue_words.specs.declared.active.SchedulingParameters.{SchedulingParameters}
+use Rattle.queue_words.specs.declared.active.SchedulingParameters.the-variants.{RoundRobin, WeightedFairQueuing}
 use Rattle.queue_words.specs.declared.header.SchedulerState.{SchedulerState}
 use Rattle.stream_scheduler.specs.Rows.{advanced, scheduledRow, seek, bestTo}
 use Rattle.stream_scheduler.specs.declared.Peeked.{Peeked}
 use Rattle.stream_scheduler.specs.declared.Peeked.the-variants.{At, Nothing, Broken}
 
--- Whether the words could be used, and the words after: `false` leaves them as they were.
+-- Whether the words could be used, and the words after: `false` leaves them as they were (`kept-..`, proofs/Frames).
 pub record Outcome : Type 0 where
   pub done : Bool
   pub next : List ℕ
@@ -80,8 +81,13 @@ setBytesRemaining ws id bytes p =
 
 -- ------------------------------------------------------------------ handing out
 
+-- "Without interleaving a stream is remembered from any fragment but a last one": by turns, and not by weights.
+abbrev pub rememberedIn : ℕ → SchedulingParameters → ℕ
+rememberedIn id RoundRobin = id
+rememberedIn id (WeightedFairQueuing v) = 65536
+
 abbrev pub rememberedWord : ℕ → ℕ → ℕ
-rememberedWord id w = if ltb w 65536 then 65536 else id
+rememberedWord id w = rememberedIn id (parametersOf w)
 
 -- A row after bytes of it are handed out, at a time, that are not its last.
 abbrev pub partRow : List ℕ → ActiveStreamInfo → ℕ → ℕ → ActiveStreamInfo

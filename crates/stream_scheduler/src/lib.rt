@@ -1,8 +1,8 @@
 // The stream scheduler (tx/stream_scheduler.rs) over the table of active streams in the queue's words.
 //
 // A stream that waits has a row. Rows stand as the Rust's `Vec` has them: a new one at the end, and the last one in the place
-// of one that is removed. Every function is total: where the number of rows is above 256, or a place is not among them, it
-// answers `false` or `Broken`, and nothing has changed.
+// of one that is removed. Every public function is total: where the number of rows is above 256, a row asked for is not among
+// them, or a 257th would be needed, it answers `false` or `Broken`, and nothing has changed. The caller then answers 16.
 ghost use mathlib.Core.Path.{_≡_};
 ghost use Prim.Native.Nat.{_+_, _-_, _*_, _<_, _≤_, min};
 ghost use Rattle.queue_model.specs.Scheduler.{cost, saturating};
@@ -52,8 +52,8 @@ fn weighted_cost(weight: u16, bytes: u64) -> u64
     whole / (weight as u64)
 }
 
-// The virtual time at which handing out bytes ends that start at a time.
-pub fn calculate_vt(parameters: u32, start: u64, bytes: u64) -> u64
+// The time reached by handing out `bytes` from `start` on.
+fn calculate_vt(parameters: u32, start: u64, bytes: u64) -> u64
     ensures { λ r. ⌜ r ≡ advanced parameters start bytes ⌝ }
 {
     let p = parameters_of(parameters);
@@ -76,7 +76,7 @@ fn min(a: u64, b: u64) -> u64
 }
 
 // A stream's row from a start on: "finish = start + cost of min(remaining, payload limit)".
-pub fn schedule_next_chunk(
+fn schedule_next_chunk(
     limit: u64,
     stream_id: u16,
     parameters: u32,
@@ -97,7 +97,7 @@ pub fn schedule_next_chunk(
 }
 
 // The first row of a stream among n rows, or n.
-pub fn seek(queue: &[u64; QUEUE_WORDS], stream_id: u16, n: usize) -> usize
+fn seek(queue: &[u64; QUEUE_WORDS], stream_id: u16, n: usize) -> usize
     requires { ⌜ n ≤ 256 ⌝ }
     ensures { λ r. ⌜ r ≡ seek (now (queue .entry)) «stream_id» n ⌝ }
 {
@@ -148,7 +148,7 @@ fn better(a: Best, b: Best) -> Best
 }
 
 // The least of n rows.
-pub fn least(queue: &[u64; QUEUE_WORDS], n: usize) -> Best
+fn least(queue: &[u64; QUEUE_WORDS], n: usize) -> Best
     requires { ⌜ (0 < n) × (n ≤ 256) ⌝ }
     ensures { λ r. ⌜ r ≡ bestTo (now (queue .entry)) (n - 1) ⌝ }
 {
@@ -341,10 +341,11 @@ pub fn set_bytes_remaining(
 fn remember(stream_id: u16, parameters: u32) -> u64
     ensures { λ r. ⌜ r ≡ rememberedWord «stream_id» parameters ⌝ }
 {
-    if parameters < 65536 {
-        return 65536;
+    let p = parameters_of(parameters);
+    match p {
+        SchedulingParameters::RoundRobin => stream_id as u64,
+        SchedulingParameters::WeightedFairQueuing(_) => 65536,
     }
-    stream_id as u64
 }
 
 // Hands out bytes of the row `at`: its start moves by their cost, and the system time becomes that start.

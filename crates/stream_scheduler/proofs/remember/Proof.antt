@@ -1,13 +1,14 @@
--- `stream_scheduler::remember` meets its contract: each return is a case of `rememberedWord`. Assumes nothing.
-use borrow.Author.Tests.{lt-ltb, le-ltb}
+-- `stream_scheduler::remember` meets its contract: each arm is a case of `rememberedWord` (proofs/Exits.antt). Assumes nothing.
+use borrow.Author.Needs.{needs}
+use Rattle.stream_scheduler.proofs.Exits.{remembered-turns, remembered-weighted}
 use Rattle.stream_scheduler.proofs.remember.Statement.{statement}
 use Rattle.stream_scheduler.proofs.remember.Tie as tie
 
 returns : tie.Need-returns
-returns c = rw (lt-ltb _ _ (c .if1 .taken))
+returns c = remembered-turns (c .before .before .before .args .stream-id) (c .before .before .before .args .parameters) _ (c .before .before .parameters-of .ensures) (c .enum-told .given .1)
 
 returns-2 : tie.Need-returns-2
-returns-2 c = rw (le-ltb _ _ (c .if1 .left))
+returns-2 c = remembered-weighted (c .before .before .before .args .stream-id) (c .before .before .before .args .parameters) _ (c .before .before .parameters-of .ensures) _ (c .enum-told2 .given .1)
 
 pub remember-spec : {M : Type 1} → statement M
-remember-spec = tie.close (tie.spec returns returns-2)
+remember-spec = tie.close (tie.spec (λ c κs. search needs) (λ c. search needs) (λ c. search needs) returns returns-2)
