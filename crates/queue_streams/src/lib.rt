@@ -1,0 +1,27 @@
+// The streams of a send queue (tx/send_queue.rs): the calls on them that touch no message. Each is total on every input: words
+// that no queue has get the answer 16, and nothing is changed.
+pub mod answers;
+pub mod events;
+pub mod known;
+pub mod questions;
+pub mod settings;
+
+pub use answers::Call;
+pub use answers::Flag;
+pub use answers::Number;
+pub use events::EVENT_PLACES;
+pub use events::put_event;
+pub use known::Place;
+pub use known::insert_stream;
+pub use known::look_up;
+pub use known::new_stream;
+pub use questions::buffered_amount;
+pub use questions::buffered_amount_low_threshold;
+pub use questions::get_handover_readiness;
+pub use questions::get_priority;
+pub use questions::has_data_to_send;
+pub use questions::has_streams_ready_to_be_reset;
+pub use questions::is_empty;
+pub use questions::total_buffered_amount;
+pub use settings::set_buffered_amount_low_threshold;
+pub use settings::set_priority;
