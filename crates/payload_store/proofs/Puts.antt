@@ -1,0 +1,226 @@
+-- Putting a payload where the invariant holds: the row then has it, every other row has its own, and no payload is refused for which the free bytes suffice. Assumes nothing.
+use mathlib.Core.Path.{_≡_, refl, sym, ap, _∙_}
+use mathlib.Core.Logic.{_⊎_, inl, inr, ⊎-elim}
+use mathlib.Core.Bool.{Bool, true, false}
+use mathlib.Core.List.{List, _++_}
+use Prim.Native.Nat.{ℕ, _+_, _-_, _≤_, _<_}
+use native.Mathlib.Omega.{arith}
+use borrow.Author.Tests.{lt-ltb, le-ltb, le-leb, lt-leb}
+use lib.ListN.{length, getD, take, drop, length-append, length-drop, List·getD-append}
+use lib.Seq.{length-take-le, take-at, drop-at, getD-take}
+use Rattle.queue_words.specs.Header.{totalsAt}
+use Rattle.queue_words.specs.declared.header.Totals.{Totals}
+use Rattle.queue_words.specs.Items.{putPlace, putLength}
+use Rattle.payload_store.specs.Words.{usedOf, endOf, placeOf, sizeOf, putBytes}
+use Rattle.payload_store.specs.Moving.{Pack, together}
+use Rattle.payload_store.specs.Putting.{allFit, Outcome, outcome, written, placed, putCode, putPayload}
+use Rattle.payload_store.specs.Good.{payloadOf, sumTo, Apart, Lay, Good}
+use Rattle.payload_store.specs.Promise.{Together, Put}
+use Rattle.payload_store.proofs.Cases.{by-index, by-lt}
+use Rattle.payload_store.proofs.Laws.{place-length, place-same, place-other, place-size, size-length, size-same, size-other, size-place, bytes-length, bytes-place, bytes-size, bytes-used, bytes-end}
+use Rattle.payload_store.proofs.Sums.{sum-one}
+use Rattle.payload_store.proofs.Tests.{all-true, true-all, out-end, out-moved, out-refused}
+use Rattle.payload_store.proofs.Together.{payload-same, together-law}
+use Rattle.payload_store.proofs.Goods.{used-fits}
+
+-- what is written into the middle of a store
+module _ (st : List ℕ) (at : ℕ) (bs : List ℕ) (h : at + length bs ≤ length st) where
+  front : length (take at st) ≡ at
+  front = length-take-le at st (omega arith)
+
+  pub written-length : length (written st at bs) ≡ length st
+  written-length = simp (length-append, length-drop) (omega (arith, front))
+
+  pub written-below : (j : ℕ) → j < at → getD (written st at bs) j 0 ≡ getD st j 0
+  written-below j l = List·getD-append (take at st) (bs ++ drop (at + length bs) st) 0 j (omega (arith, front)) ∙ getD-take at st j 0 l
+
+  pub written-part : take (length bs) (drop at (written st at bs)) ≡ bs
+  written-part =
+      ap (take (length bs)) (drop-at (take at st) (bs ++ drop (at + length bs) st) at front) ∙ take-at bs (drop (at + length bs) st) (length bs) refl
+
+-- the words after a put
+module _ (ws : List ℕ) (r at n u e : ℕ) (l : length ws ≡ 20768) (h : r < 1024) where
+  abbrev After : List ℕ
+  After = putBytes (putLength (putPlace ws r at) r n) u e
+
+  l1 : length (putPlace ws r at) ≡ 20768
+  l1 = place-length ws r at ∙ l
+
+  l2 : length (putLength (putPlace ws r at) r n) ≡ 20768
+  l2 = size-length (putPlace ws r at) r n ∙ l1
+
+  after-length : length After ≡ 20768
+  after-length = bytes-length (putLength (putPlace ws r at) r n) u e ∙ l2
+
+  after-used : usedOf After ≡ u
+  after-used = bytes-used (putLength (putPlace ws r at) r n) u e l2
+
+  after-end : endOf After ≡ e
+  after-end = bytes-end (putLength (putPlace ws r at) r n) u e l2
+
+  place-new : placeOf After r ≡ at
+  place-new = bytes-place (putLength (putPlace ws r at) r n) u e r ∙ (size-place (putPlace ws r at) r n r ∙ place-same ws r at l h)
+
+  place-old : (j : ℕ) → (r ≡ j → ⊥) → placeOf After j ≡ placeOf ws j
+  place-old j ne = bytes-place (putLength (putPlace ws r at) r n) u e j ∙ (size-place (putPlace ws r at) r n j ∙ place-other ws r at j ne)
+
+  size-new : sizeOf After r ≡ n
+  size-new = bytes-size (putLength (putPlace ws r at) r n) u e r ∙ size-same (putPlace ws r at) r n l1 h
+
+  size-old : (j : ℕ) → (r ≡ j → ⊥) → sizeOf After j ≡ sizeOf ws j
+  size-old j ne = bytes-size (putLength (putPlace ws r at) r n) u e j ∙ (size-other (putPlace ws r at) r n j ne ∙ place-size ws r at j)
+
+module _ (ws st : List ℕ) (at r : ℕ) (bs : List ℕ) (g : Lay ws st at) (h : r < 1024) (dead : sizeOf ws r ≡ 0) (room : at + length bs ≤ length st) where
+  abbrev ws′ : List ℕ
+  ws′ = putBytes (putLength (putPlace ws r at) r (length bs)) (usedOf ws + length bs) (at + length bs)
+
+  pn : placeOf ws′ r ≡ at
+  pn = place-new ws r at (length bs) (usedOf ws + length bs) (at + length bs) (g .long) h
+
+  sn : sizeOf ws′ r ≡ length bs
+  sn = size-new ws r at (length bs) (usedOf ws + length bs) (at + length bs) (g .long) h
+
+  po : (j : ℕ) → (r ≡ j → ⊥) → placeOf ws′ j ≡ placeOf ws j
+  po = place-old ws r at (length bs) (usedOf ws + length bs) (at + length bs) (g .long) h
+
+  so : (j : ℕ) → (r ≡ j → ⊥) → sizeOf ws′ j ≡ sizeOf ws j
+  so = size-old ws r at (length bs) (usedOf ws + length bs) (at + length bs) (g .long) h
+
+  apart-put : Apart ws′
+  apart-put i j hi hj ne si sj =
+      by-index r i
+      (λ e. let nj : r ≡ j → ⊥ = λ z. ne (sym e ∙ z) in
+      let p : placeOf ws′ r ≡ placeOf ws′ i = ap (placeOf ws′) e in
+      inr (omega (arith, pn, po j nj, so j nj, g .below j hj (omega (arith, so j nj)))))
+      (λ ni. by-index r j
+      (λ e. let p : placeOf ws′ r ≡ placeOf ws′ j = ap (placeOf ws′) e in
+      inl (omega (arith, pn, po i ni, so i ni, g .below i hi (omega (arith, so i ni)))))
+      (λ nj. ⊎-elim (λ l. inl (omega (arith, po i ni, so i ni, po j nj, so j nj))) (λ l. inr (omega (arith, po i ni, so i ni, po j nj, so j nj)))
+      (g .apart i j hi hj ne (omega (arith, so i ni)) (omega (arith, so j nj)))))
+
+  lay-put : Lay ws′ (written st at bs) (at + length bs)
+  lay-put = record {
+    long = after-length ws r at (length bs) (usedOf ws + length bs) (at + length bs) (g .long) h;
+    at-in = omega (arith, written-length st at bs room);
+    inside = λ i hi. by-index r i
+        (λ e. omega (arith, ap (placeOf ws′) e, ap (sizeOf ws′) e, pn, sn, written-length st at bs room))
+        (λ ne. omega (arith, po i ne, so i ne, g .inside i hi, written-length st at bs room));
+    below = λ i hi s. by-index r i
+        (λ e. omega (arith, ap (placeOf ws′) e, ap (sizeOf ws′) e, pn, sn))
+        (λ ne. omega (arith, po i ne, so i ne, g .below i hi (omega (arith, so i ne))));
+    apart = apart-put;
+    used-is = omega (
+      arith,
+      after-used ws r at (length bs) (usedOf ws + length bs) (at + length bs) (g .long) h,
+      g .used-is,
+      sum-one (sizeOf ws) (sizeOf ws′) r 1024 h (λ j l ne. so j ne),
+      sn,
+    );
+  }
+
+  new-bytes : payloadOf ws′ (written st at bs) r ≡ bs
+  unfolding payloadOf
+  new-bytes = rw (pn, sn) (written-part st at bs room)
+
+  pub placed-law : Put ws st r bs (placed ws st at r bs)
+  unfolding placed
+  placed-law = record {
+    accepted = refl;
+    good = rw (after-end ws r at (length bs) (usedOf ws + length bs) (at + length bs) (g .long) h) lay-put;
+    same = written-length st at bs room;
+    used = after-used ws r at (length bs) (usedOf ws + length bs) (at + length bs) (g .long) h;
+    new-size = sn;
+    new = new-bytes;
+    sizes = so;
+    others = λ j hj ne s. payload-same ws st ws′ (written st at bs) j (so j ne) (g .inside j hj)
+        (omega (arith, po j ne, g .inside j hj, written-length st at bs room))
+        (λ k l. rw (po j ne) (written-below st at bs room (placeOf ws j + k) (omega (arith, g .below j hj s))));
+  }
+
+-- the test passes
+module _ (ws st : List ℕ) (r n : ℕ) (g : Good ws st) (h : r < 1024) (dead : sizeOf ws r ≡ 0) (room : usedOf ws + n ≤ length st) where
+  code-end : n ≤ length st - endOf ws → putCode ws (length st) r n ≡ 0
+  unfolding putCode
+  code-end a = rw (
+    lt-leb 1024 r h,
+    le-ltb 0 (sizeOf ws r) (omega arith),
+    le-ltb (length st) (usedOf ws) (omega arith),
+    le-ltb (length st - usedOf ws) n (omega arith),
+    le-ltb (length st) (endOf ws) (g .at-in),
+    le-leb n (length st - endOf ws) a,
+  )
+
+  code-moved : length st - endOf ws < n → putCode ws (length st) r n ≡ 1
+  unfolding putCode
+  code-moved a = rw (
+    lt-leb 1024 r h,
+    le-ltb 0 (sizeOf ws r) (omega arith),
+    le-ltb (length st) (usedOf ws) (omega arith),
+    le-ltb (length st - usedOf ws) n (omega arith),
+    le-ltb (length st) (endOf ws) (g .at-in),
+    lt-leb n (length st - endOf ws) a,
+    true-all ws (length st) (usedOf ws) (record { fits = record { inside = g .inside }; sum = sym (g .used-is) }),
+  )
+
+-- and fails
+module _ (ws : List ℕ) (len r n : ℕ) (h : r < 1024) (dead : sizeOf ws r ≡ 0) where
+  code-full : usedOf ws ≤ len → len < usedOf ws + n → putCode ws len r n ≡ 8
+  unfolding putCode
+  code-full u f = rw (lt-leb 1024 r h, le-ltb 0 (sizeOf ws r) (omega arith), le-ltb len (usedOf ws) u, lt-ltb (len - usedOf ws) n (omega arith))
+
+  code-wrong : usedOf ws + n ≤ len → endOf ws ≤ len → len < endOf ws + n → allFit ws len (usedOf ws) ≡ false → putCode ws len r n ≡ 16
+  unfolding putCode
+  code-wrong room e tight bad = rw (
+    lt-leb 1024 r h,
+    le-ltb 0 (sizeOf ws r) (omega arith),
+    le-ltb len (usedOf ws) (omega arith),
+    le-ltb (len - usedOf ws) n (omega arith),
+    le-ltb len (endOf ws) e,
+    lt-leb n (len - endOf ws) (omega arith),
+    bad,
+  )
+
+-- a put after moving together, as seen from before
+after-moving : (ws st : List ℕ) (t : Pack) (r : ℕ) (bs : List ℕ) (o : Outcome) → Together ws st t → Put (t .words) (t .store) r bs o → Put ws st r bs o
+after-moving ws st t r bs o m p = record {
+  accepted = p .accepted;
+  good = p .good;
+  same = p .same ∙ m .same;
+  used = p .used ∙ ap (λ (t : Totals). t .used + length bs) (m .totals);
+  new-size = p .new-size;
+  new = p .new;
+  sizes = λ j ne. p .sizes j ne ∙ m .sizes j;
+  others = λ j hj ne s. p .others j hj ne (omega (arith, m .sizes j)) ∙ m .bytes j hj s;
+}
+
+-- THE THEOREM of putting
+pub put-law : (ws st : List ℕ) (r : ℕ) (bs : List ℕ) → Good ws st → r < 1024 → sizeOf ws r ≡ 0 → usedOf ws + length bs ≤ length st → Put ws st r bs (putPayload ws st r bs)
+put-law ws st r bs g h dead room = by-lt (length st - endOf ws) (length bs)
+    (λ a. let m = together-law ws st (endOf ws) g in
+    let t = together ws st in
+    let u : usedOf (t .words) ≡ usedOf ws = ap (λ (x : Totals). x .used) (m .totals) in
+    let c = code-moved ws st r (length bs) g h dead room a in
+    let e : placed (t .words) (t .store) (usedOf (t .words)) r bs ≡ putPayload ws st r bs =
+    out-moved ws st bs r 1 (sym c) (placed (t .words) (t .store) (usedOf (t .words)) r bs) (t .words) (t .store) (t .cursor) (totalsAt (t .words)) refl refl refl refl in
+    rw (← e) (after-moving ws st t r bs (placed (t .words) (t .store) (usedOf (t .words)) r bs) m
+    (placed-law (t .words) (t .store) (usedOf (t .words)) r bs (rw u (m .lay)) h (m .sizes r ∙ dead) (omega (arith, u, m .same)))))
+    (λ a. let c = code-end ws st r (length bs) g h dead room a in
+    let e : placed ws st (endOf ws) r bs ≡ putPayload ws st r bs = out-end ws st bs r 0 (sym c) (placed ws st (endOf ws) r bs) (totalsAt ws) refl refl refl in
+    rw (← e) (placed-law ws st (endOf ws) r bs g h dead (omega (arith, g .at-in))))
+
+-- and one for which they do not is refused, and changes nothing
+pub put-full : (ws st : List ℕ) (r : ℕ) (bs : List ℕ) → Good ws st → r < 1024 → sizeOf ws r ≡ 0 → length st < usedOf ws + length bs → putPayload ws st r bs ≡ outcome 8 ws st
+put-full ws st r bs g h dead full =
+    let c = code-full ws (length st) r (length bs) h dead (used-fits ws st (endOf ws) g) full in
+    sym (out-refused ws st bs r 8 (sym c) (λ z. omega arith) (λ z. omega arith))
+
+-- used bytes that are not the sum of the lengths are noticed before anything is moved
+pub put-notices : (ws st : List ℕ) (r : ℕ) (bs : List ℕ) → r < 1024 → sizeOf ws r ≡ 0 → usedOf ws + length bs ≤ length st → endOf ws ≤ length st → length st < endOf ws + length bs
+    → (sumTo (sizeOf ws) 1024 ≡ usedOf ws → ⊥) → putPayload ws st r bs ≡ outcome 16 ws st
+put-notices ws st r bs h dead room e tight wrong =
+    let c = code-wrong ws (length st) r (length bs) h dead room e tight (not-all (allFit ws (length st) (usedOf ws)) refl) in
+    sym (out-refused ws st bs r 16 (sym c) (λ z. omega arith) (λ z. omega arith))
+  where
+    not-all : (t : Bool) → allFit ws (length st) (usedOf ws) ≡ t → allFit ws (length st) (usedOf ws) ≡ false
+    not-all true q = absurd (wrong (all-true ws (length st) (usedOf ws) q .sum))
+    not-all false q = q

@@ -1,0 +1,19 @@
+-- Dropping a payload: its test, and what it leaves, for any words. Assumes nothing.
+use mathlib.Core.List.{List}
+use Prim.Native.Nat.{ℕ, _-_}
+use lib.Dec.{ltb, leb, eqb}
+use Rattle.queue_words.specs.Flags.{pick}
+use Rattle.queue_words.specs.Items.{putLength}
+use Rattle.payload_store.specs.Words.{usedOf, endOf, sizeOf, putBytes}
+
+-- may row i's payload be dropped: 0, else 16
+unfoldable pub dropCode : List ℕ → ℕ → ℕ
+dropCode ws i = pick (leb 1024 i) 16 (pick (eqb (sizeOf ws i) 0) 16 (pick (ltb (usedOf ws) (sizeOf ws i)) 16 0))
+
+-- row i has none; where nothing is used any more, the used part is empty
+unfoldable pub dropped : List ℕ → ℕ → List ℕ
+dropped ws i = putBytes (putLength ws i 0) (usedOf ws - sizeOf ws i) (pick (eqb (usedOf ws) (sizeOf ws i)) 0 (endOf ws))
+
+-- the whole call; refused, it leaves the words as they were
+unfoldable pub dropPayload : List ℕ → ℕ → List ℕ
+dropPayload ws i = pick (eqb (dropCode ws i) 0) (dropped ws i) ws

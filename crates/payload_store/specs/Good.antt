@@ -1,0 +1,32 @@
+-- The invariant of the payload store. Assumes nothing.
+use mathlib.Core.Path.{_≡_}
+use mathlib.Core.Logic.{_⊎_}
+use mathlib.Core.List.{List}
+use Prim.Native.Nat.{ℕ, zero, suc, _+_, _≤_, _<_}
+use lib.ListN.{length, take, drop}
+use Rattle.payload_store.specs.Words.{usedOf, endOf, placeOf, sizeOf}
+
+-- row i's payload
+unfoldable pub payloadOf : List ℕ → List ℕ → ℕ → List ℕ
+payloadOf ws st i = take (sizeOf ws i) (drop (placeOf ws i) st)
+
+unfoldable pub sumTo : (ℕ → ℕ) → ℕ → ℕ
+sumTo g zero = 0
+sumTo g (suc n) = g n + sumTo g n
+
+-- the payloads of two rows have no byte in common
+abbrev pub Apart : List ℕ → Type 0
+Apart ws = (i j : ℕ) → i < 1024 → j < 1024 → (i ≡ j → ⊥) → 1 ≤ sizeOf ws i → 1 ≤ sizeOf ws j
+    → (placeOf ws i + sizeOf ws i ≤ placeOf ws j) ⊎ (placeOf ws j + sizeOf ws j ≤ placeOf ws i)
+
+-- the payloads lie in the store below `at`, apart from each other; a row without one has its place in the store too
+pub record Lay (ws st : List ℕ) (at : ℕ) : Type 0 where
+  pub long : length ws ≡ 20768
+  pub at-in : at ≤ length st
+  pub inside : (i : ℕ) → i < 1024 → placeOf ws i + sizeOf ws i ≤ length st
+  pub below : (i : ℕ) → i < 1024 → 1 ≤ sizeOf ws i → placeOf ws i + sizeOf ws i ≤ at
+  pub apart : Apart ws
+  pub used-is : usedOf ws ≡ sumTo (sizeOf ws) 1024
+
+abbrev pub Good : List ℕ → List ℕ → Type 0
+Good ws st = Lay ws st (endOf ws)

@@ -1,0 +1,8 @@
+-- The definitions that the contracts cite: the words used, moving together, putting, reading, dropping; the invariant and what the calls promise. Assumes nothing.
+pub mod Words
+pub mod Moving
+pub mod Putting
+pub mod Good
+pub mod Reading
+pub mod Dropping
+pub mod Promise

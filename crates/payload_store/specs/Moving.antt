@@ -1,0 +1,58 @@
+-- Moving the payloads together: what the code does, for any words and any store. Assumes nothing.
+use mathlib.Core.List.{List}
+use Prim.Native.Nat.{ℕ, zero, suc, _+_, _≤_, _<_}
+use lib.Dec.{ltb, leb, eqb}
+use lib.ListN.{length, getD, set}
+use Rattle.queue_words.specs.Flags.{pick}
+use Rattle.queue_words.specs.Items.{putPlace}
+use Rattle.payload_store.specs.Words.{placeOf, sizeOf}
+
+-- of the best row so far (1024: none) and row i: the one with a payload at or above the cursor whose place is least
+unfoldable pub choose : List ℕ → ℕ → ℕ → ℕ → ℕ
+choose ws cur b i =
+    pick (eqb (sizeOf ws i) 0) b
+    (pick (ltb (placeOf ws i) cur) b
+    (pick (leb 1024 b) i
+    (pick (ltb (placeOf ws i) (placeOf ws b)) i b)))
+
+-- among the first n rows
+unfoldable pub least : List ℕ → ℕ → ℕ → ℕ
+least ws cur zero = 1024
+least ws cur (suc n) = choose ws cur (least ws cur n) n
+
+-- k bytes from `from` on, copied upwards, one by one, to `to`
+unfoldable pub moved : List ℕ → ℕ → ℕ → ℕ → List ℕ
+moved st from to zero = st
+moved st from to (suc k) = set (moved st from to k) (to + k) (getD (moved st from to k) (from + k) 0)
+
+-- the words, the store, and the cursor up to which the payloads lie together
+pub record Pack : Type 0 where
+  pub words : List ℕ
+  pub store : List ℕ
+  pub cursor : ℕ
+
+abbrev pub pack : List ℕ → List ℕ → ℕ → Pack
+pack ws st cur = record { words = ws; store = st; cursor = cur }
+
+-- row r's payload goes to the cursor; no row: nothing is left to do
+unfoldable pub turnAt : Pack → ℕ → Pack
+turnAt s r =
+    pick (leb 1024 r) s
+    (pack (putPlace (s .words) r (s .cursor))
+    (moved (s .store) (placeOf (s .words) r) (s .cursor) (sizeOf (s .words) r))
+    (s .cursor + sizeOf (s .words) r))
+
+unfoldable pub turn : Pack → Pack
+turn s = turnAt s (least (s .words) (s .cursor) 1024)
+
+unfoldable pub turns : Pack → ℕ → Pack
+turns s zero = s
+turns s (suc k) = turn (turns s k)
+
+-- as many turns as the store has bytes: never more are needed
+unfoldable pub together : List ℕ → List ℕ → Pack
+together ws st = turns (pack ws st 0) (length st)
+
+-- every row's payload lies in a store of len bytes
+pub record Fits (ws : List ℕ) (len : ℕ) : Type 0 where
+  pub inside : (i : ℕ) → i < 1024 → placeOf ws i + sizeOf ws i ≤ len

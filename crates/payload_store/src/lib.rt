@@ -1,0 +1,332 @@
+// The payload store: the payloads of the waiting messages lie whole in one lent slice of bytes.
+//
+// A message's row says where its payload lies and how long it is; 0 says that it has none. The totals say how many bytes are
+// used, and where the used part ends. A new payload goes to the end of the used part. Where the end has no room and the free
+// bytes suffice, the payloads are first moved together, in the order of their places. Every public function is total: words
+// that no queue has get the answer 16, and nothing is changed.
+ghost use mathlib.Core.Path.{_≡_};
+ghost use mathlib.Core.List.{_++_};
+ghost use Prim.Native.Nat.{_+_, _<_, _≤_};
+ghost use lib.ListN.{length, take, drop};
+ghost use Rattle.payload_store.specs.Words.{usedOf, putBytes};
+ghost use Rattle.payload_store.specs.Moving.{choose, least, moved, pack, together, Fits};
+ghost use Rattle.payload_store.specs.Putting.{rowFits, allFit, putCode, outcome, written, placed, putPayload};
+ghost use Rattle.payload_store.specs.Reading.{readCode, readPart};
+ghost use Rattle.payload_store.specs.Dropping.{dropCode, dropPayload};
+use queue_words::QUEUE_WORDS;
+use queue_words::header::load_totals;
+use queue_words::header::store_totals;
+use queue_words::items::load_length;
+use queue_words::items::load_place;
+use queue_words::items::store_length;
+use queue_words::items::store_place;
+use queue_words::whole;
+
+// The used bytes and the end of the used part.
+fn store_bytes(queue: &mut [u64; QUEUE_WORDS], used: u64, end: u64)
+    ensures { λ _. ⌜ now (queue .exit) ≡ putBytes (now (queue .entry)) used end ⌝ }
+{
+    let mut t = load_totals(&*queue);
+    t.used = used;
+    t.end = end;
+    store_totals(queue, t);
+}
+
+// Of the best row so far and row i the one whose payload comes first at or above the cursor.
+fn choose_row(queue: &[u64; QUEUE_WORDS], cursor: u64, best: usize, i: usize) -> usize
+    requires { ⌜ i < 1024 ⌝ }
+    ensures { λ r. ⌜ r ≡ choose (now (queue .entry)) cursor best i ⌝ }
+{
+    let size = load_length(queue, i);
+    if size == 0 {
+        return best;
+    }
+    let place = load_place(queue, i);
+    if place < cursor {
+        return best;
+    }
+    if best >= 1024 {
+        return i;
+    }
+    let other = load_place(queue, best);
+    if place < other {
+        return i;
+    }
+    best
+}
+
+// The row whose payload comes first at or above the cursor; 1024 for none.
+fn least_row(queue: &[u64; QUEUE_WORDS], cursor: u64) -> usize
+    ensures { λ r. ⌜ r ≡ least (now (queue .entry)) cursor 1024 ⌝ }
+{
+    let mut best = 1024;
+    let mut i = 0;
+    while i < 1024 {
+        best = choose_row(queue, cursor, best, i);
+        i += 1;
+    }
+    best
+}
+
+// n bytes from `from` on go down to `to`, the lowest first: the two parts may overlap.
+fn move_down(store: &mut [u8], from: usize, to: usize, n: usize)
+    requires { ⌜ (from + n ≤ length (now store)) × (to ≤ from) ⌝ }
+    ensures { λ _. ⌜ now (store .exit) ≡ moved (now (store .entry)) from to n ⌝ }
+{
+    let mut k = 0;
+    while k < n {
+        store[to + k] = store[from + k];
+        k += 1;
+    }
+}
+
+// Moves the payloads together, towards 0, in the order of their places. Answers where they end.
+fn move_together(queue: &mut [u64; QUEUE_WORDS], store: &mut [u8]) -> u64
+    requires { ⌜ Fits (now queue) (length (now store)) ⌝ }
+    ensures { λ r. ⌜ pack (now (queue .exit)) (now (store .exit)) r ≡ together (now (queue .entry)) (now (store .entry)) ⌝ }
+{
+    whole(queue);
+    let len = store.len();
+    let mut cursor = 0u64;
+    let mut k = 0;
+    while k < len {
+        let r = least_row(queue, cursor);
+        if r >= 1024 {
+            return cursor;
+        }
+        let from = load_place(queue, r);
+        let n = load_length(queue, r);
+        move_down(store, from as usize, cursor as usize, n as usize);
+        store_place(queue, r, cursor);
+        cursor += n;
+        k += 1;
+    }
+    cursor
+}
+
+// A test of all rows half done: whether the rows so far fit, and how many of the used bytes are left for the others.
+struct Tally {
+    ok: bool,
+    left: u64,
+}
+
+fn row_fits(queue: &[u64; QUEUE_WORDS], len: u64, i: usize, t: Tally) -> Tally
+    requires { ⌜ i < 1024 ⌝ }
+    ensures { λ r. ⌜ r ≡ rowFits (now (queue .entry)) len i t ⌝ }
+{
+    let size = load_length(queue, i);
+    if size > len {
+        return Tally {
+            ok: false,
+            left: t.left,
+        };
+    }
+    let place = load_place(queue, i);
+    if place > len - size {
+        return Tally {
+            ok: false,
+            left: t.left,
+        };
+    }
+    if size > t.left {
+        return Tally {
+            ok: false,
+            left: t.left,
+        };
+    }
+    Tally {
+        ok: t.ok,
+        left: t.left - size,
+    }
+}
+
+// Does every row's payload lie in a store of len bytes, and are they as many bytes together as are used? Reads only.
+fn all_fit(queue: &[u64; QUEUE_WORDS], len: u64, used: u64) -> bool
+    ensures { λ r. ⌜ r ≡ allFit (now (queue .entry)) len used ⌝ }
+{
+    let mut t = Tally {
+        ok: true,
+        left: used,
+    };
+    let mut i = 0;
+    while i < 1024 {
+        t = row_fits(queue, len, i, t);
+        i += 1;
+    }
+    if t.ok {
+        return t.left == 0;
+    }
+    false
+}
+
+// May a payload of n bytes be put into row i: 0 at the end, 1 after moving together, 8 no room, 16 damaged. Reads only.
+pub fn put_code(queue: &[u64; QUEUE_WORDS], len: u64, i: usize, n: u64) -> u8
+    ensures { λ r. ⌜ r ≡ putCode (now (queue .entry)) len i n ⌝ }
+{
+    if i >= 1024 {
+        return 16;
+    }
+    let size = load_length(queue, i);
+    if size > 0 {
+        return 16;
+    }
+    let t = load_totals(queue);
+    if t.used > len {
+        return 16;
+    }
+    if n > len - t.used {
+        return 8;
+    }
+    if t.end > len {
+        return 16;
+    }
+    if n <= len - t.end {
+        return 0;
+    }
+    let fit = all_fit(queue, len, t.used);
+    if fit {
+        return 1;
+    }
+    16
+}
+
+// src as the store's bytes from `at` on.
+fn write_part(store: &mut [u8], at: usize, src: &[u8])
+    requires { ⌜ at + length (now src) ≤ length (now store) ⌝ }
+    ensures { λ _. ⌜ now (store .exit) ≡ written (now (store .entry)) at (now (src .entry)) ⌝ }
+{
+    let end = at + src.len();
+    bytes::copy(src, &mut store[at..end]);
+}
+
+fn place_payload(
+    queue: &mut [u64; QUEUE_WORDS],
+    store: &mut [u8],
+    at: u64,
+    i: usize,
+    payload: &[u8],
+) -> u8
+    requires { ⌜ (i < 1024) × (at + length (now payload) ≤ length (now store)) × (usedOf (now queue) + length (now payload) ≤ length (now store)) ⌝ }
+    ensures { λ r. ⌜ outcome r (now (queue .exit)) (now (store .exit)) ≡ placed (now (queue .entry)) (now (store .entry)) at i (now (payload .entry)) ⌝ }
+{
+    let n = payload.len() as u64;
+    let t = load_totals(&*queue);
+    write_part(store, at as usize, payload);
+    store_place(queue, i, at);
+    store_length(queue, i, n);
+    store_bytes(queue, t.used + n, at + n);
+    0
+}
+
+// Puts a payload into row i, which has none. 0: done. 8: no room. 16: damaged, or no such row. Refused: nothing is changed.
+pub fn put_payload(queue: &mut [u64; QUEUE_WORDS], store: &mut [u8], i: usize, payload: &[u8]) -> u8
+    ensures { λ r. ⌜ outcome r (now (queue .exit)) (now (store .exit)) ≡ putPayload (now (queue .entry)) (now (store .entry)) i (now (payload .entry)) ⌝ }
+{
+    whole(queue);
+    let code = put_code(queue, store.len() as u64, i, payload.len() as u64);
+    if code == 0 {
+        let t = load_totals(&*queue);
+        return place_payload(queue, store, t.end, i, payload);
+    }
+    if code == 1 {
+        move_together(queue, store);
+        let t = load_totals(&*queue);
+        return place_payload(queue, store, t.used, i, payload);
+    }
+    code
+}
+
+// The n bytes of the store from `at` on, at dst's start.
+fn read_part(dst: &mut [u8], store: &[u8], at: usize, n: usize)
+    requires { ⌜ (at + n ≤ length (now store)) × (n ≤ length (now dst)) ⌝ }
+    ensures { λ _. ⌜ now (dst .exit) ≡ take n (drop at (now (store .entry))) ++ drop n (now (dst .entry)) ⌝ }
+{
+    let end = at + n;
+    bytes::copy(&store[at..end], dst);
+}
+
+// May n bytes from off on of row i's payload be copied to room bytes: 0, else 16. Reads only.
+pub fn read_code(queue: &[u64; QUEUE_WORDS], len: u64, i: usize, off: u64, n: u64, room: u64) -> u8
+    ensures { λ r. ⌜ r ≡ readCode (now (queue .entry)) len i off n room ⌝ }
+{
+    if i >= 1024 {
+        return 16;
+    }
+    let size = load_length(queue, i);
+    if size > len {
+        return 16;
+    }
+    let place = load_place(queue, i);
+    if place > len - size {
+        return 16;
+    }
+    if off > size {
+        return 16;
+    }
+    if n > size - off {
+        return 16;
+    }
+    if n > room {
+        return 16;
+    }
+    0
+}
+
+// The fragment copier: n bytes from off on of row i's payload go to dst's start. 0: done. 16: the payload has no such part, or
+// dst no room for it, and nothing is changed.
+pub fn read_payload(
+    queue: &[u64; QUEUE_WORDS],
+    store: &[u8],
+    i: usize,
+    off: u64,
+    n: u64,
+    dst: &mut [u8],
+) -> u8
+    ensures { λ r. ⌜ (r ≡ readCode (now (queue .entry)) (length (now (store .entry))) i off n (length (now (dst .entry)))) × (now (dst .exit) ≡ readPart (now (queue .entry)) (now (store .entry)) i off n (now (dst .entry))) ⌝ }
+{
+    let code = read_code(queue, store.len() as u64, i, off, n, dst.len() as u64);
+    if code > 0 {
+        return code;
+    }
+    let place = load_place(queue, i);
+    let at = place + off;
+    read_part(dst, store, at as usize, n as usize);
+    0
+}
+
+// May row i's payload be dropped: 0, else 16. Reads only.
+pub fn drop_code(queue: &[u64; QUEUE_WORDS], i: usize) -> u8
+    ensures { λ r. ⌜ r ≡ dropCode (now (queue .entry)) i ⌝ }
+{
+    if i >= 1024 {
+        return 16;
+    }
+    let size = load_length(queue, i);
+    if size == 0 {
+        return 16;
+    }
+    let t = load_totals(queue);
+    if size > t.used {
+        return 16;
+    }
+    0
+}
+
+// Row i has no payload then. 0: done. 16: damaged, or it had none: nothing is changed.
+pub fn drop_payload(queue: &mut [u64; QUEUE_WORDS], i: usize) -> u8
+    ensures { λ r. ⌜ (r ≡ dropCode (now (queue .entry)) i) × (now (queue .exit) ≡ dropPayload (now (queue .entry)) i) ⌝ }
+{
+    let code = drop_code(&*queue, i);
+    if code > 0 {
+        return code;
+    }
+    let size = load_length(&*queue, i);
+    let t = load_totals(&*queue);
+    store_length(queue, i, 0);
+    if t.used == size {
+        store_bytes(queue, 0, 0);
+        return 0;
+    }
+    store_bytes(queue, t.used - size, t.end);
+    0
+}
