@@ -1,2 +1,4 @@
 -- What the proofs of several functions use. Assumes nothing.
 pub mod Exits
+pub mod Waits
+pub mod Restarts

@@ -3,3 +3,5 @@ pub mod Events
 pub mod Known
 pub mod Questions
 pub mod Settings
+pub mod Waiting
+pub mod Restart

@@ -1,10 +1,12 @@
-// The streams of a send queue (tx/send_queue.rs): the calls on them that touch no message. Each is total on every input: words
+// The streams of a send queue (tx/send_queue.rs): the calls on them that change no message. Each is total on every input: words
 // that no queue has get the answer 16, and nothing is changed.
 pub mod answers;
 pub mod events;
 pub mod known;
 pub mod questions;
+pub mod restart;
 pub mod settings;
+pub mod waiting;
 
 pub use answers::Call;
 pub use answers::Flag;
@@ -23,5 +25,11 @@ pub use questions::has_data_to_send;
 pub use questions::has_streams_ready_to_be_reset;
 pub use questions::is_empty;
 pub use questions::total_buffered_amount;
+pub use restart::commit_reset_streams;
+pub use restart::enable_message_interleaving;
+pub use restart::rollback_reset_streams;
 pub use settings::set_buffered_amount_low_threshold;
 pub use settings::set_priority;
+pub use waiting::head_size;
+pub use waiting::parameters_for;
+pub use waiting::reschedule;

@@ -6,6 +6,7 @@ use Prim.Native.Nat.{ℕ, suc, _+_, _-_, _*_, _/_, _≤_, _<_, min, max}
 use native.Mathlib.Nat.{div-one, sub-zero}
 use native.Mathlib.Numerals.{add-one}
 use native.Mathlib.Omega.{arith}
+use lib.Dec.{ltb}
 use borrow.Author.Tests.{lt-ltb, le-ltb, le-leb, lt-leb, eq-eqb, ne-eqb}
 use Rattle.queue_model.specs.Scheduler.{cost, saturating}
 use Rattle.queue_model.specs.Types.{weighted}
@@ -17,7 +18,7 @@ use Rattle.queue_words.specs.declared.active.SchedulingParameters.the-variants.
 use Rattle.queue_words.specs.declared.header.Options.{Options}
 use Rattle.queue_words.specs.declared.header.SchedulerState.{SchedulerState}
 use Rattle.stream_scheduler.specs.Rows.{advanced, scheduledRow, seekFrom, seek, bestOf, better, bestTo}
-use Rattle.stream_scheduler.specs.Words.{outcome, currentRow, peekAmong, peekWords, forgotten, rested, stateOf, droppedRow, takenOut, removeStream, setIn, setBytesRemaining, rememberedWord, acceptRow, acceptAt}
+use Rattle.stream_scheduler.specs.Words.{outcome, currentRow, peekAmong, peekWords, waitsIn, forgotten, rested, stateOf, droppedRow, takenOut, removeStream, setIn, setBytesRemaining, rememberedWord, acceptRow, acceptAt}
 use Rattle.stream_scheduler.specs.declared.Best.{Best}
 use Rattle.stream_scheduler.specs.declared.Peeked.the-variants.{At, Nothing, Broken}
 
@@ -237,3 +238,12 @@ module _ (id w : ℕ) (p : SchedulingParameters) (ep : p ≡ parametersOf w) whe
 
   pub remembered-weighted : (v : ℕ) → p ≡ WeightedFairQueuing v → 65536 ≡ rememberedWord id w
   remembered-weighted v ev = rw (← ep, ev)
+
+module _ (ws : List ℕ) (id : ℕ) (s : SchedulerState) (es : s ≡ schedulerAt ws) where
+  pub waits-broken : 256 < s .active → false ≡ waitsIn ws id
+  unfolding waitsIn
+  waits-broken h = rw (← es, lt-ltb _ _ h)
+
+  pub waits-sought : s .active ≤ 256 → (at : ℕ) → at ≡ seek ws id (s .active) → ltb at (s .active) ≡ waitsIn ws id
+  unfolding waitsIn
+  waits-sought h at ea = rw (← es, le-ltb _ _ h, ea)

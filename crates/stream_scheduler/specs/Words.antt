@@ -37,6 +37,10 @@ peekWords ws =
     let n = (schedulerAt ws) .active in
     if ltb 256 n then Broken else if eqb n 0 then Nothing else peekAmong ws n (currentRow ws n ((schedulerAt ws) .current))
 
+-- Whether a stream has a row.
+unfoldable pub waitsIn : List ℕ → ℕ → Bool
+waitsIn ws id = let n = (schedulerAt ws) .active in if ltb 256 n then false else ltb (seek ws id n) n
+
 -- ------------------------------------------------------------------ taking a row out
 
 -- The remembered stream, unless it is this one; and the system time, 0 where no row is left.

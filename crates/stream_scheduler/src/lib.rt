@@ -8,7 +8,7 @@ ghost use Prim.Native.Nat.{_+_, _-_, _*_, _<_, _≤_, min};
 ghost use Rattle.queue_model.specs.Scheduler.{cost, saturating};
 ghost use Rattle.queue_model.specs.Types.{weighted};
 ghost use Rattle.stream_scheduler.specs.Rows.{advanced, scheduledRow, bestOf, better, seek, bestTo};
-ghost use Rattle.stream_scheduler.specs.Words.{outcome, forgotten, rested, rememberedWord, currentRow, peekWords, droppedRow, takenOut, removeStream, setIn, setBytesRemaining, acceptAt};
+ghost use Rattle.stream_scheduler.specs.Words.{outcome, forgotten, rested, rememberedWord, currentRow, peekWords, waitsIn, droppedRow, takenOut, removeStream, setIn, setBytesRemaining, acceptAt};
 use queue_words::QUEUE_WORDS;
 use queue_words::active::ActiveStreamInfo;
 use queue_words::active::SchedulingParameters;
@@ -198,6 +198,19 @@ pub fn peek(queue: &[u64; QUEUE_WORDS]) -> Peeked
     }
     let best = least(queue, n);
     Peeked::At(best.at)
+}
+
+// Whether a stream waits: it has a row.
+pub fn waits(queue: &[u64; QUEUE_WORDS], stream_id: u16) -> bool
+    ensures { λ r. ⌜ r ≡ waitsIn (now (queue .entry)) «stream_id» ⌝ }
+{
+    let s = load_scheduler_state(queue);
+    if s.active > 256 {
+        return false;
+    }
+    let n = s.active as usize;
+    let at = seek(queue, stream_id, n);
+    at < n
 }
 
 // "The system time is 0 when no stream waits."

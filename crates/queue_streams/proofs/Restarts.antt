@@ -1,0 +1,132 @@
+-- The ways out of commit, rollback and switching interleaving, over plain values. Assumes nothing.
+use mathlib.Core.Path.{_≡_, refl, sym, ap, ap₂, _∙_, subst}
+use mathlib.Core.Bool.{Bool, true, false, not}
+use mathlib.Core.List.{List}
+use Prim.Native.Nat.{ℕ, suc, _+_, _≤_, _<_}
+use native.Mathlib.Omega.{arith}
+use native.Mathlib.Numerals.{add-one}
+use lib.Dec.{ltb}
+use borrow.Author.Tests.{lt-ltb, le-ltb}
+use Rattle.queue_model.proofs.Tests.{Tri, less, same, more, tri}
+use Rattle.queue_words.specs.Flags.{pick}
+use Rattle.queue_words.specs.Header.{totalsAt, putTotals}
+use Rattle.queue_words.specs.Known.{knownAt, knownCount}
+use Rattle.queue_words.specs.Streams.{streamAt, putStream}
+use Rattle.queue_words.specs.declared.header.Totals.{Totals}
+use Rattle.queue_words.specs.declared.known.Known.{Known}
+use Rattle.queue_words.specs.declared.streams.OutgoingStream.{OutgoingStream}
+use Rattle.queue_streams.specs.Settings.{called}
+use Rattle.queue_streams.specs.Waiting.{rescheduled, roomFor}
+use Rattle.queue_streams.specs.Restart.{opened, reopenedIn, reopenedAt, reopenedAll, reopen, switchedAt, switchedAll, withInterleaving, alike, setInterleaving}
+use Rattle.queue_streams.specs.declared.answers.Call.the-variants.{Accepted, Refused}
+
+-- Where there is room, the count is one of a table.
+abbrev Is-true : Bool → Type 0
+Is-true true = Unit {0}
+Is-true false = ⊥
+
+pub room-fits : (ws : List ℕ) (all r : Bool) (t : Totals) → r ≡ roomFor ws all → r ≡ true → t ≡ totalsAt ws → t .known ≤ 256
+unfolding roomFor
+room-fits ws all r t er h et = elim (tri (t .known) 257) [
+  | less l ↦ omega arith
+  | same e ↦ absurd (subst Is-true (sym (h-false (omega arith))) tt)
+  | more l ↦ absurd (subst Is-true (sym (h-false (omega arith))) tt)
+]
+  where
+    h-false : 256 < t .known → false ≡ true
+    h-false g = sym (rw (ap (λ (x : Totals). x .known) (sym et), lt-ltb _ _ g)) ∙ sym er ∙ h
+
+module _ (z il : Bool) (ws : List ℕ) (id place : ℕ) (s : OutgoingStream) where
+  pub reopened-passed : s .«pause_state» < 3 → ws ≡ reopenedIn z il ws id place s
+  unfolding reopenedIn
+  reopened-passed h = rw (lt-ltb _ _ h)
+
+  module _ (h : 3 ≤ s .«pause_state») (o : OutgoingStream) (eo : o ≡ opened z s) (l : List ℕ) (el : l ≡ putStream ws place o) where
+    pub reopened-waits : (m : List ℕ) → s .first < 1024 → m ≡ rescheduled l il id (s .first) (s .priority) → m ≡ reopenedIn z il ws id place s
+    unfolding reopenedIn
+    reopened-waits m f em = rw (le-ltb _ _ h, lt-ltb _ _ f, em, el, eo)
+
+    pub reopened-quiet : 1024 ≤ s .first → l ≡ reopenedIn z il ws id place s
+    unfolding reopenedIn
+    reopened-quiet f = rw (le-ltb _ _ h, le-ltb _ _ f, el, eo)
+
+module _ (z il : Bool) (ws : List ℕ) (k : Known) where
+  pub reopened-outside : 255 < k .place → ws ≡ reopenedAt z il ws k
+  unfolding reopenedAt
+  reopened-outside h = rw (lt-ltb _ _ h)
+
+  pub reopened-inside : (s : OutgoingStream) (l : List ℕ) → k .place ≤ 255 → s ≡ streamAt ws (k .place) → l ≡ reopenedIn z il ws (k .id .0) (k .place) s → l ≡ reopenedAt z il ws k
+  unfolding reopenedAt
+  reopened-inside s l h es el = rw (le-ltb _ _ h, ← es, el)
+
+module _ (z il : Bool) (ws : List ℕ) where
+  pub reopened-start : ws ≡ reopenedAll z il ws 0
+  unfolding reopenedAll
+  reopened-start = refl
+
+  pub reopened-next : (i : ℕ) (us l : List ℕ) (k : Known) → us ≡ reopenedAll z il ws i → k ≡ knownAt us i → l ≡ reopenedAt z il us k → l ≡ reopenedAll z il ws (i + 1)
+  unfolding reopenedAll
+  reopened-next i us l k eu ek el = el ∙ ap (reopenedAt z il us) ek ∙ ap (λ (x : List ℕ). reopenedAt z il x (knownAt x i)) eu ∙ sym (rw add-one)
+
+  pub reopened-end : (n i : ℕ) (us : List ℕ) → us ≡ reopenedAll z il ws i → i ≤ n → n ≤ i → us ≡ reopenedAll z il ws n
+  reopened-end n i us e l g =
+      let q : i ≡ n = omega arith in
+      e ∙ ap (reopenedAll z il ws) q
+
+module _ (z : Bool) (ws : List ℕ) (r : Bool) (er : r ≡ roomFor ws false) where
+  pub reopen-done : (t : Totals) (l : List ℕ) → r ≡ true → t ≡ totalsAt ws → l ≡ reopenedAll z (t .interleaving) ws (t .known) → called (Accepted 0) l ≡ reopen z ws
+  unfolding reopen
+  reopen-done t l h et el = ap (called (Accepted 0)) (el ∙ ap (λ (x : Totals). reopenedAll z (x .interleaving) ws (x .known)) et) ∙ sym (rw (← er, h))
+
+  pub reopen-refused : r ≡ false → called (Refused 16) ws ≡ reopen z ws
+  unfolding reopen
+  reopen-refused h = rw (← er, h)
+
+-- ---- interleaving
+
+module _ (il : Bool) (ws : List ℕ) (k : Known) where
+  pub switched-outside : 255 < k .place → ws ≡ switchedAt il ws k
+  unfolding switchedAt
+  switched-outside h = rw (lt-ltb _ _ h)
+
+  pub switched-inside : (s : OutgoingStream) (l : List ℕ) → k .place ≤ 255 → s ≡ streamAt ws (k .place) → l ≡ rescheduled ws il (k .id .0) (s .first) (s .priority) → l ≡ switchedAt il ws k
+  unfolding switchedAt
+  switched-inside s l h es el = el ∙ ap (λ (x : OutgoingStream). rescheduled ws il (k .id .0) (x .first) (x .priority)) es ∙ sym (rw (le-ltb _ _ h))
+
+module _ (il : Bool) (ws : List ℕ) where
+  pub switched-start : ws ≡ switchedAll il ws 0
+  unfolding switchedAll
+  switched-start = refl
+
+  pub switched-next : (i : ℕ) (us l : List ℕ) (k : Known) → us ≡ switchedAll il ws i → k ≡ knownAt us i → l ≡ switchedAt il us k → l ≡ switchedAll il ws (i + 1)
+  unfolding switchedAll
+  switched-next i us l k eu ek el = el ∙ ap (switchedAt il us) ek ∙ ap (λ (x : List ℕ). switchedAt il x (knownAt x i)) eu ∙ sym (rw add-one)
+
+  pub switched-end : (n i : ℕ) (us : List ℕ) → us ≡ switchedAll il ws i → i ≤ n → n ≤ i → us ≡ switchedAll il ws n
+  switched-end n i us e l g =
+      let q : i ≡ n = omega arith in
+      e ∙ ap (switchedAll il ws) q
+
+pub alike-on : (a b : Bool) → a ≡ true → b ≡ alike a b
+unfolding alike
+alike-on a b e = rw e
+
+pub alike-off : (a b : Bool) → a ≡ false → not b ≡ alike a b
+unfolding alike
+alike-off a b e = rw e
+
+module _ (b : Bool) (ws : List ℕ) (t : Totals) (et : t ≡ totalsAt ws) (alike-is : Bool) (ea : alike-is ≡ alike b (t .interleaving)) where
+  pub choice-kept : alike-is ≡ true → called (Accepted 0) ws ≡ setInterleaving b ws
+  unfolding setInterleaving
+  choice-kept h = rw (ap (λ (x : Totals). x .interleaving) (sym et), ← ea, h)
+
+  module _ (n : alike-is ≡ false) (r : Bool) (er : r ≡ roomFor ws true) where
+    pub switch-done : (l m : List ℕ) → r ≡ true → l ≡ putTotals ws (withInterleaving t b) → m ≡ switchedAll b l (t .known) → called (Accepted 0) m ≡ setInterleaving b ws
+    unfolding setInterleaving
+    switch-done l m h el em =
+        ap (called (Accepted 0)) (em ∙ ap (λ (x : List ℕ). switchedAll b x (t .known)) el ∙ ap (λ (x : Totals). switchedAll b (putTotals ws (withInterleaving x b)) (x .known)) et)
+        ∙ sym (rw (ap (λ (x : Totals). x .interleaving) (sym et), ← ea, n, ← er, h))
+
+    pub switch-refused : r ≡ false → called (Refused 16) ws ≡ setInterleaving b ws
+    unfolding setInterleaving
+    switch-refused h = rw (ap (λ (x : Totals). x .interleaving) (sym et), ← ea, n, ← er, h)

@@ -1,0 +1,12 @@
+-- `queue_streams::restart::open_stream` meets its contract: each return is a case of `opened`. Assumes nothing.
+use Rattle.queue_streams.proofs.restart.open_stream.Statement.{statement}
+use Rattle.queue_streams.proofs.restart.open_stream.Tie as tie
+
+returns : tie.Need-returns
+returns c = rw (c .if1 .taken)
+
+returns-2 : tie.Need-returns-2
+returns-2 c = rw (c .if1 .left)
+
+pub open-stream-spec : {M : Type 1} → statement M
+open-stream-spec = tie.close (tie.spec returns returns-2)
