@@ -13,6 +13,7 @@ use Rattle.payload_store.specs.Moving.{together}
 abbrev pub tally : Bool → ℕ → Tally
 tally ok left = record { ok = ok; left = left }
 
+-- Document 01: "A message occupies its full payload length"; 16: "or a place kept in the state lies outside its table".
 -- does row i's payload lie in a store of len bytes, and is it no longer than what is left of the used bytes
 unfoldable pub rowFits : List ℕ → ℕ → ℕ → Tally → Tally
 rowFits ws len i t =
@@ -30,6 +31,7 @@ fitsTo ws len used (suc n) = rowFits ws len n (fitsTo ws len used n)
 unfoldable pub allFit : List ℕ → ℕ → ℕ → Bool
 allFit ws len used = pick (fitsTo ws len used 1024 .ok) (eqb (fitsTo ws len used 1024 .left) 0) false
 
+-- 8: "The payload is longer than the free bytes", and "free bytes count together, however scattered": judged by the used bytes, not by the end.
 -- may a payload of n bytes be put into row i of a store of len bytes: 0 at the end, 1 after moving together, 8 no room, 16 damaged
 unfoldable pub putCode : List ℕ → ℕ → ℕ → ℕ → ℕ
 putCode ws len i n =

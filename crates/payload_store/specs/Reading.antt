@@ -17,6 +17,7 @@ readCode ws len i off n room =
     (pick (ltb (sizeOf ws i - off) n) 16
     (pick (ltb room n) 16 0)))))
 
+-- "The fragment is the part of the stored payload that starts at the offset"; "places past what a call writes stay unchanged".
 -- dst with those bytes at its start; refused, it is as it was
 unfoldable pub readPart : List ℕ → List ℕ → ℕ → ℕ → ℕ → List ℕ → List ℕ
 readPart ws st i off n dst =

@@ -36,15 +36,19 @@ abbrev pub asked : (OutgoingStream → ℕ) → Looked → Number
 asked f (looked.Stream s) = number.Value (f s)
 asked f looked.Broken = number.Refused 16
 
+-- "A call of its own answers the priority last set or restored, the default where there is none, and changes nothing."
 unfoldable pub priorityOf : List ℕ → ℕ → Number
 priorityOf ws id = asked (λ (s : OutgoingStream). s .priority) (streamOrNew ws id)
 
+-- A stream's amount, 0 where it is not known.
 unfoldable pub amountOf : List ℕ → ℕ → Number
 amountOf ws id = asked (λ (s : OutgoingStream). s .«buffered_amount») (streamOrNew ws id)
 
+-- A stream's threshold, the default where it is not known.
 unfoldable pub thresholdOf : List ℕ → ℕ → Number
 thresholdOf ws id = asked (λ (s : OutgoingStream). s .«low_threshold») (streamOrNew ws id)
 
+-- The total, and whether it is 0.
 unfoldable pub totalOf : List ℕ → ℕ
 totalOf ws = (totalsAt ws) .total
 

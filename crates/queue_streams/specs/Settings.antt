@@ -63,6 +63,7 @@ priorityIn ws id p (place.Row row) = called (Accepted 0) (putStream ws row (with
 priorityIn ws id p (place.New position) = called (Accepted 0) (inserted ws position id (withPriority (newStream (optionsAt ws)) p))
 priorityIn ws id p (place.Refused n) = called (Refused n) ws
 
+-- "a priority set in between waits for that": no row of the scheduler changes.
 unfoldable pub setPriority : List ℕ → ℕ → ℕ → Called
 setPriority ws id p = priorityIn ws id p (lookUp ws id)
 
