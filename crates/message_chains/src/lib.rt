@@ -1,0 +1,17 @@
+// The messages of a stream hang in a chain, the free places in another: what takes a message off its chain, and what its going
+// reports. Every function is total; those that write are called once a test that reads only has passed.
+pub mod amounts;
+pub mod heads;
+pub mod notes;
+
+pub use amounts::minus;
+pub use amounts::plus;
+pub use amounts::remaining;
+pub use heads::drop_head;
+pub use heads::head_code;
+pub use heads::release;
+pub use heads::sent_events;
+pub use heads::without_head;
+pub use notes::lifecycle_events;
+pub use notes::low_event;
+pub use notes::note;
