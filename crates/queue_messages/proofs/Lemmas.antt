@@ -1,0 +1,69 @@
+-- A scheduler that refuses has changed nothing; the free places one by one; the words of no loop step. Assumes nothing.
+use mathlib.Core.Path.{_≡_, refl, sym, ap, subst, _∙_}
+use mathlib.Core.Bool.{Bool, true, false}
+use mathlib.Core.List.{List}
+use Prim.Native.Nat.{ℕ, suc, _+_, _-_, _≤_, _<_}
+use native.Mathlib.Omega.{arith}
+use native.Mathlib.Numerals.{add-one}
+use borrow.Author.Tests.{ltb-false}
+use lib.Dec.{ltb, eqb}
+use Rattle.queue_words.specs.Flags.{pick}
+use Rattle.queue_words.specs.Items.{putNext, putLength}
+use Rattle.queue_words.specs.declared.streams.OutgoingStream.{OutgoingStream}
+use Rattle.stream_scheduler.specs.Words.{Outcome, outcome, removeStream, setBytesRemaining}
+use Rattle.stream_scheduler.proofs.Frames.{Kept, kept-remove, kept-set}
+use Rattle.queue_words.specs.Find.{findStream}
+use Rattle.queue_words.specs.Header.{optionsAt}
+use Rattle.queue_words.specs.declared.known.Found.{Found}
+use Rattle.queue_words.specs.declared.known.Found.the-variants.{At}
+use Rattle.queue_words.proofs.Finds.{find-hit}
+use Rattle.queue_messages.specs.Add.{argumentsCode}
+use Rattle.queue_messages.specs.Create.{freed}
+use Rattle.queue_messages.specs.Discard.{scheduledBehind}
+use Rattle.queue_messages.specs.Message.{nanoseconds}
+use Rattle.queue_messages.specs.declared.message.Lifetime.{Lifetime}
+
+kept-pick : (ws : List ℕ) (b : Bool) (x y : Outcome) → Kept ws x → Kept ws y → Kept ws (pick b x y)
+kept-pick ws true x y k l = k
+kept-pick ws false x y k l = l
+
+kept-behind : (ws : List ℕ) (id : ℕ) (s : OutgoingStream) (next : ℕ) → Kept ws (scheduledBehind ws id s next)
+unfolding scheduledBehind
+kept-behind ws id s next = kept-pick ws (eqb (s .«pause_state») 1) _ _ (kept-remove ws id) (kept-set ws id _ _)
+
+-- a discard that the scheduler refuses leaves the words
+pub behind-refused : (ws : List ℕ) (id : ℕ) (s : OutgoingStream) (next : ℕ) (b : Bool) (us : List ℕ) → outcome b us ≡ scheduledBehind ws id s next → b ≡ false → us ≡ ws
+behind-refused ws id s next b us e f = ap (λ (o : Outcome). o .next) e ∙ kept-behind ws id s next .if-refused (ap (λ (o : Outcome). o .done) (sym e) ∙ f)
+
+-- the places freed so far
+pub freed-none : (ws : List ℕ) → ws ≡ freed ws 0
+unfolding freed
+freed-none ws = refl
+
+pub freed-next : (ws us vs xs : List ℕ) (i : ℕ) → us ≡ freed ws i → vs ≡ putLength us i 0 → xs ≡ putNext vs i (i + 1) → xs ≡ freed ws (i + 1)
+unfolding freed
+freed-next ws us vs xs i e f g =
+    g ∙ ap (λ (v : List ℕ). putNext v i (i + 1)) (f ∙ ap (λ (u : List ℕ). putLength u i 0) e) ∙ ap (λ (n : ℕ). freed ws n) (sym (add-one i))
+
+pub freed-all : (ws us : List ℕ) (i : ℕ) → us ≡ freed ws i → i ≤ 1024 → 1024 ≤ i → us ≡ freed ws 1024
+freed-all ws us i e h l = let z : i ≡ 1024 = omega arith in rw e (ap (λ n. freed ws n) z)
+
+-- a stream that is found has a row of the table
+pub found-row : (ws : List ℕ) (id : ℕ) (f : Found) (p r : ℕ) → f ≡ findStream ws id → f ≡ At p r → r < 256
+found-row ws id f p r e g = find-hit ws id p r (sym e ∙ g) .place-fits
+
+-- arguments that are not refused: the times are allowed
+allowed : (b d f : Bool) (x : ℕ) → pick b (pick d 4 (pick f 4 x)) 2 ≤ 0 → (d ≡ false) × (f ≡ false)
+allowed true true f x h = absurd (omega arith)
+allowed true false true x h = absurd (omega arith)
+allowed true false false x h = (refl, refl)
+allowed false d f x h = absurd (omega arith)
+
+pub arguments-fit : (ws : List ℕ) (len time : ℕ) (l : Lifetime) (n code : ℕ) → code ≡ argumentsCode ws len time l n → code ≤ 0
+    → (time ≤ 4611686018427387903) × (nanoseconds l ≤ 4611686018427387903)
+unfolding argumentsCode
+arguments-fit ws len time l n code e h =
+    let k : (ltb 4611686018427387903 time ≡ false) × (ltb 4611686018427387903 (nanoseconds l) ≡ false) =
+    allowed (eqb (optionsAt ws .«store_length») len) (ltb 4611686018427387903 time) (ltb 4611686018427387903 (nanoseconds l)) (pick (eqb n 0) 5 (pick (ltb 262144 n) 5 0)) (subst (λ x. x ≤ 0) e h)
+    in
+    (omega (arith, ltb-false 4611686018427387903 time (k .0)), omega (arith, ltb-false 4611686018427387903 (nanoseconds l) (k .1)))

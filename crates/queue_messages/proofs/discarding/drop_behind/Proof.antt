@@ -1,0 +1,37 @@
+-- `queue_messages::discarding::drop_behind` meets its contract: each return is what its definition says, by what the calls ensure and the tests taken. Assumes nothing.
+use borrow.Author.Needs.{needs}
+use Rattle.queue_messages.specs.Discard.{behindDropped}
+use Rattle.queue_messages.proofs.Lemmas.{behind-refused}
+use Rattle.queue_messages.proofs.discarding.drop_behind.Statement.{statement}
+use Rattle.queue_messages.proofs.discarding.drop_behind.Tie as tie
+
+returns : tie.Need-returns
+unfolding behindDropped
+returns c =
+    rw (
+      ← (c .before .before .before .before .before .before .before .schedule-behind .ensures),
+      (c .before .before .before .before .before .before .if1 .taken),
+      ← (c .before .before .before .before .before .end-pending .ensures),
+      ← (c .before .before .drop-head .ensures .0),
+      ← (c .before .before .drop-head .ensures .1),
+    )
+
+returns-2 : tie.Need-returns-2
+unfolding behindDropped
+returns-2 c =
+    rw (
+      ← (c .before .schedule-behind .ensures),
+      (c .if1 .left),
+      (behind-refused _ _ _ _ _ _ (c .before .schedule-behind .ensures) (c .if1 .left)),
+    )
+
+pub drop-behind-spec : {M : Type 1} → statement M
+drop-behind-spec =
+    tie.close
+    (tie.spec
+    (λ c. search needs)
+    (λ c. search needs)
+    (λ c. search needs)
+    (λ c. search needs)
+    returns
+    returns-2)

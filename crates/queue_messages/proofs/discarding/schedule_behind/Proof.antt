@@ -1,0 +1,37 @@
+-- `queue_messages::discarding::schedule_behind` meets its contract: each return is what its definition says, by what the calls ensure and the tests taken. Assumes nothing.
+use borrow.Author.Needs.{needs}
+use borrow.Author.Tests.{eq-eqb, ne-eqb}
+use Rattle.queue_messages.specs.Discard.{scheduledBehind}
+use Rattle.queue_messages.proofs.discarding.schedule_behind.Statement.{statement}
+use Rattle.queue_messages.proofs.discarding.schedule_behind.Tie as tie
+
+returns : tie.Need-returns
+unfolding scheduledBehind
+returns c =
+    rw (
+      eq-eqb _ _ (c .before .before .if1 .taken),
+      ← (c .remove-stream .ensures),
+    )
+
+returns-2 : tie.Need-returns-2
+unfolding scheduledBehind
+returns-2 c =
+    rw (
+      ne-eqb _ _ (c .before .before .before .before .before .before .before .if1 .left),
+      ← (c .before .before .before .before .before .load-totals .ensures),
+      ← (c .before .before .before .head-size .ensures),
+      ← (c .before .before .parameters-for .ensures),
+      ← (c .set-bytes-remaining .ensures),
+    )
+
+pub schedule-behind-spec : {M : Type 1} → statement M
+schedule-behind-spec =
+    tie.close
+    (tie.spec
+    (λ c. search needs)
+    returns
+    (λ c. search needs)
+    (λ c. search needs)
+    (λ c. search needs)
+    (λ c. search needs)
+    returns-2)

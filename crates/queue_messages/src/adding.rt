@@ -1,0 +1,346 @@
+// Adding a message (Rust: add).
+ghost use mathlib.Core.Path.{_≡_};
+ghost use Prim.Native.Nat.{_<_, _≤_};
+ghost use lib.ListN.{length};
+ghost use Rattle.queue_words.specs.Known.{knownCount};
+ghost use Rattle.queue_messages.specs.Message.{nanoseconds};
+ghost use Rattle.queue_messages.specs.Add.{argumentsCode, fullCode, hasRoom, placesCode, brokenCode, messageCode, lostCode};
+ghost use Rattle.queue_messages.specs.Add.{linkedLast, counted, starts, started, stored, appendedAt, appended, added, addKnown, addNew, add};
+use crate::message::Lifetime;
+use crate::message::Message;
+use crate::message::nanoseconds;
+use crate::message::new_item;
+use message_chains::amounts::minus;
+use message_chains::amounts::plus;
+use payload_store::put_code;
+use payload_store::put_payload;
+use queue_streams::answers::Call;
+use queue_streams::known::Place;
+use queue_streams::known::insert_stream;
+use queue_streams::known::look_up;
+use queue_streams::known::new_stream;
+use queue_streams::waiting::parameters_for;
+use queue_words::QUEUE_WORDS;
+use queue_words::header::load_options;
+use queue_words::header::load_scheduler_state;
+use queue_words::header::load_totals;
+use queue_words::header::store_totals;
+use queue_words::items::load_next;
+use queue_words::items::store_item;
+use queue_words::items::store_next;
+use queue_words::streams::OutgoingStream;
+use queue_words::streams::load_stream;
+use queue_words::streams::store_stream;
+use stream_scheduler::set_bytes_remaining;
+use stream_scheduler::waits;
+
+const MAX_TIME: u64 = 4611686018427387903;
+
+const MAX_PAYLOAD: u64 = 262144;
+
+// The refusals that the arguments decide: 2, 4, 4, 5, or 0.
+fn arguments_code(queue: &[u64; QUEUE_WORDS], len: u64, time: u64, lifetime: Lifetime, n: u64) -> u8
+    ensures { λ r. ⌜ r ≡ argumentsCode (now (queue .entry)) len time lifetime n ⌝ }
+{
+    let o = load_options(queue);
+    if o.store_length != len {
+        return 2;
+    }
+    if time > MAX_TIME {
+        return 4;
+    }
+    let l = nanoseconds(lifetime);
+    if l > MAX_TIME {
+        return 4;
+    }
+    if n == 0 {
+        return 5;
+    }
+    if n > MAX_PAYLOAD {
+        return 5;
+    }
+    0
+}
+
+// 7 or 8 where no message more fits, else 0.
+fn full_code(queue: &[u64; QUEUE_WORDS], len: u64, n: u64) -> u8
+    ensures { λ r. ⌜ r ≡ fullCode (now (queue .entry)) len n ⌝ }
+{
+    let t = load_totals(queue);
+    if t.waiting > 1023 {
+        return 7;
+    }
+    let free = minus(len, t.used);
+    if n > free {
+        return 8;
+    }
+    0
+}
+
+// Whether the scheduler can list the stream.
+fn has_room(queue: &[u64; QUEUE_WORDS], id: u16) -> bool
+    ensures { λ r. ⌜ r ≡ hasRoom (now (queue .entry)) id ⌝ }
+{
+    let s = load_scheduler_state(queue);
+    if s.active < 256 {
+        return true;
+    }
+    if s.active > 256 {
+        return false;
+    }
+    waits(queue, id)
+}
+
+// The places that the message's row and its chain need: 0, else 16.
+fn places_code(queue: &[u64; QUEUE_WORDS], s: OutgoingStream, free: u64) -> u8
+    ensures { λ r. ⌜ r ≡ placesCode (now (queue .entry)) s free ⌝ }
+{
+    if free > 1023 {
+        return 16;
+    }
+    let next = load_next(queue, free as usize);
+    if next > 1024 {
+        return 16;
+    }
+    if s.first > 1024 {
+        return 16;
+    }
+    if s.first == 1024 {
+        return 0;
+    }
+    if s.last > 1023 {
+        return 16;
+    }
+    0
+}
+
+// 16 where an amount would pass 2^64 - 1 or a place lies outside its table, else 0.
+fn broken_code(queue: &[u64; QUEUE_WORDS], len: u64, id: u16, s: OutgoingStream, n: u64) -> u8
+    ensures { λ r. ⌜ r ≡ brokenCode (now (queue .entry)) len id s n ⌝ }
+{
+    let t = load_totals(queue);
+    if n > u64::MAX - t.total {
+        return 16;
+    }
+    if n > u64::MAX - s.buffered_amount {
+        return 16;
+    }
+    let places = places_code(queue, s, t.free);
+    if places > 0 {
+        return 16;
+    }
+    let put = put_code(queue, len, t.free as usize, n);
+    if put > 1 {
+        return 16;
+    }
+    let room = has_room(queue, id);
+    if room {
+        return 0;
+    }
+    16
+}
+
+// 7, 8 or 16, the first that applies, else 0.
+fn message_code(queue: &[u64; QUEUE_WORDS], len: u64, id: u16, s: OutgoingStream, n: u64) -> u8
+    ensures { λ r. ⌜ r ≡ messageCode (now (queue .entry)) len id s n ⌝ }
+{
+    let full = full_code(queue, len, n);
+    if full > 0 {
+        return full;
+    }
+    broken_code(queue, len, id, s, n)
+}
+
+// The refusal of a stream that cannot be found: 6 comes before 7 and 8, 16 after them.
+fn lost_code(queue: &[u64; QUEUE_WORDS], len: u64, n: u64, code: u8) -> u8
+    ensures { λ r. ⌜ r ≡ lostCode (now (queue .entry)) len n code ⌝ }
+{
+    if code == 6 {
+        return 6;
+    }
+    let full = full_code(queue, len, n);
+    if full > 0 {
+        return full;
+    }
+    code
+}
+
+// "messages added to a paused or resetting stream do not start it".
+fn starts(s: OutgoingStream) -> bool
+    ensures { λ r. ⌜ r ≡ starts s ⌝ }
+{
+    if s.pause_state > 1 {
+        return false;
+    }
+    s.first > 1023
+}
+
+// Hangs a message's place to the end of a stream's chain.
+fn link_last(queue: &mut [u64; QUEUE_WORDS], row: usize, s: OutgoingStream, place: u64, n: u64)
+    requires { ⌜ row < 256 ⌝ }
+    ensures { λ _. ⌜ now (queue .exit) ≡ linkedLast (now (queue .entry)) row s place n ⌝ }
+{
+    let mut o = s;
+    o.buffered_amount = plus(s.buffered_amount, n);
+    o.last = place;
+    if s.first > 1023 {
+        o.first = place;
+        store_stream(queue, row, o);
+        return;
+    }
+    if s.last > 1023 {
+        store_stream(queue, row, o);
+        return;
+    }
+    store_next(queue, s.last as usize, place);
+    store_stream(queue, row, o);
+}
+
+// One message more in the totals; the first free place is taken.
+fn count_message(queue: &mut [u64; QUEUE_WORDS], free: u64, n: u64)
+    ensures { λ _. ⌜ now (queue .exit) ≡ counted (now (queue .entry)) free n ⌝ }
+{
+    let mut t = load_totals(&*queue);
+    let id = t.next_message_id.add_to(1);
+    t.next_message_id = id;
+    t.free = free;
+    t.waiting = plus(t.waiting, 1);
+    t.total = plus(t.total, n);
+    store_totals(queue, t);
+}
+
+// Lets the stream wait with the new message, if that starts it.
+fn start(queue: &mut [u64; QUEUE_WORDS], id: u16, s: OutgoingStream, n: u64)
+    ensures { λ _. ⌜ now (queue .exit) ≡ started (now (queue .entry)) id s n ⌝ }
+{
+    let begins = starts(s);
+    if begins {
+        let t = load_totals(&*queue);
+        let p = parameters_for(t.interleaving, s.priority);
+        set_bytes_remaining(queue, id, n, p);
+    }
+}
+
+// The message in a place, at the end of its stream's chain; `free` comes first among the free places then.
+fn append_at(
+    queue: &mut [u64; QUEUE_WORDS],
+    store: &mut [u8],
+    time: u64,
+    m: Message,
+    payload: &[u8],
+    row: usize,
+    s: OutgoingStream,
+    place: usize,
+    free: u64,
+)
+    requires { ⌜ (row < 256) × (place < 1024) × (time ≤ 4611686018427387903) × (nanoseconds (m .lifetime) ≤ 4611686018427387903) ⌝ }
+    ensures { λ _. ⌜ stored (now (queue .exit)) (now (store .exit)) ≡ appendedAt (now (queue .entry)) (now (store .entry)) time m (now (payload .entry)) row s place free ⌝ }
+{
+    let n = payload.len() as u64;
+    let t = load_totals(&*queue);
+    let item = new_item(time, t.next_message_id, m);
+    store_item(queue, place, item);
+    put_payload(queue, store, place, payload);
+    link_last(queue, row, s, place as u64, n);
+    count_message(queue, free, n);
+    start(queue, m.stream_id.0, s, n);
+}
+
+// The message goes to the first free place and to the end of its stream's chain. The test has passed.
+fn append(
+    queue: &mut [u64; QUEUE_WORDS],
+    store: &mut [u8],
+    time: u64,
+    m: Message,
+    payload: &[u8],
+    row: usize,
+    s: OutgoingStream,
+)
+    requires { ⌜ (row < 256) × (time ≤ 4611686018427387903) × (nanoseconds (m .lifetime) ≤ 4611686018427387903) ⌝ }
+    ensures { λ _. ⌜ stored (now (queue .exit)) (now (store .exit)) ≡ appended (now (queue .entry)) (now (store .entry)) time m (now (payload .entry)) row s ⌝ }
+{
+    let t = load_totals(&*queue);
+    if t.free > 1023 {
+        return;
+    }
+    let place = t.free as usize;
+    let free = load_next(&*queue, place);
+    append_at(queue, store, time, m, payload, row, s, place, free);
+}
+
+// A message for a known stream.
+fn add_to_known(
+    queue: &mut [u64; QUEUE_WORDS],
+    store: &mut [u8],
+    time: u64,
+    m: Message,
+    payload: &[u8],
+    row: usize,
+) -> Call
+    requires { ⌜ (row < 256) × (time ≤ 4611686018427387903) × (nanoseconds (m .lifetime) ≤ 4611686018427387903) ⌝ }
+    ensures { λ r. ⌜ added r (now (queue .exit)) (now (store .exit)) ≡ addKnown (now (queue .entry)) (now (store .entry)) time m (now (payload .entry)) row ⌝ }
+{
+    let s = load_stream(&*queue, row);
+    let code = message_code(
+        &*queue,
+        store.len() as u64,
+        m.stream_id.0,
+        s,
+        payload.len() as u64,
+    );
+    if code > 0 {
+        return Call::Refused(code);
+    }
+    append(queue, store, time, m, payload, row, s);
+    Call::Accepted(0)
+}
+
+// A message for a stream that it makes known.
+fn add_to_new(
+    queue: &mut [u64; QUEUE_WORDS],
+    store: &mut [u8],
+    time: u64,
+    m: Message,
+    payload: &[u8],
+    position: usize,
+) -> Call
+    requires { ⌜ (position ≤ knownCount (now queue)) × (knownCount (now queue) < 256) × (time ≤ 4611686018427387903) × (nanoseconds (m .lifetime) ≤ 4611686018427387903) ⌝ }
+    ensures { λ r. ⌜ added r (now (queue .exit)) (now (store .exit)) ≡ addNew (now (queue .entry)) (now (store .entry)) time m (now (payload .entry)) position ⌝ }
+{
+    let o = load_options(&*queue);
+    let s = new_stream(o);
+    let id = m.stream_id.0;
+    let code = message_code(&*queue, store.len() as u64, id, s, payload.len() as u64);
+    if code > 0 {
+        return Call::Refused(code);
+    }
+    let t = load_totals(&*queue);
+    insert_stream(queue, position, id, s);
+    append(queue, store, time, m, payload, t.known as usize, s);
+    Call::Accepted(0)
+}
+
+// Adds a message; the store is lent.
+pub fn add(
+    queue: &mut [u64; QUEUE_WORDS],
+    store: &mut [u8],
+    time: u64,
+    m: Message,
+    payload: &[u8],
+) -> Call
+    ensures { λ r. ⌜ added r (now (queue .exit)) (now (store .exit)) ≡ add (now (queue .entry)) (now (store .entry)) time m (now (payload .entry)) ⌝ }
+{
+    let len = store.len() as u64;
+    let n = payload.len() as u64;
+    let lifetime = m.lifetime;
+    let code = arguments_code(&*queue, len, time, lifetime, n);
+    if code > 0 {
+        return Call::Refused(code);
+    }
+    let place = look_up(&*queue, m.stream_id.0);
+    match place {
+        Place::Row(row) => add_to_known(queue, store, time, m, payload, row),
+        Place::New(position) => add_to_new(queue, store, time, m, payload, position),
+        Place::Refused(lost) => Call::Refused(lost_code(&*queue, len, n, lost)),
+    }
+}

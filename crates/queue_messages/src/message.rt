@@ -1,0 +1,102 @@
+// A message as it is handed over, and as it waits.
+ghost use mathlib.Core.Path.{_≡_};
+ghost use Prim.Native.Nat.{_≤_};
+ghost use Rattle.queue_messages.specs.Message.{retransmissions, isLimited, nanoseconds, expiry, newItem};
+use queue_words::items::Item;
+use types::Fsn;
+use types::Mid;
+use types::OutgoingMessageId;
+use types::Ssn;
+use types::StreamId;
+
+// "Option becomes an enum".
+pub enum Lifetime {
+    Unlimited,
+    Limited(u64),
+}
+
+pub enum MaxRetransmissions {
+    Unlimited,
+    Limited(u16),
+}
+
+pub struct Message {
+    pub stream_id: StreamId,
+    pub ppid: u32,
+    pub unordered: bool,
+    pub lifetime: Lifetime,
+    pub max_retransmissions: MaxRetransmissions,
+    // 0 for none.
+    pub lifecycle_id: u64,
+}
+
+// "no retransmission limit given means 65,535".
+fn retransmissions(m: MaxRetransmissions) -> u16
+    ensures { λ r. ⌜ r ≡ retransmissions m ⌝ }
+{
+    match m {
+        MaxRetransmissions::Unlimited => 65535,
+        MaxRetransmissions::Limited(n) => n,
+    }
+}
+
+pub fn is_limited(l: Lifetime) -> bool
+    ensures { λ r. ⌜ r ≡ isLimited l ⌝ }
+{
+    match l {
+        Lifetime::Unlimited => false,
+        Lifetime::Limited(_) => true,
+    }
+}
+
+// A lifetime's nanoseconds, 0 where there is none.
+pub fn nanoseconds(l: Lifetime) -> u64
+    ensures { λ r. ⌜ r ≡ nanoseconds l ⌝ }
+{
+    match l {
+        Lifetime::Unlimited => 0,
+        Lifetime::Limited(n) => n,
+    }
+}
+
+// "a lifetime sets time + lifetime + 1 ms, else never".
+fn expiry(time: u64, l: Lifetime) -> u64
+    requires { ⌜ (time ≤ 4611686018427387903) × (nanoseconds l ≤ 4611686018427387903) ⌝ }
+    ensures { λ r. ⌜ r ≡ expiry time l ⌝ }
+{
+    let limited = is_limited(l);
+    if limited {
+        let n = nanoseconds(l);
+        return time + n + 1000000;
+    }
+    0
+}
+
+// The message as it waits, the last of its chain, its payload not yet stored (Rust: Item::new).
+pub fn new_item(time: u64, id: OutgoingMessageId, m: Message) -> Item
+    requires { ⌜ (time ≤ 4611686018427387903) × (nanoseconds (m .lifetime) ≤ 4611686018427387903) ⌝ }
+    ensures { λ r. ⌜ r ≡ newItem time id m ⌝ }
+{
+    let lifetime = m.lifetime;
+    let expires = is_limited(lifetime);
+    let expires_at = expiry(time, lifetime);
+    let given = m.max_retransmissions;
+    let max_retransmissions = retransmissions(given);
+    Item {
+        ssn: Ssn(0),
+        max_retransmissions: max_retransmissions,
+        unordered: m.unordered,
+        mid_given: false,
+        expires: expires,
+        message_id: id,
+        ppid: m.ppid,
+        mid: Mid(0),
+        fsn: Fsn(0),
+        expires_at: expires_at,
+        lifecycle_id: m.lifecycle_id,
+        place: 0,
+        length: 0,
+        offset: 0,
+        next: 1024,
+    }
+}
