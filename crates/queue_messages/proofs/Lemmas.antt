@@ -8,7 +8,7 @@ use native.Mathlib.Numerals.{add-one}
 use borrow.Author.Tests.{ltb-false}
 use lib.Dec.{ltb, eqb}
 use Rattle.queue_words.specs.Flags.{pick}
-use Rattle.queue_words.specs.Items.{putNext, putLength}
+use Rattle.queue_words.specs.Items.{putNext, putPlace, putLength}
 use Rattle.queue_words.specs.declared.streams.OutgoingStream.{OutgoingStream}
 use Rattle.stream_scheduler.specs.Words.{Outcome, outcome, removeStream, setBytesRemaining}
 use Rattle.stream_scheduler.proofs.Frames.{Kept, kept-remove, kept-set}
@@ -40,10 +40,12 @@ pub freed-none : (ws : List ℕ) → ws ≡ freed ws 0
 unfolding freed
 freed-none ws = refl
 
-pub freed-next : (ws us vs xs : List ℕ) (i : ℕ) → us ≡ freed ws i → vs ≡ putLength us i 0 → xs ≡ putNext vs i (i + 1) → xs ≡ freed ws (i + 1)
+pub freed-next : (ws us vs ys xs : List ℕ) (i : ℕ) → us ≡ freed ws i → vs ≡ putLength us i 0 → ys ≡ putPlace vs i 0 → xs ≡ putNext ys i (i + 1) → xs ≡ freed ws (i + 1)
 unfolding freed
-freed-next ws us vs xs i e f g =
-    g ∙ ap (λ (v : List ℕ). putNext v i (i + 1)) (f ∙ ap (λ (u : List ℕ). putLength u i 0) e) ∙ ap (λ (n : ℕ). freed ws n) (sym (add-one i))
+freed-next ws us vs ys xs i e f h g =
+    g
+    ∙ ap (λ (y : List ℕ). putNext y i (i + 1)) (h ∙ ap (λ (v : List ℕ). putPlace v i 0) (f ∙ ap (λ (u : List ℕ). putLength u i 0) e))
+    ∙ ap (λ (n : ℕ). freed ws n) (sym (add-one i))
 
 pub freed-all : (ws us : List ℕ) (i : ℕ) → us ≡ freed ws i → i ≤ 1024 → 1024 ≤ i → us ≡ freed ws 1024
 freed-all ws us i e h l = let z : i ≡ 1024 = omega arith in rw e (ap (λ n. freed ws n) z)

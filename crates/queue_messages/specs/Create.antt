@@ -6,7 +6,7 @@ use lib.Dec.{ltb, eqb}
 use lib.ListN.{length}
 use Rattle.queue_words.specs.Flags.{pick}
 use Rattle.queue_words.specs.Header.{putOptions, putTotals, putScheduler}
-use Rattle.queue_words.specs.Items.{putNext, putLength}
+use Rattle.queue_words.specs.Items.{putNext, putPlace, putLength}
 use Rattle.queue_words.specs.declared.header.Options.{Options}
 use Rattle.queue_words.specs.declared.header.SchedulerState.{SchedulerState}
 use Rattle.queue_words.specs.declared.header.Totals.{Totals}
@@ -35,10 +35,10 @@ newTotals = record {
 abbrev pub newScheduler : SchedulerState
 newScheduler = record { current = 65536; «system_virtual_time» = 0; active = 0 }
 
--- the first n places are free, chained in their order
+-- the first n places are free, chained in their order; none has a payload, and none points past the store
 unfoldable pub freed : List ℕ → ℕ → List ℕ
 freed ws zero = ws
-freed ws (suc i) = putNext (putLength (freed ws i) i 0) i (i + 1)
+freed ws (suc i) = putNext (putPlace (putLength (freed ws i) i 0) i 0) i (i + 1)
 
 -- a new queue in the words
 unfoldable pub newWords : List ℕ → Options → List ℕ

@@ -13,6 +13,7 @@ use queue_words::header::store_scheduler_state;
 use queue_words::header::store_totals;
 use queue_words::items::store_length;
 use queue_words::items::store_next;
+use queue_words::items::store_place;
 use types::OutgoingMessageId;
 
 // Creation's refusal, 0 for none.
@@ -34,13 +35,14 @@ fn create_code(payload_limit: u64, store_length: u64) -> u8
     0
 }
 
-// All places are free, chained in their order.
+// All places are free, chained in their order; none has a payload, and none points past the store.
 fn free_all(queue: &mut [u64; QUEUE_WORDS])
     ensures { λ _. ⌜ now (queue .exit) ≡ freed (now (queue .entry)) 1024 ⌝ }
 {
     let mut i = 0;
     while i < 1024 {
         store_length(queue, i, 0);
+        store_place(queue, i, 0);
         store_next(queue, i, (i + 1) as u64);
         i += 1;
     }

@@ -18,7 +18,7 @@ loop-holds : tie.Need-loop-holds Inv-loop μ-loop
 loop-holds c = (omega arith, freed-none _)
 
 loop-again : tie.Need-loop-again Inv-loop μ-loop
-loop-again c = (omega arith, freed-next _ _ _ _ _ ((c .before .before .before .before .before .loop .inv) .1) (c .before .before .store-length .ensures) (c .store-next .ensures))
+loop-again c = (omega arith, freed-next _ _ _ _ _ _ ((c .before .before .before .before .before .before .before .loop .inv) .1) (c .before .before .before .before .store-length .ensures) (c .before .before .store-place .ensures) (c .store-next .ensures))
 
 returns : tie.Need-returns Inv-loop μ-loop
 returns c = freed-all _ _ _ ((c .before .loop .inv) .1) ((c .before .loop .inv) .0) (c .loop-test .left)
@@ -30,6 +30,7 @@ free-all-spec =
     Inv-loop
     μ-loop
     loop-holds
+    (λ c κs. omega arith)
     (λ c κs. omega arith)
     (λ c. omega arith)
     (λ c κs. omega arith)

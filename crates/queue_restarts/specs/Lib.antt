@@ -1,0 +1,3 @@
+-- What asking for the ready ids and the whole-queue reset leave, for every input. Assumes nothing.
+pub mod Ready
+pub mod Reset

@@ -1,0 +1,123 @@
+-- The whole-queue reset, on the words. Assumes nothing.
+use Prim.Native.Nat.{ℕ, zero, suc, _+_, _-_}
+use mathlib.Core.Bool.{Bool, true, false}
+use mathlib.Core.List.{List}
+use lib.Dec.{ltb}
+use Rattle.queue_words.specs.Flags.{pick}
+use Rattle.queue_words.specs.Header.{totalsAt, putTotals}
+use Rattle.queue_words.specs.Items.{itemAt, putItem}
+use Rattle.queue_words.specs.Known.{knownAt}
+use Rattle.queue_words.specs.Streams.{streamAt, putStream}
+use Rattle.queue_words.specs.declared.header.Totals.{Totals}
+use Rattle.queue_words.specs.declared.items.Item.{Item}
+use Rattle.queue_words.specs.declared.streams.OutgoingStream.{OutgoingStream}
+use Rattle.queue_streams.specs.Settings.{Called, called}
+use Rattle.queue_streams.specs.Waiting.{rescheduled, roomFor}
+use Rattle.queue_streams.specs.declared.answers.Call.the-variants.{Accepted, Refused}
+use Rattle.message_chains.specs.Amounts.{sum, rest}
+use Rattle.queue_restarts.specs.declared.whole.Sum.{Sum}
+
+-- The sent bytes of a head message, which come back; 0 where there is no message.
+unfoldable pub putBack : List ℕ → ℕ → ℕ
+putBack ws first = pick (ltb 1023 first) 0 (itemAt ws first .length - rest (itemAt ws first))
+
+-- ------------------------------------------------------------------ the test
+
+-- 16: "an amount would [..] pass 2^64 - 1": a stream's, or the total.
+unfoldable pub sumStream : OutgoingStream → ℕ → Sum → Sum
+sumStream s back t =
+    pick (ltb (18446744073709551615 - s .«buffered_amount») back) (record { fits = false; total = t .total })
+    (pick (ltb (18446744073709551615 - t .total) back) (record { fits = false; total = t .total })
+    (record { fits = t .fits; total = t .total + back }))
+
+-- "or a place kept in the state lies outside its table".
+unfoldable pub sumKnown : List ℕ → ℕ → Sum → Sum
+sumKnown ws place t =
+    pick (ltb 255 place) (record { fits = false; total = t .total })
+    (sumStream (streamAt ws place) (putBack ws (streamAt ws place .first)) t)
+
+-- The total with what the first n known streams put back.
+unfoldable pub sumAll : List ℕ → ℕ → ℕ → Sum
+sumAll ws total zero = record { fits = true; total = total }
+sumAll ws total (suc i) = sumKnown ws (knownAt ws i .place) (sumAll ws total i)
+
+-- ------------------------------------------------------------------ the writing
+
+-- "Whole-queue reset opens all streams, zeroes their counters": and the amount has the bytes that come back.
+unfoldable pub wholeStream : OutgoingStream → ℕ → OutgoingStream
+wholeStream s back = record {
+  priority = s .priority;
+  «pause_state» = 0;
+  «next_ssn» = record { 0 = 0 };
+  «next_unordered_mid» = record { 0 = 0 };
+  «next_ordered_mid» = record { 0 = 0 };
+  «buffered_amount» = sum (s .«buffered_amount») back;
+  «low_threshold» = s .«low_threshold»;
+  first = s .first;
+  last = s .last;
+}
+
+abbrev pub atStart : Item → Item
+atStart m = record {
+  ssn = m .ssn;
+  «max_retransmissions» = m .«max_retransmissions»;
+  unordered = m .unordered;
+  «mid_given» = m .«mid_given»;
+  expires = m .expires;
+  «message_id» = m .«message_id»;
+  ppid = m .ppid;
+  mid = m .mid;
+  fsn = m .fsn;
+  «expires_at» = m .«expires_at»;
+  «lifecycle_id» = m .«lifecycle_id»;
+  place = m .place;
+  length = m .length;
+  offset = 0;
+  next = m .next;
+}
+
+-- "and puts each head message back whole, keeping its MID, SSN and FSN".
+unfoldable pub wholeHead : List ℕ → ℕ → List ℕ
+wholeHead ws first = putItem ws first (atStart (itemAt ws first))
+
+-- "every stream with messages then waits".
+unfoldable pub resetIn : List ℕ → Bool → ℕ → ℕ → OutgoingStream → List ℕ
+resetIn ws il id place s =
+    pick (ltb (s .first) 1024)
+    (rescheduled (wholeHead (putStream ws place (wholeStream s (putBack ws (s .first)))) (s .first)) il id (s .first) (s .priority))
+    (putStream ws place (wholeStream s (putBack ws (s .first))))
+
+-- A place outside its table, which the call has ruled out, is passed over.
+unfoldable pub resetAt : List ℕ → Bool → ℕ → ℕ → List ℕ
+resetAt ws il id place = pick (ltb 255 place) ws (resetIn ws il id place (streamAt ws place))
+
+unfoldable pub resetAll : Bool → List ℕ → ℕ → List ℕ
+resetAll il ws zero = ws
+resetAll il ws (suc i) = resetAt (resetAll il ws i) il (knownAt (resetAll il ws i) i .id .0) (knownAt (resetAll il ws i) i .place)
+
+-- ------------------------------------------------------------------ the call
+
+abbrev pub withTotal : Totals → ℕ → Totals
+withTotal t n = record {
+  interleaving = t .interleaving;
+  «next_message_id» = t .«next_message_id»;
+  total = n;
+  known = t .known;
+  waiting = t .waiting;
+  free = t .free;
+  used = t .used;
+  end = t .end;
+}
+
+-- What the known streams put back, from the total on.
+abbrev pub sumOf : List ℕ → Sum
+sumOf ws = sumAll ws (totalsAt ws .total) (totalsAt ws .known)
+
+-- 16 where a place lies outside its table, the scheduler's rows do not suffice, or an amount would pass 2^64 - 1; nothing is then changed.
+unfoldable pub resetQueue : List ℕ → Called
+resetQueue ws =
+    pick (roomFor ws true)
+    (pick (sumOf ws .fits)
+    (called (Accepted 0) (resetAll (totalsAt ws .interleaving) (putTotals ws (withTotal (totalsAt ws) (sumOf ws .total))) (totalsAt ws .known)))
+    (called (Refused 16) ws))
+    (called (Refused 16) ws)

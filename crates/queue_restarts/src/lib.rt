@@ -1,0 +1,7 @@
+// Ready ids, and the whole-queue reset (tx/send_queue.rs).
+pub mod ready;
+pub mod whole;
+
+pub use ready::ReadyStreams;
+pub use ready::get_streams_ready_to_reset;
+pub use whole::reset;

@@ -1,0 +1,120 @@
+// The ids that are ready to be reset.
+ghost use mathlib.Core.Path.{_≡_};
+ghost use Prim.Native.Nat.{_≤_};
+ghost use Rattle.queue_restarts.specs.Ready.{placesFit, isPaused, collected, marked, markedAll, allPlacesFit, readied, ready};
+use queue_streams::answers::Call;
+use queue_words::QUEUE_WORDS;
+use queue_words::header::load_totals;
+use queue_words::known::load_known;
+use queue_words::streams::load_stream;
+use queue_words::streams::store_stream;
+
+// "Ready ids, at most 256, come by value with their count in ascending order". The ids are the first `count`; the others are 0.
+pub struct ReadyStreams {
+    pub answer: Call,
+    pub count: usize,
+    pub ids: [u16; 256],
+}
+
+// Whether the places of the first n known streams lie in their table.
+fn places_fit(queue: &[u64; QUEUE_WORDS], n: usize) -> bool
+    requires { ⌜ n ≤ 256 ⌝ }
+    ensures { λ r. ⌜ r ≡ placesFit (now (queue .entry)) 0 n ⌝ }
+{
+    let mut i = 0;
+    while i < n {
+        let k = load_known(queue, i);
+        if k.place > 255 {
+            return false;
+        }
+        i += 1;
+    }
+    true
+}
+
+fn is_paused(queue: &[u64; QUEUE_WORDS], place: u64) -> bool
+    ensures { λ r. ⌜ r ≡ isPaused (now (queue .entry)) place ⌝ }
+{
+    if place > 255 {
+        return false;
+    }
+    let s = load_stream(queue, place as usize);
+    s.pause_state == 2
+}
+
+// The ids of the paused ones among the first n known streams.
+fn collect(queue: &[u64; QUEUE_WORDS], n: usize) -> ReadyStreams
+    requires { ⌜ n ≤ 256 ⌝ }
+    ensures { λ r. ⌜ r ≡ collected (now (queue .entry)) n ⌝ }
+{
+    let mut ids = [0u16; 256];
+    let mut count = 0;
+    let mut i = 0;
+    while i < n {
+        let k = load_known(queue, i);
+        let paused = is_paused(queue, k.place);
+        if paused {
+            ids[count] = k.id.0;
+            count += 1;
+        }
+        i += 1;
+    }
+    ReadyStreams {
+        answer: Call::Accepted(0),
+        count: count,
+        ids: ids,
+    }
+}
+
+// "and become resetting".
+fn mark(queue: &mut [u64; QUEUE_WORDS], place: u64)
+    ensures { λ _. ⌜ now (queue .exit) ≡ marked (now (queue .entry)) place ⌝ }
+{
+    if place > 255 {
+        return;
+    }
+    let mut s = load_stream(&*queue, place as usize);
+    if s.pause_state == 2 {
+        s.pause_state = 3;
+        store_stream(queue, place as usize, s);
+    }
+}
+
+fn mark_all(queue: &mut [u64; QUEUE_WORDS], n: usize)
+    requires { ⌜ n ≤ 256 ⌝ }
+    ensures { λ _. ⌜ now (queue .exit) ≡ markedAll (now (queue .entry)) n ⌝ }
+{
+    let mut i = 0;
+    while i < n {
+        let k = load_known(&*queue, i);
+        mark(queue, k.place);
+        i += 1;
+    }
+}
+
+fn all_places_fit(queue: &[u64; QUEUE_WORDS], known: u64) -> bool
+    ensures { λ r. ⌜ r ≡ allPlacesFit (now (queue .entry)) known ⌝ }
+{
+    if known > 256 {
+        return false;
+    }
+    places_fit(queue, known as usize)
+}
+
+// Ready ids.
+pub fn get_streams_ready_to_reset(queue: &mut [u64; QUEUE_WORDS]) -> ReadyStreams
+    ensures { λ r. ⌜ readied r (now (queue .exit)) ≡ ready (now (queue .entry)) ⌝ }
+{
+    let t = load_totals(&*queue);
+    let fits = all_places_fit(&*queue, t.known);
+    if fits {
+        let r = collect(&*queue, t.known as usize);
+        mark_all(queue, t.known as usize);
+        return r;
+    }
+    ReadyStreams {
+        answer: Call::Refused(16),
+        count: 0,
+        ids: [0u16; 256],
+    }
+}

@@ -1,0 +1,173 @@
+// The whole-queue reset.
+ghost use mathlib.Core.Path.{_≡_};
+ghost use Prim.Native.Nat.{_<_, _≤_};
+ghost use Rattle.queue_streams.specs.Settings.{called};
+ghost use Rattle.queue_restarts.specs.Reset.{putBack, sumStream, sumKnown, sumAll, wholeStream, wholeHead, resetIn, resetAt, resetAll, resetQueue};
+use message_chains::amounts::minus;
+use message_chains::amounts::plus;
+use message_chains::amounts::remaining;
+use queue_streams::answers::Call;
+use queue_streams::waiting::reschedule;
+use queue_streams::waiting::room_for;
+use queue_words::QUEUE_WORDS;
+use queue_words::header::load_totals;
+use queue_words::header::store_totals;
+use queue_words::items::load_item;
+use queue_words::items::store_item;
+use queue_words::known::load_known;
+use queue_words::streams::OutgoingStream;
+use queue_words::streams::load_stream;
+use queue_words::streams::store_stream;
+use types::Mid;
+use types::Ssn;
+
+// The sent bytes of a head message, which come back.
+fn put_back(queue: &[u64; QUEUE_WORDS], first: u64) -> u64
+    ensures { λ r. ⌜ r ≡ putBack (now (queue .entry)) first ⌝ }
+{
+    if first > 1023 {
+        return 0;
+    }
+    let m = load_item(queue, first as usize);
+    let left = remaining(m);
+    minus(m.length, left)
+}
+
+// A test of all known streams half done: whether no amount so far would pass 2^64 - 1, and the total so far.
+pub struct Sum {
+    pub fits: bool,
+    pub total: u64,
+}
+
+fn sum_stream(s: OutgoingStream, back: u64, t: Sum) -> Sum
+    ensures { λ r. ⌜ r ≡ sumStream s back t ⌝ }
+{
+    let mut o = t;
+    if back > u64::MAX - s.buffered_amount {
+        o.fits = false;
+        return o;
+    }
+    if back > u64::MAX - t.total {
+        o.fits = false;
+        return o;
+    }
+    o.total = t.total + back;
+    o
+}
+
+fn sum_known(queue: &[u64; QUEUE_WORDS], place: u64, t: Sum) -> Sum
+    ensures { λ r. ⌜ r ≡ sumKnown (now (queue .entry)) place t ⌝ }
+{
+    if place > 255 {
+        return Sum {
+            fits: false,
+            total: t.total,
+        };
+    }
+    let s = load_stream(queue, place as usize);
+    let back = put_back(queue, s.first);
+    sum_stream(s, back, t)
+}
+
+fn sum_all(queue: &[u64; QUEUE_WORDS], total: u64, n: usize) -> Sum
+    requires { ⌜ n ≤ 256 ⌝ }
+    ensures { λ r. ⌜ r ≡ sumAll (now (queue .entry)) total n ⌝ }
+{
+    let mut t = Sum {
+        fits: true,
+        total: total,
+    };
+    let mut i = 0;
+    while i < n {
+        let k = load_known(queue, i);
+        t = sum_known(queue, k.place, t);
+        i += 1;
+    }
+    t
+}
+
+// "Whole-queue reset opens all streams, zeroes their counters".
+fn reset_stream(s: OutgoingStream, back: u64) -> OutgoingStream
+    ensures { λ r. ⌜ r ≡ wholeStream s back ⌝ }
+{
+    OutgoingStream {
+        priority: s.priority,
+        pause_state: 0,
+        next_ssn: Ssn(0),
+        next_unordered_mid: Mid(0),
+        next_ordered_mid: Mid(0),
+        buffered_amount: plus(s.buffered_amount, back),
+        low_threshold: s.low_threshold,
+        first: s.first,
+        last: s.last,
+    }
+}
+
+// "puts each head message back whole, keeping its MID, SSN and FSN".
+fn whole_head(queue: &mut [u64; QUEUE_WORDS], first: usize)
+    requires { ⌜ first < 1024 ⌝ }
+    ensures { λ _. ⌜ now (queue .exit) ≡ wholeHead (now (queue .entry)) first ⌝ }
+{
+    let mut m = load_item(&*queue, first);
+    m.offset = 0;
+    store_item(queue, first, m);
+}
+
+fn reset_in(
+    queue: &mut [u64; QUEUE_WORDS],
+    interleaving: bool,
+    id: u16,
+    place: usize,
+    s: OutgoingStream,
+)
+    requires { ⌜ place < 256 ⌝ }
+    ensures { λ _. ⌜ now (queue .exit) ≡ resetIn (now (queue .entry)) interleaving id place s ⌝ }
+{
+    let back = put_back(&*queue, s.first);
+    let o = reset_stream(s, back);
+    store_stream(queue, place, o);
+    if s.first < 1024 {
+        whole_head(queue, s.first as usize);
+        reschedule(queue, interleaving, id, s.first, s.priority);
+    }
+}
+
+fn reset_at(queue: &mut [u64; QUEUE_WORDS], interleaving: bool, id: u16, place: u64)
+    ensures { λ _. ⌜ now (queue .exit) ≡ resetAt (now (queue .entry)) interleaving id place ⌝ }
+{
+    if place > 255 {
+        return;
+    }
+    let s = load_stream(&*queue, place as usize);
+    reset_in(queue, interleaving, id, place as usize, s);
+}
+
+fn reset_all(queue: &mut [u64; QUEUE_WORDS], interleaving: bool, n: usize)
+    requires { ⌜ n ≤ 256 ⌝ }
+    ensures { λ _. ⌜ now (queue .exit) ≡ resetAll interleaving (now (queue .entry)) n ⌝ }
+{
+    let mut i = 0;
+    while i < n {
+        let k = load_known(&*queue, i);
+        reset_at(queue, interleaving, k.id.0, k.place);
+        i += 1;
+    }
+}
+
+// "every stream with messages then waits".
+pub fn reset(queue: &mut [u64; QUEUE_WORDS]) -> Call
+    ensures { λ r. ⌜ called r (now (queue .exit)) ≡ resetQueue (now (queue .entry)) ⌝ }
+{
+    let room = room_for(&*queue, true);
+    if room {
+        let mut t = load_totals(&*queue);
+        let sum = sum_all(&*queue, t.total, t.known as usize);
+        if sum.fits {
+            t.total = sum.total;
+            store_totals(queue, t);
+            reset_all(queue, t.interleaving, t.known as usize);
+            return Call::Accepted(0);
+        }
+    }
+    Call::Refused(16)
+}
