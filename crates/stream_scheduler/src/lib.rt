@@ -13,6 +13,8 @@ use queue_words::QUEUE_WORDS;
 use queue_words::active::ActiveStreamInfo;
 use queue_words::active::SchedulingParameters;
 use queue_words::active::load_active;
+use queue_words::active::load_active_id;
+use queue_words::active::load_finish;
 use queue_words::active::parameters_of;
 use queue_words::active::parameters_word;
 use queue_words::active::store_active;
@@ -96,15 +98,34 @@ fn schedule_next_chunk(
     }
 }
 
-// The first row of a stream among n rows, or n.
+// The first row of a stream among n rows, or n: four rows a turn, then the rows that are left.
 fn seek(queue: &[u64; QUEUE_WORDS], stream_id: u16, n: usize) -> usize
     requires { ⌜ n ≤ 256 ⌝ }
     ensures { λ r. ⌜ r ≡ seek (now (queue .entry)) «stream_id» n ⌝ }
 {
     let mut i = 0;
+    while i + 4 <= n {
+        let a = load_active_id(queue, i);
+        if a == stream_id {
+            return i;
+        }
+        let b = load_active_id(queue, i + 1);
+        if b == stream_id {
+            return i + 1;
+        }
+        let c = load_active_id(queue, i + 2);
+        if c == stream_id {
+            return i + 2;
+        }
+        let d = load_active_id(queue, i + 3);
+        if d == stream_id {
+            return i + 3;
+        }
+        i += 4;
+    }
     while i < n {
-        let a = load_active(queue, i);
-        if a.stream_id.0 == stream_id {
+        let id = load_active_id(queue, i);
+        if id == stream_id {
             return i;
         }
         i += 1;
@@ -123,26 +144,26 @@ fn best_of(queue: &[u64; QUEUE_WORDS], i: usize) -> Best
     requires { ⌜ i < 256 ⌝ }
     ensures { λ r. ⌜ r ≡ bestOf (now (queue .entry)) i ⌝ }
 {
-    let a = load_active(queue, i);
-    Best {
-        id: a.stream_id.0,
-        at: i,
-        finish: a.virtual_finish_time,
-    }
+    let id = load_active_id(queue, i);
+    let finish = load_finish(queue, i);
+    Best { id, at: i, finish }
 }
 
-// The smaller finish time, then the smaller id.
-fn better(a: Best, b: Best) -> Best
-    ensures { λ r. ⌜ r ≡ better a b ⌝ }
+// The smaller finish time, then the smaller id, of a row and row i. The id is not read of a row that finishes later.
+fn better(queue: &[u64; QUEUE_WORDS], a: Best, i: usize) -> Best
+    requires { ⌜ i < 256 ⌝ }
+    ensures { λ r. ⌜ r ≡ better a (bestOf (now (queue .entry)) i) ⌝ }
 {
-    if b.finish < a.finish {
-        return b;
+    let finish = load_finish(queue, i);
+    if finish < a.finish {
+        let id = load_active_id(queue, i);
+        return Best { id, at: i, finish };
     }
-    if a.finish < b.finish {
-        return a;
-    }
-    if b.id < a.id {
-        return b;
+    if finish == a.finish {
+        let id = load_active_id(queue, i);
+        if id < a.id {
+            return Best { id, at: i, finish };
+        }
     }
     a
 }
@@ -155,8 +176,7 @@ fn least(queue: &[u64; QUEUE_WORDS], n: usize) -> Best
     let mut best = best_of(queue, 0);
     let mut i = 0;
     while i + 1 < n {
-        let next = best_of(queue, i + 1);
-        best = better(best, next);
+        best = better(queue, best, i + 1);
         i += 1;
     }
     best

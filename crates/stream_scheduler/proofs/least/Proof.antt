@@ -18,7 +18,7 @@ loop-holds : tie.Need-loop-holds Inv-loop μ-loop
 loop-holds c = (omega arith, least-first _ _ (c .best-of .ensures))
 
 loop-again : tie.Need-loop-again Inv-loop μ-loop
-loop-again c = (omega arith, least-next _ _ _ _ _ (c .before .before .before .loop .inv .1) (c .before .best-of2 .ensures) (c .better .ensures))
+loop-again c = (omega arith, least-next _ _ _ _ (c .before .before .loop .inv .1) (c .better .ensures))
 
 returns : tie.Need-returns Inv-loop μ-loop
 returns c = least-end _ _ _ _ (c .before .loop .inv .1) (c .before .loop .inv .0) (c .loop-test .left)
@@ -34,7 +34,6 @@ least-spec =
     (λ c. omega arith)
     (λ c. omega arith)
     (λ c κs. omega arith)
-    (λ c κs. search needs)
     (λ c. omega arith)
     (λ c. omega arith)
     loop-again
