@@ -1,0 +1,27 @@
+-- `queue_sending::choice::expired` meets its contract: each return is what its definition says, by what the calls ensure and the tests taken. Assumes nothing.
+use Rattle.queue_sending.specs.Choice.{expiredBy}
+use Rattle.queue_sending.proofs.choice.expired.Statement.{statement}
+use Rattle.queue_sending.proofs.choice.expired.Tie as tie
+
+returns : tie.Need-returns
+unfolding expiredBy
+returns c =
+    rw
+    (
+    (c .before .if1 .taken)
+    )
+
+returns-2 : tie.Need-returns-2
+unfolding expiredBy
+returns-2 c =
+    rw
+    (
+    (c .if1 .left)
+    )
+
+pub expired-spec : {M : Type 1} → statement M
+expired-spec =
+    tie.close
+    (tie.spec
+    returns
+    returns-2)

@@ -1,0 +1,46 @@
+-- `queue_sending::next_fragment::drop_expired` meets its contract: each return is what its definition says, by what the calls ensure and the tests taken. Assumes nothing.
+use borrow.Author.Needs.{needs}
+use borrow.Author.Tests.{le-ltb, lt-ltb}
+use Rattle.queue_sending.specs.Produce.{expiredDropped}
+use Rattle.queue_sending.proofs.next_fragment.drop_expired.Statement.{statement}
+use Rattle.queue_sending.proofs.next_fragment.drop_expired.Tie as tie
+
+returns : tie.Need-returns
+unfolding expiredDropped
+returns c =
+    rw
+    (
+    lt-ltb _ _ (c .if1 .taken)
+    )
+
+returns-2 : tie.Need-returns-2
+unfolding expiredDropped
+returns-2 c =
+    rw (
+      le-ltb _ _ (c .before .before .before .before .if1 .left),
+      ← (c .before .before .load-stream .ensures),
+      lt-ltb _ _ (c .if2 .taken),
+    )
+
+returns-3 : tie.Need-returns-3
+unfolding expiredDropped
+returns-3 c =
+    rw (
+      le-ltb _ _ (c .before .before .before .before .before .before .before .before .before .before .before .if1 .left),
+      ← (c .before .before .before .before .before .before .before .before .before .load-stream .ensures),
+      le-ltb _ _ (c .before .before .before .before .before .before .before .if2 .left),
+      ← (c .before .before .before .before .before .load-item .ensures),
+      ← (c .before .before .drop-expired-head .ensures),
+    )
+
+pub drop-expired-spec : {M : Type 1} → statement M
+drop-expired-spec =
+    tie.close
+    (tie.spec
+    returns
+    (λ c. search needs)
+    returns-2
+    (λ c. search needs)
+    (λ c. search needs)
+    (λ c. search needs)
+    returns-3)

@@ -1,0 +1,61 @@
+-- What goes with a fragment, and what the call leaves. Assumes nothing.
+use Prim.Native.Nat.{ℕ}
+use mathlib.Core.Bool.{Bool}
+use mathlib.Core.List.{List}
+use lib.Dec.{eqb}
+use Rattle.types.specs.Keys.{key-of}
+use Rattle.queue_words.specs.Flags.{pick}
+use Rattle.queue_words.specs.declared.items.Item.{Item}
+use Rattle.message_chains.specs.Amounts.{rest}
+use Rattle.queue_sending.specs.declared.data.Data.{Data}
+use Rattle.queue_sending.specs.declared.data.DataToSend.{DataToSend}
+use Rattle.queue_sending.specs.declared.data.Expiry.{Expiry}
+use Rattle.queue_sending.specs.declared.data.Expiry.the-variants.{Never, At}
+use Rattle.queue_sending.specs.declared.data.Produced.{Produced}
+use Rattle.queue_sending.specs.declared.data.Produced.the-variants as produced
+
+-- "expiry time or never"
+unfoldable pub expiryOf : Item → Expiry
+expiryOf m = pick (m .expires) (At (m .«expires_at»)) Never
+
+-- "Only the last fragment shows the lifecycle id."
+unfoldable pub shownLifecycle : Item → Bool → ℕ
+shownLifecycle m last = pick last (m .«lifecycle_id») 0
+
+-- "First means offset 0; last means that nothing remains."
+abbrev pub dataOf : ℕ → Item → ℕ → Data
+dataOf id m n = record {
+  «stream_key» = key-of (m .unordered) (record { 0 = id });
+  ssn = m .ssn;
+  mid = m .mid;
+  fsn = m .fsn;
+  ppid = m .ppid;
+  «is_beginning» = eqb (m .offset) 0;
+  «is_end» = eqb n (rest m);
+  length = n;
+}
+
+-- "With it go message id, stream, unordered mark, the three counters, protocol id, first and last marks, retransmissions, expiry time or never, and lifecycle id": of
+-- a fragment of n bytes of a numbered message.
+unfoldable pub dataToSend : ℕ → Item → ℕ → DataToSend
+dataToSend id m n = record {
+  «message_id» = m .«message_id»;
+  «data» = dataOf id m n;
+  «max_retransmissions» = m .«max_retransmissions»;
+  «expires_at» = expiryOf m;
+  «lifecycle_id» = shownLifecycle m (eqb n (rest m));
+}
+
+-- What the call leaves: its answer, the words, the lent list of events, the lent fragment buffer.
+pub record ProducedWith : Type 0 where
+  pub answer : Produced
+  pub words : List ℕ
+  pub events : List ℕ
+  pub buffer : List ℕ
+
+abbrev pub producedWith : Produced → List ℕ → List ℕ → List ℕ → ProducedWith
+producedWith a ws es bs = record { answer = a; words = ws; events = es; buffer = bs }
+
+-- refused with a number of document 01's list
+abbrev pub refusedWith : ℕ → List ℕ → List ℕ → List ℕ → ProducedWith
+refusedWith code ws es bs = producedWith (produced.Refused code) ws es bs

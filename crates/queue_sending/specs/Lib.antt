@@ -1,0 +1,6 @@
+-- What the next fragment is and what it leaves, for every input. Assumes nothing.
+pub mod Data
+pub mod Numbers
+pub mod Choice
+pub mod Fragment
+pub mod Produce

@@ -1,0 +1,196 @@
+// Handing out a fragment of a stream's head.
+ghost use mathlib.Core.Path.{_≡_};
+ghost use Prim.Native.Nat.{_<_};
+ghost use Rattle.queue_sending.specs.Data.{producedWith};
+ghost use Rattle.queue_sending.specs.Fragment.{leastOf, sendCode, endPending, nextFirst, finished, wentOn, writtenSent, sent, handedOut};
+use crate::data::Produced;
+use crate::data::data_to_send;
+use crate::numbers::moved_on;
+use crate::numbers::numbered_item;
+use crate::numbers::numbered_stream;
+use message_chains::amounts::minus;
+use message_chains::amounts::remaining;
+use message_chains::heads::head_code;
+use message_chains::heads::release;
+use message_chains::heads::sent_events;
+use message_chains::heads::without_head;
+use payload_store::read_code;
+use payload_store::read_payload;
+use queue_streams::waiting::reschedule;
+use queue_words::QUEUE_WORDS;
+use queue_words::active::load_active;
+use queue_words::header::load_totals;
+use queue_words::header::store_totals;
+use queue_words::items::Item;
+use queue_words::items::load_item;
+use queue_words::items::store_item;
+use queue_words::streams::OutgoingStream;
+use queue_words::streams::load_stream;
+use queue_words::streams::store_stream;
+use stream_scheduler::accept;
+
+fn least(a: u64, b: u64) -> u64
+    ensures { λ r. ⌜ r ≡ leastOf a b ⌝ }
+{
+    if a < b {
+        return a;
+    }
+    b
+}
+
+// May n bytes of the head m of the stream s be handed out: 0, else 16. Reads only.
+fn send_code(
+    queue: &[u64; QUEUE_WORDS],
+    len: u64,
+    s: OutgoingStream,
+    m: Item,
+    n: u64,
+    room: u64,
+) -> u8
+    ensures { λ r. ⌜ r ≡ sendCode (now (queue .entry)) len s m n room ⌝ }
+{
+    let left = remaining(m);
+    if n > left {
+        return 16;
+    }
+    let read = read_code(queue, len, s.first as usize, m.offset, n, room);
+    if read > 0 {
+        return 16;
+    }
+    head_code(queue, s, s.first as usize, m.next, n)
+}
+
+// "When a pending stream's message ends or is discarded, it is paused."
+fn end_pending(state: u8) -> u8
+    ensures { λ r. ⌜ r ≡ endPending state ⌝ }
+{
+    if state == 1 {
+        return 2;
+    }
+    state
+}
+
+// "a message behind it, unless the stream is now paused, then makes the stream begin anew": the place of the message with which
+// the stream waits, 1024 for none.
+fn next_first(state: u8, next: u64) -> u64
+    ensures { λ r. ⌜ r ≡ nextFirst state next ⌝ }
+{
+    if state == 2 {
+        return 1024;
+    }
+    next
+}
+
+// After a last fragment of n bytes: the message m is gone from the stream s, which has given its numbers.
+fn finish(queue: &mut [u64; QUEUE_WORDS], id: u16, row: usize, s: OutgoingStream, m: Item, n: u64)
+    requires { ⌜ (row < 256) × (s .first < 1024) ⌝ }
+    ensures { λ _. ⌜ now (queue .exit) ≡ finished (now (queue .entry)) id row s m n ⌝ }
+{
+    let state = end_pending(s.pause_state);
+    let t = load_totals(&*queue);
+    let first = next_first(state, m.next);
+    reschedule(queue, t.interleaving, id, first, s.priority);
+    release(queue, s.first as usize, n);
+    let o = without_head(s, state, m.next, n);
+    store_stream(queue, row, o);
+}
+
+// After any other fragment of n bytes.
+fn go_on(queue: &mut [u64; QUEUE_WORDS], row: usize, s: OutgoingStream, m: Item, n: u64)
+    requires { ⌜ (row < 256) × (s .first < 1024) ⌝ }
+    ensures { λ _. ⌜ now (queue .exit) ≡ wentOn (now (queue .entry)) row s m n ⌝ }
+{
+    let mut t = load_totals(&*queue);
+    t.total = minus(t.total, n);
+    store_totals(queue, t);
+    let item = moved_on(m, n);
+    store_item(queue, s.first as usize, item);
+    let mut o = s;
+    o.buffered_amount = minus(s.buffered_amount, n);
+    store_stream(queue, row, o);
+}
+
+// The words after a fragment of n bytes of the numbered message m of the stream s, which has given its numbers.
+fn write_sent(
+    queue: &mut [u64; QUEUE_WORDS],
+    at: usize,
+    id: u16,
+    row: usize,
+    s: OutgoingStream,
+    m: Item,
+    n: u64,
+)
+    requires { ⌜ (row < 256) × (s .first < 1024) ⌝ }
+    ensures { λ _. ⌜ now (queue .exit) ≡ writtenSent (now (queue .entry)) at id row s m n ⌝ }
+{
+    accept(queue, at, n);
+    let left = remaining(m);
+    if n == left {
+        finish(queue, id, row, s, m, n);
+        return;
+    }
+    go_on(queue, row, s, m, n);
+}
+
+// The fragment of n bytes of the head m of the stream s.
+fn send(
+    queue: &mut [u64; QUEUE_WORDS],
+    store: &[u8],
+    events: &mut [u64],
+    buffer: &mut [u8],
+    k: usize,
+    at: usize,
+    id: u16,
+    row: usize,
+    s: OutgoingStream,
+    m: Item,
+    n: u64,
+) -> Produced
+    requires { ⌜ (row < 256) × (s .first < 1024) ⌝ }
+    ensures { λ r. ⌜ producedWith r (now (queue .exit)) (now (events .exit)) (now (buffer .exit)) ≡ sent (now (queue .entry)) (now (store .entry)) (now (events .entry)) (now (buffer .entry)) k at id row s m n ⌝ }
+{
+    let code = send_code(&*queue, store.len() as u64, s, m, n, buffer.len() as u64);
+    if code > 0 {
+        return Produced::Refused(code);
+    }
+    read_payload(&*queue, store, s.first as usize, m.offset, n, buffer);
+    let k1 = sent_events(&*queue, events, k, id, s, n);
+    let item = numbered_item(s, m);
+    let stream = numbered_stream(s, m);
+    write_sent(queue, at, id, row, stream, item, n);
+    let d = data_to_send(id, item, n);
+    Produced::Fragment(k1, d)
+}
+
+// Hands out at most `size` bytes of the chosen head, after k events.
+pub fn hand_out(
+    queue: &mut [u64; QUEUE_WORDS],
+    store: &[u8],
+    events: &mut [u64],
+    buffer: &mut [u8],
+    size: u64,
+    k: usize,
+    at: usize,
+    id: u16,
+    row: usize,
+) -> Produced
+    ensures { λ r. ⌜ producedWith r (now (queue .exit)) (now (events .exit)) (now (buffer .exit)) ≡ handedOut (now (queue .entry)) (now (store .entry)) (now (events .entry)) (now (buffer .entry)) size k at id row ⌝ }
+{
+    if k > 2303 {
+        return Produced::Refused(16);
+    }
+    if at > 255 {
+        return Produced::Refused(16);
+    }
+    if row > 255 {
+        return Produced::Refused(16);
+    }
+    let s = load_stream(&*queue, row);
+    if s.first > 1023 {
+        return Produced::Refused(16);
+    }
+    let m = load_item(&*queue, s.first as usize);
+    let a = load_active(&*queue, at);
+    let n = least(a.bytes_remaining, size);
+    send(queue, store, events, buffer, k, at, id, row, s, m, n)
+}

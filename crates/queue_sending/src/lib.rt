@@ -1,0 +1,13 @@
+// The next fragment (tx/send_queue.rs: produce). The call is total on every input: words that no queue has get the answer 16, and
+// nothing is changed.
+pub mod choice;
+pub mod data;
+pub mod fragment;
+pub mod next_fragment;
+pub mod numbers;
+
+pub use data::Data;
+pub use data::DataToSend;
+pub use data::Expiry;
+pub use data::Produced;
+pub use next_fragment::produce;

@@ -1,0 +1,237 @@
+// The next fragment (Rust: produce, get_stream_to_produce_from).
+ghost use mathlib.Core.Path.{_≡_};
+ghost use Prim.Native.Nat.{_<_, _≤_};
+ghost use lib.ListN.{length};
+ghost use Rattle.queue_streams.specs.Settings.{calledWith};
+ghost use Rattle.queue_sending.specs.Data.{producedWith};
+ghost use Rattle.queue_sending.specs.Produce.{produceCode, headExpired, expiredDropped, passOver, copied, refusal, producedPast, produceNext};
+use crate::choice::Look;
+use crate::choice::look_ahead;
+use crate::data::Produced;
+use crate::fragment::hand_out;
+use message_chains::amounts::remaining;
+use message_chains::heads::drop_head;
+use message_chains::heads::head_code;
+use queue_streams::answers::Call;
+use queue_streams::events::EVENT_PLACES;
+use queue_streams::waiting::reschedule;
+use queue_words::QUEUE_WORDS;
+use queue_words::header::load_options;
+use queue_words::header::load_totals;
+use queue_words::items::Item;
+use queue_words::items::load_item;
+use queue_words::streams::OutgoingStream;
+use queue_words::streams::load_stream;
+
+const MAX_TIME: u64 = 4611686018427387903;
+
+const MAX_SIZE: u64 = 262144;
+
+// The refusals that the arguments decide: 2, 3, 4, 9, 10, or 0.
+fn produce_code(
+    queue: &[u64; QUEUE_WORDS],
+    len: u64,
+    places: u64,
+    room: u64,
+    time: u64,
+    size: u64,
+) -> u8
+    ensures { λ r. ⌜ r ≡ produceCode (now (queue .entry)) len places room time size ⌝ }
+{
+    let o = load_options(queue);
+    if o.store_length != len {
+        return 2;
+    }
+    if places < 4610 {
+        return 3;
+    }
+    if time > MAX_TIME {
+        return 4;
+    }
+    if size == 0 {
+        return 9;
+    }
+    if size > MAX_SIZE {
+        return 9;
+    }
+    if room < size {
+        return 10;
+    }
+    0
+}
+
+// Drops the head m of the stream s, which has expired: the events so far, or 16.
+fn drop_expired_head(
+    queue: &mut [u64; QUEUE_WORDS],
+    events: &mut [u64],
+    k: usize,
+    id: u16,
+    row: usize,
+    s: OutgoingStream,
+    m: Item,
+) -> Call
+    requires { ⌜ (row < 256) × (s .first < 1024) ⌝ }
+    ensures { λ r. ⌜ calledWith r (now (queue .exit)) (now (events .exit)) ≡ headExpired (now (queue .entry)) (now (events .entry)) k id row s m ⌝ }
+{
+    let n = remaining(m);
+    let code = head_code(&*queue, s, s.first as usize, m.next, n);
+    if code > 0 {
+        return Call::Refused(code);
+    }
+    let t = load_totals(&*queue);
+    reschedule(queue, t.interleaving, id, m.next, s.priority);
+    let k1 = drop_head(queue, events, k, id, row, s, s.pause_state, m);
+    Call::Accepted(k1)
+}
+
+// "An expired head of the chosen stream is dropped, half-sent or not": the events so far, or 16.
+fn drop_expired(
+    queue: &mut [u64; QUEUE_WORDS],
+    events: &mut [u64],
+    k: usize,
+    id: u16,
+    row: usize,
+) -> Call
+    ensures { λ r. ⌜ calledWith r (now (queue .exit)) (now (events .exit)) ≡ expiredDropped (now (queue .entry)) (now (events .entry)) k id row ⌝ }
+{
+    if row > 255 {
+        return Call::Refused(16);
+    }
+    let s = load_stream(&*queue, row);
+    if s.first > 1023 {
+        return Call::Refused(16);
+    }
+    let m = load_item(&*queue, s.first as usize);
+    drop_expired_head(queue, events, k, id, row, s, m)
+}
+
+// The choice with the expired heads passed over: "a function that calls itself with one waiting message fewer". What it leaves
+// where it is refused is not kept.
+fn pass_over(
+    queue: &mut [u64; QUEUE_WORDS],
+    store: &[u8],
+    events: &mut [u64],
+    buffer: &mut [u8],
+    time: u64,
+    size: u64,
+    waiting: usize,
+    k: usize,
+) -> Produced
+    ensures { λ r. ⌜ producedWith r (now (queue .exit)) (now (events .exit)) (now (buffer .exit)) ≡ passOver waiting (now (queue .entry)) (now (store .entry)) (now (events .entry)) (now (buffer .entry)) time size k ⌝ }
+{
+    let found = look_ahead(&*queue, time);
+    match found {
+        Look::Nothing => {
+            if k > 2305 {
+                return Produced::Refused(16);
+            }
+            Produced::Nothing(k)
+        }
+        Look::Broken => Produced::Refused(16),
+        Look::Chosen(at, id, row) => hand_out(queue, store, events, buffer, size, k, at, id, row),
+        Look::Expired(id, row) => {
+            if waiting == 0 {
+                return Produced::Refused(16);
+            }
+            let dropped = drop_expired(queue, events, k, id, row);
+            match dropped {
+                Call::Accepted(k1) => {
+                    pass_over(queue, store, events, buffer, time, size, waiting - 1, k1)
+                }
+                Call::Refused(code) => Produced::Refused(code),
+            }
+        }
+    }
+}
+
+// The first n words of one list go to another.
+fn copy_events(to: &mut [u64], from: &[u64], n: usize)
+    requires { ⌜ (n ≤ length (now from)) × (n ≤ length (now to)) ⌝ }
+    ensures { λ _. ⌜ now (to .exit) ≡ copied (now (to .entry)) (now (from .entry)) n ⌝ }
+{
+    let mut i = 0;
+    while i < n {
+        to[i] = from[i];
+        i += 1;
+    }
+}
+
+fn is_refused(p: Produced) -> bool
+    ensures { λ r. ⌜ r ≡ refusal p ⌝ }
+{
+    match p {
+        Produced::Nothing(_) => false,
+        Produced::Fragment(_, _) => false,
+        Produced::Refused(_) => true,
+    }
+}
+
+// Passes over expired heads. The words and the events' places are saved before, and put back where that is refused: what is
+// refused changes nothing.
+fn produce_past(
+    queue: &mut [u64; QUEUE_WORDS],
+    store: &[u8],
+    events: &mut [u64],
+    buffer: &mut [u8],
+    time: u64,
+    size: u64,
+) -> Produced
+    requires { ⌜ 4610 ≤ length (now events) ⌝ }
+    ensures { λ r. ⌜ producedWith r (now (queue .exit)) (now (events .exit)) (now (buffer .exit)) ≡ producedPast (now (queue .entry)) (now (store .entry)) (now (events .entry)) (now (buffer .entry)) time size ⌝ }
+{
+    let t = load_totals(&*queue);
+    if t.waiting > 1024 {
+        return Produced::Refused(16);
+    }
+    let words = *queue;
+    let mut saved = [0u64; EVENT_PLACES];
+    copy_events(&mut saved, &*events, EVENT_PLACES);
+    let p = pass_over(
+        queue,
+        store,
+        events,
+        buffer,
+        time,
+        size,
+        t.waiting as usize,
+        0,
+    );
+    let refused = is_refused(p);
+    if refused {
+        *queue = words;
+        copy_events(events, &saved, EVENT_PLACES);
+        return p;
+    }
+    p
+}
+
+// The next fragment of at most `size` bytes; the store, the event list and the fragment buffer are lent.
+pub fn produce(
+    queue: &mut [u64; QUEUE_WORDS],
+    store: &[u8],
+    events: &mut [u64],
+    buffer: &mut [u8],
+    time: u64,
+    size: u64,
+) -> Produced
+    ensures { λ r. ⌜ producedWith r (now (queue .exit)) (now (events .exit)) (now (buffer .exit)) ≡ produceNext (now (queue .entry)) (now (store .entry)) (now (events .entry)) (now (buffer .entry)) time size ⌝ }
+{
+    let code = produce_code(
+        &*queue,
+        store.len() as u64,
+        events.len() as u64,
+        buffer.len() as u64,
+        time,
+        size,
+    );
+    if code > 0 {
+        return Produced::Refused(code);
+    }
+    let found = look_ahead(&*queue, time);
+    match found {
+        Look::Nothing => Produced::Nothing(0),
+        Look::Broken => Produced::Refused(16),
+        Look::Chosen(at, id, row) => hand_out(queue, store, events, buffer, size, 0, at, id, row),
+        Look::Expired(_, _) => produce_past(queue, store, events, buffer, time, size),
+    }
+}
