@@ -1,0 +1,3 @@
+-- What the proofs of the loops use. Assumes nothing.
+pub mod Payloads
+pub mod Copies

@@ -1,0 +1,3 @@
+-- What the payloads, the sums and the marks are. Assumes nothing.
+pub mod Payload
+pub mod Marks

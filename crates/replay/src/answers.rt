@@ -1,0 +1,327 @@
+// One line of the trace: the call, its answer line, and what is settled after it.
+use crate::lent::lent_add;
+use crate::lent::lent_create;
+use crate::lent::lent_event_call;
+use crate::lent::lent_produce;
+use crate::lent::plain_call;
+use crate::marks::clear_store;
+use crate::output::put_answer;
+use crate::output::put_byte;
+use crate::output::put_number;
+use crate::output::put_text;
+use crate::payload::sum_of;
+use crate::settle::events_of;
+use crate::settle::refusal_number;
+use crate::settle::refusal_of;
+use crate::settle::settle_events;
+use crate::settle::settle_fragment;
+use crate::settle::settle_no_events;
+use crate::settle::settle_store;
+use crate::settle::settle_words;
+use crate::state::BUFFER;
+use crate::state::EVENT_WORDS;
+use crate::state::FRAGMENT;
+use crate::state::LENT_EVENTS;
+use crate::state::LENT_FRAGMENT;
+use crate::state::LENT_IMAGE;
+use crate::state::LENT_STORE;
+use crate::state::LETTER;
+use crate::state::PAYLOAD;
+use crate::state::QUEUES;
+use crate::state::STATE;
+use crate::state::STORE;
+use crate::state::bit;
+use crate::state::low8;
+use crate::state::low16;
+use crate::state::wide16;
+use queue_restarts::ReadyStreams;
+use queue_restarts::get_streams_ready_to_reset;
+use queue_sending::Data;
+use queue_sending::DataToSend;
+use queue_sending::Expiry;
+use queue_sending::Produced;
+use queue_streams::Call;
+use queue_streams::Flag;
+use queue_streams::Number;
+use queue_streams::buffered_amount;
+use queue_streams::buffered_amount_low_threshold;
+use queue_streams::get_handover_readiness;
+use queue_streams::get_priority;
+use queue_streams::has_data_to_send;
+use queue_streams::has_streams_ready_to_be_reset;
+use queue_streams::is_empty;
+use queue_streams::total_buffered_amount;
+use queue_words::QUEUE_WORDS;
+
+// "At each `n` they are 2305, 262144, 2100000 and the creation length." After a refused one there is no queue.
+fn begin(state: &mut [u64; STATE], refusal: u64) {
+    state[LENT_EVENTS] = 2305;
+    state[LENT_FRAGMENT] = 262144;
+    state[LENT_IMAGE] = 2100000;
+    state[LENT_STORE] = state[1];
+    state[QUEUES] = bit(refusal == 0);
+}
+
+fn answer_create(
+    queue: &mut [u64; QUEUE_WORDS],
+    kept: &mut [u64; QUEUE_WORDS],
+    store: &mut [u8; STORE],
+    kept_store: &mut [u8; STORE],
+    output: &mut [u8; BUFFER],
+    state: &mut [u64; STATE],
+) {
+    clear_store(store);
+    clear_store(kept_store);
+    let c = lent_create(queue, &*store, &*state);
+    let refusal = refusal_of(c);
+    begin(state, refusal);
+    put_answer(output, state, b'n', refusal);
+    settle_no_events(events_of(c), output, state);
+    settle_words(&*queue, kept, refusal, output, state);
+}
+
+fn answer_lent(output: &mut [u8; BUFFER], state: &mut [u64; STATE]) {
+    state[LENT_EVENTS] = state[0];
+    state[LENT_FRAGMENT] = state[1];
+    state[LENT_IMAGE] = state[2];
+    state[LENT_STORE] = state[3];
+    put_text(output, state, b"v\n");
+}
+
+fn answer_add(
+    queue: &mut [u64; QUEUE_WORDS],
+    kept: &mut [u64; QUEUE_WORDS],
+    store: &mut [u8; STORE],
+    kept_store: &mut [u8; STORE],
+    payload: &mut [u8; PAYLOAD],
+    output: &mut [u8; BUFFER],
+    state: &mut [u64; STATE],
+) {
+    let c = lent_add(queue, store, payload, &*state);
+    let refusal = refusal_of(c);
+    put_answer(output, state, b'a', refusal);
+    settle_no_events(events_of(c), output, state);
+    settle_words(&*queue, kept, refusal, output, state);
+    settle_store(&*store, kept_store, refusal, output, state);
+}
+
+fn put_expiry(output: &mut [u8; BUFFER], state: &mut [u64; STATE], e: Expiry) {
+    match e {
+        Expiry::Never => put_text(output, state, b" 0 0"),
+        Expiry::At(t) => {
+            put_number(output, state, 1);
+            put_number(output, state, t);
+        }
+    }
+}
+
+// stream unordered ssn mid fsn ppid first last
+fn put_data(output: &mut [u8; BUFFER], state: &mut [u64; STATE], d: Data) {
+    let key = d.stream_key;
+    let id = key.id();
+    put_number(output, state, id.0 as u64);
+    put_number(output, state, bit(key.is_unordered()));
+    put_number(output, state, d.ssn.0 as u64);
+    put_number(output, state, d.mid.0 as u64);
+    put_number(output, state, d.fsn.0 as u64);
+    put_number(output, state, d.ppid as u64);
+    put_number(output, state, bit(d.is_beginning));
+    put_number(output, state, bit(d.is_end));
+}
+
+fn put_fragment(output: &mut [u8; BUFFER], state: &mut [u64; STATE], d: DataToSend, sum: u64) {
+    let data = d.data;
+    let expires_at = d.expires_at;
+    put_text(output, state, b"p 0 1");
+    put_number(output, state, d.message_id.0 as u64);
+    put_data(output, state, data);
+    put_number(output, state, d.max_retransmissions as u64);
+    put_expiry(output, state, expires_at);
+    put_number(output, state, d.lifecycle_id);
+    put_number(output, state, data.length);
+    put_number(output, state, sum);
+    put_byte(output, state, b'\n');
+}
+
+// What `produce` answered, for the settling.
+struct Wrote {
+    refusal: u64,
+    events: usize,
+    bytes: u64,
+}
+
+fn put_produced(
+    fragment: &[u8; FRAGMENT],
+    output: &mut [u8; BUFFER],
+    state: &mut [u64; STATE],
+    p: Produced,
+) -> Wrote {
+    match p {
+        Produced::Nothing(n) => {
+            put_text(output, state, b"p 0 0\n");
+            Wrote {
+                refusal: 0,
+                events: n,
+                bytes: 0,
+            }
+        }
+        Produced::Fragment(n, d) => {
+            let data = d.data;
+            let bytes = data.length;
+            let sum = sum_of(fragment, bytes as usize);
+            put_fragment(output, state, d, sum);
+            Wrote {
+                refusal: 0,
+                events: n,
+                bytes: bytes,
+            }
+        }
+        Produced::Refused(r) => {
+            let refusal = refusal_number(r);
+            put_answer(output, state, b'p', refusal);
+            Wrote {
+                refusal: refusal,
+                events: 0,
+                bytes: 0,
+            }
+        }
+    }
+}
+
+fn answer_produce(
+    queue: &mut [u64; QUEUE_WORDS],
+    kept: &mut [u64; QUEUE_WORDS],
+    store: &[u8; STORE],
+    events: &mut [u64; EVENT_WORDS],
+    fragment: &mut [u8; FRAGMENT],
+    output: &mut [u8; BUFFER],
+    state: &mut [u64; STATE],
+) {
+    let p = lent_produce(queue, store, events, fragment, &*state);
+    let w = put_produced(&*fragment, output, state, p);
+    settle_events(events, w.events, output, state);
+    settle_fragment(fragment, w.bytes, output, state);
+    settle_words(&*queue, kept, w.refusal, output, state);
+}
+
+fn answer_event_call(
+    queue: &mut [u64; QUEUE_WORDS],
+    kept: &mut [u64; QUEUE_WORDS],
+    events: &mut [u64; EVENT_WORDS],
+    output: &mut [u8; BUFFER],
+    state: &mut [u64; STATE],
+) {
+    let c = lent_event_call(queue, events, &*state);
+    let refusal = refusal_of(c);
+    let letter = low8(state[LETTER]);
+    put_answer(output, state, letter, refusal);
+    settle_events(events, events_of(c), output, state);
+    settle_words(&*queue, kept, refusal, output, state);
+}
+
+fn answer_plain(
+    queue: &mut [u64; QUEUE_WORDS],
+    kept: &mut [u64; QUEUE_WORDS],
+    output: &mut [u8; BUFFER],
+    state: &mut [u64; STATE],
+) {
+    let c = plain_call(queue, &*state);
+    let refusal = refusal_of(c);
+    let letter = low8(state[LETTER]);
+    put_answer(output, state, letter, refusal);
+    settle_no_events(events_of(c), output, state);
+    settle_words(&*queue, kept, refusal, output, state);
+}
+
+fn put_ids(output: &mut [u8; BUFFER], state: &mut [u64; STATE], ids: &[u16; 256], count: usize) {
+    put_text(output, state, b"g 0");
+    put_number(output, state, count as u64);
+    let mut i = 0;
+    while i < 256 {
+        if i >= count {
+            break;
+        }
+        put_number(output, state, wide16(ids[i]));
+        i += 1;
+    }
+    put_byte(output, state, b'\n');
+}
+
+fn put_ready(output: &mut [u8; BUFFER], state: &mut [u64; STATE], r: ReadyStreams, refusal: u64) {
+    if refusal == 0 {
+        let ids = r.ids;
+        put_ids(output, state, &ids, r.count);
+        return;
+    }
+    put_answer(output, state, b'g', refusal);
+}
+
+fn answer_ready(
+    queue: &mut [u64; QUEUE_WORDS],
+    kept: &mut [u64; QUEUE_WORDS],
+    output: &mut [u8; BUFFER],
+    state: &mut [u64; STATE],
+) {
+    let r = get_streams_ready_to_reset(queue);
+    let c = r.answer;
+    let refusal = refusal_of(c);
+    put_ready(output, state, r, refusal);
+    settle_no_events(events_of(c), output, state);
+    settle_words(&*queue, kept, refusal, output, state);
+}
+
+fn put_asked(output: &mut [u8; BUFFER], state: &mut [u64; STATE], n: Number) {
+    match n {
+        Number::Value(v) => put_number(output, state, v),
+        Number::Refused(_) => put_text(output, state, b" BROKEN"),
+    }
+}
+
+fn put_flag(output: &mut [u8; BUFFER], state: &mut [u64; STATE], f: Flag) {
+    match f {
+        Flag::Value(b) => put_number(output, state, bit(b)),
+        Flag::Refused(_) => put_text(output, state, b" BROKEN"),
+    }
+}
+
+fn answer_questions(
+    queue: &[u64; QUEUE_WORDS],
+    output: &mut [u8; BUFFER],
+    state: &mut [u64; STATE],
+) {
+    let id = low16(state[0]);
+    put_byte(output, state, b'q');
+    put_asked(output, state, buffered_amount(queue, id));
+    put_number(output, state, total_buffered_amount(queue));
+    put_number(output, state, bit(is_empty(queue)));
+    put_asked(output, state, buffered_amount_low_threshold(queue, id));
+    put_asked(output, state, get_priority(queue, id));
+    put_flag(output, state, has_streams_ready_to_be_reset(queue));
+    put_flag(output, state, has_data_to_send(queue));
+    put_number(output, state, get_handover_readiness(queue));
+    put_byte(output, state, b'\n');
+}
+
+pub fn answer(
+    queue: &mut [u64; QUEUE_WORDS],
+    kept: &mut [u64; QUEUE_WORDS],
+    store: &mut [u8; STORE],
+    kept_store: &mut [u8; STORE],
+    events: &mut [u64; EVENT_WORDS],
+    fragment: &mut [u8; FRAGMENT],
+    payload: &mut [u8; PAYLOAD],
+    output: &mut [u8; BUFFER],
+    state: &mut [u64; STATE],
+) {
+    let letter = low8(state[LETTER]);
+    match letter {
+        b'n' => answer_create(queue, kept, store, kept_store, output, state),
+        b'v' => answer_lent(output, state),
+        b'a' => answer_add(queue, kept, store, kept_store, payload, output, state),
+        b'p' => answer_produce(queue, kept, &*store, events, fragment, output, state),
+        b'd' | b'c' | b't' => answer_event_call(queue, kept, events, output, state),
+        b'g' => answer_ready(queue, kept, output, state),
+        b'q' => answer_questions(&*queue, output, state),
+        _ => answer_plain(queue, kept, output, state),
+    }
+}

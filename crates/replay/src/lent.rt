@@ -1,0 +1,179 @@
+// The calls, each with the lengths that the trace says: a part of an array is lent.
+use crate::payload::fill;
+use crate::state::LENT_EVENTS;
+use crate::state::LENT_FRAGMENT;
+use crate::state::LENT_STORE;
+use crate::state::LETTER;
+use crate::state::STATE;
+use crate::state::low8;
+use crate::state::low16;
+use crate::state::low32;
+use queue_closing::prepare_reset_stream;
+use queue_messages::Lifetime;
+use queue_messages::MaxRetransmissions;
+use queue_messages::Message;
+use queue_messages::add;
+use queue_messages::create;
+use queue_messages::discard;
+use queue_restarts::reset;
+use queue_sending::Produced;
+use queue_sending::produce;
+use queue_streams::Call;
+use queue_streams::commit_reset_streams;
+use queue_streams::enable_message_interleaving;
+use queue_streams::rollback_reset_streams;
+use queue_streams::set_buffered_amount_low_threshold;
+use queue_streams::set_priority;
+use queue_words::QUEUE_WORDS;
+use types::StreamId;
+
+// What the program itself answers where an array is shorter than the length asked for, which no trace asks.
+const TOO_SHORT: u8 = 99;
+
+// The words of so many places of the event list.
+fn event_words(places: u64) -> usize {
+    if places > 4096 {
+        return 8192;
+    }
+    (places * 2) as usize
+}
+
+pub fn lent_create(queue: &mut [u64; QUEUE_WORDS], store: &[u8], state: &[u64; STATE]) -> Call {
+    let n = state[1] as usize;
+    if n > store.len() {
+        return Call::Refused(TOO_SHORT);
+    }
+    create(
+        queue,
+        &store[0..n],
+        state[0],
+        low16(state[2]),
+        state[3],
+        state[4],
+        state[5] == 1,
+    )
+}
+
+fn lifetime_of(given: u64, lifetime: u64) -> Lifetime {
+    if given == 1 {
+        return Lifetime::Limited(lifetime);
+    }
+    Lifetime::Unlimited
+}
+
+fn retransmissions_of(given: u64, most: u16) -> MaxRetransmissions {
+    if given == 1 {
+        return MaxRetransmissions::Limited(most);
+    }
+    MaxRetransmissions::Unlimited
+}
+
+fn message_of(state: &[u64; STATE]) -> Message {
+    let lifetime = lifetime_of(state[4], state[5]);
+    let max_retransmissions = retransmissions_of(state[6], low16(state[7]));
+    let stream_id = StreamId(low16(state[1]));
+    Message {
+        stream_id: stream_id,
+        ppid: low32(state[2]),
+        unordered: state[3] == 1,
+        lifetime: lifetime,
+        max_retransmissions: max_retransmissions,
+        lifecycle_id: state[8],
+    }
+}
+
+pub fn lent_add(
+    queue: &mut [u64; QUEUE_WORDS],
+    store: &mut [u8],
+    payload: &mut [u8],
+    state: &[u64; STATE],
+) -> Call {
+    let n = state[LENT_STORE] as usize;
+    if n > store.len() {
+        return Call::Refused(TOO_SHORT);
+    }
+    let length = state[9] as usize;
+    if length > payload.len() {
+        return Call::Refused(TOO_SHORT);
+    }
+    fill(&mut payload[0..length], state[10]);
+    add_filled(queue, &mut store[0..n], &*payload, length, state)
+}
+
+fn add_filled(
+    queue: &mut [u64; QUEUE_WORDS],
+    store: &mut [u8],
+    payload: &[u8],
+    length: usize,
+    state: &[u64; STATE],
+) -> Call {
+    if length > payload.len() {
+        return Call::Refused(TOO_SHORT);
+    }
+    let m = message_of(state);
+    add(queue, store, state[0], m, &payload[0..length])
+}
+
+pub fn lent_produce(
+    queue: &mut [u64; QUEUE_WORDS],
+    store: &[u8],
+    events: &mut [u64],
+    fragment: &mut [u8],
+    state: &[u64; STATE],
+) -> Produced {
+    let n = state[LENT_STORE] as usize;
+    if n > store.len() {
+        return Produced::Refused(TOO_SHORT);
+    }
+    let words = event_words(state[LENT_EVENTS]);
+    if words > events.len() {
+        return Produced::Refused(TOO_SHORT);
+    }
+    let bytes = state[LENT_FRAGMENT] as usize;
+    if bytes > fragment.len() {
+        return Produced::Refused(TOO_SHORT);
+    }
+    produce(
+        queue,
+        &store[0..n],
+        &mut events[0..words],
+        &mut fragment[0..bytes],
+        state[0],
+        state[1],
+    )
+}
+
+// Discard, close and setting a threshold.
+fn event_call(queue: &mut [u64; QUEUE_WORDS], events: &mut [u64], state: &[u64; STATE]) -> Call {
+    let id = low16(state[0]);
+    let letter = low8(state[LETTER]);
+    match letter {
+        b'd' => discard(queue, events, id, low32(state[1])),
+        b'c' => prepare_reset_stream(queue, events, id),
+        _ => set_buffered_amount_low_threshold(queue, events, id, state[1]),
+    }
+}
+
+pub fn lent_event_call(
+    queue: &mut [u64; QUEUE_WORDS],
+    events: &mut [u64],
+    state: &[u64; STATE],
+) -> Call {
+    let words = event_words(state[LENT_EVENTS]);
+    if words > events.len() {
+        return Call::Refused(TOO_SHORT);
+    }
+    event_call(queue, &mut events[0..words], state)
+}
+
+// The calls that are lent nothing but the queue.
+pub fn plain_call(queue: &mut [u64; QUEUE_WORDS], state: &[u64; STATE]) -> Call {
+    let letter = low8(state[LETTER]);
+    match letter {
+        b'y' => set_priority(queue, low16(state[0]), low16(state[1])),
+        b'k' => commit_reset_streams(queue),
+        b'b' => rollback_reset_streams(queue),
+        b'r' => reset(queue),
+        _ => enable_message_interleaving(queue, state[0] == 1),
+    }
+}

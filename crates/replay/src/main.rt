@@ -1,0 +1,133 @@
+// Runs a trace of calls, read from standard input, on the send queue, and writes the answers. Where the queue breaks what a
+// trace cannot show, or a line is malformed, a line of the answers begins with BROKEN.
+mod answers;
+mod input;
+mod lent;
+mod marks;
+mod output;
+mod parse;
+mod payload;
+mod ranges;
+mod settle;
+mod state;
+
+use answers::answer;
+use input::BAD_LINE;
+use input::NO_LINE;
+use input::read_line;
+use marks::mark_events;
+use marks::mark_fragment;
+use output::flush;
+use output::put_broken;
+use parse::parse;
+use queue_words::QUEUE_WORDS;
+use ranges::is_call;
+use state::BUFFER;
+use state::EVENT_WORDS;
+use state::FRAGMENT;
+use state::LINE;
+use state::LINE_BYTES;
+use state::PAYLOAD;
+use state::STATE;
+use state::STORE;
+
+// Whether the next line is there and is a call. A malformed line is told.
+fn next_call(
+    input: &mut [u8; BUFFER],
+    output: &mut [u8; BUFFER],
+    state: &mut [u64; STATE],
+) -> bool {
+    let mut line = [0u8; LINE_BYTES];
+    let n = read_line(input, state, &mut line);
+    if n == NO_LINE {
+        return false;
+    }
+    count_line(state);
+    let good = is_line(&line, n, state);
+    if good {
+        return true;
+    }
+    put_broken(output, state, b"malformed");
+    io::write_all(2, b"replay: a malformed line\n");
+    false
+}
+
+fn count_line(state: &mut [u64; STATE]) {
+    let n = state[LINE];
+    if n < 18446744073709551615 {
+        state[LINE] = n + 1;
+    }
+}
+
+fn is_line(line: &[u8; LINE_BYTES], n: usize, state: &mut [u64; STATE]) -> bool {
+    if n == BAD_LINE {
+        return false;
+    }
+    let parsed = parse(line, n, state);
+    if parsed {
+        return is_call(&*state);
+    }
+    false
+}
+
+// A proved loop has to end, and nothing says that a trace does. So the loop counts down from a number that no run uses up.
+fn run(
+    queue: &mut [u64; QUEUE_WORDS],
+    kept: &mut [u64; QUEUE_WORDS],
+    store: &mut [u8; STORE],
+    kept_store: &mut [u8; STORE],
+    events: &mut [u64; EVENT_WORDS],
+    fragment: &mut [u8; FRAGMENT],
+    payload: &mut [u8; PAYLOAD],
+    input: &mut [u8; BUFFER],
+    output: &mut [u8; BUFFER],
+    state: &mut [u64; STATE],
+) {
+    let mut left = u64::MAX;
+    while left > 0 {
+        let more = next_call(input, output, state);
+        if more == false {
+            return;
+        }
+        answer(
+            queue,
+            kept,
+            store,
+            kept_store,
+            events,
+            fragment,
+            payload,
+            output,
+            state,
+        );
+        left -= 1;
+    }
+}
+
+fn main() {
+    let mut queue = [0u64; QUEUE_WORDS];
+    let mut kept = [0u64; QUEUE_WORDS];
+    let mut store = [0u8; STORE];
+    let mut kept_store = [0u8; STORE];
+    let mut events = [0u64; EVENT_WORDS];
+    let mut fragment = [0u8; FRAGMENT];
+    let mut payload = [0u8; PAYLOAD];
+    let mut input = [0u8; BUFFER];
+    let mut output = [0u8; BUFFER];
+    let mut state = [0u64; STATE];
+    mark_events(&mut events, EVENT_WORDS);
+    mark_fragment(&mut fragment, FRAGMENT);
+    run(
+        &mut queue,
+        &mut kept,
+        &mut store,
+        &mut kept_store,
+        &mut events,
+        &mut fragment,
+        &mut payload,
+        &mut input,
+        &mut output,
+        &mut state,
+    );
+    flush(&output, &mut state);
+}

@@ -1,0 +1,137 @@
+// Marks, by which a change of a lent place shows; and copies, by which a change of the words or the store does.
+ghost use mathlib.Core.Bool.{true};
+ghost use mathlib.Core.Path.{_≡_};
+ghost use Prim.Native.Nat.{ℕ, _≤_, _<_};
+ghost use lib.ListN.{getD};
+ghost use Rattle.replay.specs.Marks.{eventMark, byteMark};
+use crate::state::EVENT_WORDS;
+use crate::state::FRAGMENT;
+use crate::state::STORE;
+use queue_words::QUEUE_WORDS;
+use queue_words::whole;
+
+fn event_mark(i: usize) -> u64
+    ensures { λ r. ⌜ r ≡ eventMark i ⌝ }
+{
+    (i % 8192) as u64 + 7000000000000000000
+}
+
+fn byte_mark(i: usize) -> u8
+    ensures { λ r. ⌜ r ≡ byteMark i ⌝ }
+{
+    (i % 256) as u8
+}
+
+// Puts marks on the first n words.
+pub fn mark_events(events: &mut [u64; EVENT_WORDS], n: usize) {
+    let mut i = 0;
+    while i < 8192 {
+        if i >= n {
+            return;
+        }
+        events[i] = event_mark(i);
+        i += 1;
+    }
+}
+
+// Whether each word from a place on has its mark.
+pub fn events_marked(events: &[u64; EVENT_WORDS], from: usize) -> bool
+    ensures { λ r. ⌜ (r ≡ true → (k : ℕ) → k < 8192 → from ≤ k → getD (now (events .entry)) k 0 ≡ eventMark k) ⌝ }
+{
+    let mut i = from;
+    while i < 8192 {
+        if events[i] != event_mark(i) {
+            return false;
+        }
+        i += 1;
+    }
+    true
+}
+
+// The same for the fragment buffer. Its check goes through all bytes, so that it can take many at a time.
+pub fn mark_fragment(fragment: &mut [u8; FRAGMENT], n: usize) {
+    let mut i = 0;
+    while i < 300000 {
+        if i >= n {
+            return;
+        }
+        fragment[i] = byte_mark(i);
+        i += 1;
+    }
+}
+
+pub fn fragment_marked(fragment: &[u8; FRAGMENT], from: usize) -> bool
+    ensures { λ r. ⌜ (r ≡ true → (k : ℕ) → k < 300000 → from ≤ k → getD (now (fragment .entry)) k 0 ≡ byteMark k) ⌝ }
+{
+    let mut strays: u8 = 0;
+    let mut i = from;
+    while i < 300000 {
+        if fragment[i] != byte_mark(i) {
+            strays = 1;
+        }
+        i += 1;
+    }
+    strays == 0
+}
+
+// A copy of the words.
+pub fn keep_words(queue: &[u64; QUEUE_WORDS], kept: &mut [u64; QUEUE_WORDS])
+    ensures { λ _. ⌜ now (kept .exit) ≡ now (queue .entry) ⌝ }
+{
+    whole(queue);
+    whole(&*kept);
+    let mut i = 0;
+    while i < 20768 {
+        kept[i] = queue[i];
+        i += 1;
+    }
+}
+
+pub fn words_same(queue: &[u64; QUEUE_WORDS], kept: &[u64; QUEUE_WORDS]) -> bool
+    ensures { λ r. ⌜ (r ≡ true → now (queue .entry) ≡ now (kept .entry)) ⌝ }
+{
+    whole(queue);
+    whole(kept);
+    let mut i = 0;
+    while i < 20768 {
+        if queue[i] != kept[i] {
+            return false;
+        }
+        i += 1;
+    }
+    true
+}
+
+// A copy of the store's first n bytes.
+pub fn keep_store(store: &[u8; STORE], kept: &mut [u8; STORE], n: usize) {
+    if n > 2100000 {
+        return;
+    }
+    let mut i = 0;
+    while i < n {
+        kept[i] = store[i];
+        i += 1;
+    }
+}
+
+pub fn store_same(store: &[u8; STORE], kept: &[u8; STORE]) -> bool
+    ensures { λ r. ⌜ (r ≡ true → (k : ℕ) → k < 2100000 → getD (now (store .entry)) k 0 ≡ getD (now (kept .entry)) k 0) ⌝ }
+{
+    let mut strays: u8 = 0;
+    let mut i = 0;
+    while i < 2100000 {
+        if store[i] != kept[i] {
+            strays = 1;
+        }
+        i += 1;
+    }
+    strays == 0
+}
+
+pub fn clear_store(store: &mut [u8; STORE]) {
+    let mut i = 0;
+    while i < 2100000 {
+        store[i] = 0;
+        i += 1;
+    }
+}

@@ -1,0 +1,127 @@
+// How many numbers each line has, and their ranges.
+use crate::state::COUNT;
+use crate::state::LETTER;
+use crate::state::QUEUES;
+use crate::state::STATE;
+use crate::state::low8;
+
+const ANY: u64 = 18446744073709551615;
+
+const FLAG: u64 = 1;
+
+const BITS16: u64 = 65535;
+
+const BITS32: u64 = 4294967295;
+
+// No line has so many numbers.
+const NO_CALL: u64 = 99;
+
+fn count_of(letter: u8) -> u64 {
+    match letter {
+        b'g' | b'k' | b'b' | b'r' => 0,
+        b'c' | b'i' | b'q' => 1,
+        b'p' | b'd' | b't' | b'y' => 2,
+        b'v' => 4,
+        b'n' => 6,
+        b'a' => 11,
+        _ => NO_CALL,
+    }
+}
+
+// The largest k-th number of a line `n`, `v` or `a`, and of the others.
+fn most_new(k: usize) -> u64 {
+    match k {
+        1 => 2100000,
+        2 => BITS16,
+        5 => FLAG,
+        _ => ANY,
+    }
+}
+
+fn most_lent(k: usize) -> u64 {
+    match k {
+        0 => 4096,
+        1 => 300000,
+        _ => 2100000,
+    }
+}
+
+fn most_add(k: usize) -> u64 {
+    match k {
+        1 | 7 => BITS16,
+        2 => BITS32,
+        3 | 4 | 6 => FLAG,
+        9 => 300000,
+        _ => ANY,
+    }
+}
+
+fn most_discard(k: usize) -> u64 {
+    match k {
+        0 => BITS16,
+        _ => BITS32,
+    }
+}
+
+fn most_threshold(k: usize) -> u64 {
+    match k {
+        0 => BITS16,
+        _ => ANY,
+    }
+}
+
+fn most(letter: u8, k: usize) -> u64 {
+    match letter {
+        b'n' => most_new(k),
+        b'v' => most_lent(k),
+        b'a' => most_add(k),
+        b'd' => most_discard(k),
+        b't' => most_threshold(k),
+        b'c' | b'q' | b'y' => BITS16,
+        b'i' => FLAG,
+        _ => ANY,
+    }
+}
+
+// Whether the line may come while there is no queue.
+fn needs_no_queue(letter: u8) -> bool {
+    match letter {
+        b'n' | b'v' => true,
+        _ => false,
+    }
+}
+
+fn has_queue(state: &[u64; STATE], letter: u8) -> bool {
+    if state[QUEUES] == 1 {
+        return true;
+    }
+    needs_no_queue(letter)
+}
+
+fn numbers_fit(state: &[u64; STATE], letter: u8, count: usize) -> bool {
+    if count > 11 {
+        return false;
+    }
+    let mut k = 0;
+    while k < count {
+        if state[k] > most(letter, k) {
+            return false;
+        }
+        k += 1;
+    }
+    true
+}
+
+// Whether the line is a call, its numbers are as many as it asks and in their ranges, and there is a queue for it.
+pub fn is_call(state: &[u64; STATE]) -> bool {
+    let letter = low8(state[LETTER]);
+    let count = state[COUNT];
+    if count != count_of(letter) {
+        return false;
+    }
+    let fit = numbers_fit(state, letter, count as usize);
+    if fit {
+        return has_queue(state, letter);
+    }
+    false
+}

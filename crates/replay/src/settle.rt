@@ -1,0 +1,154 @@
+// What is settled after each call: "places past what a call writes stay unchanged", and "a refused call changes nothing".
+use crate::marks::events_marked;
+use crate::marks::fragment_marked;
+use crate::marks::keep_store;
+use crate::marks::keep_words;
+use crate::marks::mark_events;
+use crate::marks::mark_fragment;
+use crate::marks::store_same;
+use crate::marks::words_same;
+use crate::output::put_broken;
+use crate::output::put_byte;
+use crate::output::put_number;
+use crate::state::BUFFER;
+use crate::state::EVENT_WORDS;
+use crate::state::FRAGMENT;
+use crate::state::LENT_STORE;
+use crate::state::STATE;
+use crate::state::STORE;
+use queue_streams::Call;
+use queue_words::QUEUE_WORDS;
+
+// A refusal's number, which is above 0.
+pub fn refusal_number(r: u8) -> u64 {
+    if r == 0 {
+        return 100;
+    }
+    r as u64
+}
+
+// 0 for accepted.
+pub fn refusal_of(c: Call) -> u64 {
+    match c {
+        Call::Accepted(_) => 0,
+        Call::Refused(r) => refusal_number(r),
+    }
+}
+
+pub fn events_of(c: Call) -> usize {
+    match c {
+        Call::Accepted(n) => n,
+        Call::Refused(_) => 0,
+    }
+}
+
+// The words: kept where the call was accepted, else compared.
+pub fn settle_words(
+    queue: &[u64; QUEUE_WORDS],
+    kept: &mut [u64; QUEUE_WORDS],
+    refusal: u64,
+    output: &mut [u8; BUFFER],
+    state: &mut [u64; STATE],
+) {
+    if refusal == 0 {
+        keep_words(queue, kept);
+        return;
+    }
+    let same = words_same(queue, &*kept);
+    if same {
+        return;
+    }
+    put_broken(output, state, b"words changed at a refusal");
+    keep_words(queue, kept);
+}
+
+// The store, the same way.
+pub fn settle_store(
+    store: &[u8; STORE],
+    kept: &mut [u8; STORE],
+    refusal: u64,
+    output: &mut [u8; BUFFER],
+    state: &mut [u64; STATE],
+) {
+    if refusal == 0 {
+        keep_store(store, kept, state[LENT_STORE] as usize);
+        return;
+    }
+    let same = store_same(store, &*kept);
+    if same {
+        return;
+    }
+    put_broken(output, state, b"store changed at a refusal");
+    keep_store(store, kept, 2100000);
+}
+
+// A call that is lent no event list reports no event.
+pub fn settle_no_events(n: usize, output: &mut [u8; BUFFER], state: &mut [u64; STATE]) {
+    if n == 0 {
+        return;
+    }
+    put_broken(output, state, b"events without a list");
+}
+
+// A line for each event.
+fn put_events(
+    events: &[u64; EVENT_WORDS],
+    n: usize,
+    output: &mut [u8; BUFFER],
+    state: &mut [u64; STATE],
+) {
+    if n > 4096 {
+        return;
+    }
+    let mut i = 0;
+    while i < n {
+        put_byte(output, state, b'!');
+        put_number(output, state, events[i * 2]);
+        put_number(output, state, events[i * 2 + 1]);
+        put_byte(output, state, b'\n');
+        i += 1;
+    }
+}
+
+// The event list: n events, and then nothing but marks. The marks are put back.
+pub fn settle_events(
+    events: &mut [u64; EVENT_WORDS],
+    n: usize,
+    output: &mut [u8; BUFFER],
+    state: &mut [u64; STATE],
+) {
+    if n > 4096 {
+        put_broken(output, state, b"more events than places");
+        mark_events(events, 8192);
+        return;
+    }
+    put_events(&*events, n, output, state);
+    let marked = events_marked(&*events, n * 2);
+    if marked {
+        mark_events(events, n * 2);
+        return;
+    }
+    put_broken(output, state, b"event list changed past its events");
+    mark_events(events, 8192);
+}
+
+// The fragment buffer: n bytes, and then nothing but marks.
+pub fn settle_fragment(
+    fragment: &mut [u8; FRAGMENT],
+    n: u64,
+    output: &mut [u8; BUFFER],
+    state: &mut [u64; STATE],
+) {
+    if n > 300000 {
+        put_broken(output, state, b"fragment longer than its buffer");
+        mark_fragment(fragment, 300000);
+        return;
+    }
+    let marked = fragment_marked(&*fragment, n as usize);
+    if marked {
+        mark_fragment(fragment, n as usize);
+        return;
+    }
+    put_broken(output, state, b"fragment buffer changed past the fragment");
+    mark_fragment(fragment, 300000);
+}

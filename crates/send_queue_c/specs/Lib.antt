@@ -1,0 +1,2 @@
+-- Answers as numbers, for a host in C or Rust. Assumes nothing.
+pub mod Numbers
