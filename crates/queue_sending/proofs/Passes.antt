@@ -18,14 +18,14 @@ use Rattle.queue_words.specs.Header.{optionsAt, totalsAt}
 use Rattle.queue_words.specs.declared.header.Totals.{Totals}
 use Rattle.queue_words.specs.declared.items.Item.{Item}
 use Rattle.queue_words.specs.declared.streams.OutgoingStream.{OutgoingStream}
-use Rattle.queue_streams.specs.Settings.{calledWith}
+use Rattle.queue_streams.specs.Settings.{CalledWith, calledWith}
 use Rattle.queue_streams.specs.declared.answers.Call.{Call}
 use Rattle.queue_streams.specs.declared.answers.Call.the-variants as call
 use Rattle.queue_sending.specs.Choice.{lookAhead}
 use Rattle.queue_sending.specs.Data.{dataToSend, ProducedWith, producedWith, refusedWith}
 use Rattle.queue_sending.specs.Fragment.{leastOf, sendCode, writtenSent, sent, handedOut}
 use Rattle.queue_sending.specs.Numbers.{numberedItem, numberedStream}
-use Rattle.queue_sending.specs.Produce.{produceCode, expiredDropped, afterLook, afterDrop, passOver, refusal, copied, settledAs, settled, producedPast, produceNext}
+use Rattle.queue_sending.specs.Produce.{produceCode, expiredDropped, afterLook, afterDrop, afterCall, passOver, afterChoice, afterTurn, afterDropped, passed, sentChosen, sentAfter, refusal, copied, settledAs, settled, producedPast, produceNext}
 use Rattle.queue_sending.proofs.Counts.{behind, pass-behind}
 use Rattle.queue_sending.specs.declared.choice.Look.{Look}
 use Rattle.queue_sending.specs.declared.choice.Look.the-variants as look
@@ -107,6 +107,90 @@ module _ (ws st es bs : List ℕ) (time size n k : ℕ) (f : Look) (ef : f ≡ l
           by : (n : ℕ) → (n ≡ 0 → ⊥) → refusedWith code l v bs ≡ passOver n ws st es bs time size k
           by zero nz = absurd (nz refl)
           by (suc m) nz = rw (← ef, e, ← ed, g)
+
+-- ------------------------------------------------------------------ the same in two parts
+
+module _ (ws es : List ℕ) (time n k : ℕ) (f : Look) (ef : f ≡ lookAhead ws time) where
+  pub over-nothing : f ≡ look.Nothing → calledWith (call.Accepted k) ws es ≡ passed n ws es time k
+  unfolding passed
+  over-nothing e = by n
+    where
+      by : (n : ℕ) → calledWith (call.Accepted k) ws es ≡ passed n ws es time k
+      by zero = rw (← ef, e)
+      by (suc m) = rw (← ef, e)
+
+  pub over-broken : f ≡ look.Broken → calledWith (call.Refused 16) ws es ≡ passed n ws es time k
+  unfolding passed
+  over-broken e = by n
+    where
+      by : (n : ℕ) → calledWith (call.Refused 16) ws es ≡ passed n ws es time k
+      by zero = rw (← ef, e)
+      by (suc m) = rw (← ef, e)
+
+  pub over-chosen : (at id row : ℕ) → f ≡ look.Chosen at id row → calledWith (call.Accepted k) ws es ≡ passed n ws es time k
+  unfolding passed
+  over-chosen at id row e = by n
+    where
+      by : (n : ℕ) → calledWith (call.Accepted k) ws es ≡ passed n ws es time k
+      by zero = rw (← ef, e)
+      by (suc m) = rw (← ef, e)
+
+  module _ (id row : ℕ) (e : f ≡ look.Expired id row) where
+    pub over-none : n ≡ 0 → calledWith (call.Refused 16) ws es ≡ passed n ws es time k
+    unfolding passed
+    over-none z = rw (z, ← ef, e)
+
+    module _ (nz : n ≡ 0 → ⊥) (d : Call) (l v : List ℕ) (ed : calledWith d l v ≡ expiredDropped ws es k id row) where
+      pub over-again : (j : ℕ) (p : CalledWith) → d ≡ call.Accepted j → p ≡ passed (n - 1) l v time j → p ≡ passed n ws es time k
+      unfolding passed
+      over-again j p g ep = by n nz ep
+        where
+          by : (n : ℕ) → (n ≡ 0 → ⊥) → p ≡ passed (n - 1) l v time j → p ≡ passed n ws es time k
+          by zero nz ep = absurd (nz refl)
+          by (suc m) nz ep = rw (← ef, e, ← ed, g) (subst (λ (x : ℕ). p ≡ passed x l v time j) (sub-one (suc m)) ep)
+
+      pub over-stopped : (code : ℕ) → d ≡ call.Refused code → calledWith (call.Refused code) l v ≡ passed n ws es time k
+      unfolding passed
+      over-stopped code g = by n nz
+        where
+          by : (n : ℕ) → (n ≡ 0 → ⊥) → calledWith (call.Refused code) l v ≡ passed n ws es time k
+          by zero nz = absurd (nz refl)
+          by (suc m) nz = rw (← ef, e, ← ed, g)
+
+-- what is sent after heads are passed over
+abbrev sentOf : List ℕ → List ℕ → ℕ → ℕ → CalledWith → ProducedWith
+sentOf st bs time size c = sentAfter (c .next) st (c .events) bs time size (c .answer)
+
+look-split : (x : ℕ → ℕ → CalledWith) (y : ℕ → ℕ → ProducedWith) (ws st es bs : List ℕ) (time size k : ℕ)
+    → ((id row : ℕ) → sentOf st bs time size (x id row) ≡ y id row)
+    → (l : Look) → lookAhead ws time ≡ l → sentOf st bs time size (afterChoice x ws es k l) ≡ afterLook y ws st es bs size k l
+unfolding sentChosen
+look-split x y ws st es bs time size k h look.Nothing e = rw e
+look-split x y ws st es bs time size k h look.Broken e = refl
+look-split x y ws st es bs time size k h (look.Expired id row) e = h id row
+look-split x y ws st es bs time size k h (look.Chosen at id row) e = rw e
+
+turn-split : (again : List ℕ → List ℕ → ℕ → CalledWith) (more : List ℕ → List ℕ → ℕ → ProducedWith) (st bs : List ℕ) (time size : ℕ)
+    → ((l v : List ℕ) (j : ℕ) → sentOf st bs time size (again l v j) ≡ more l v j)
+    → (ws es : List ℕ) (a : Call) → sentOf st bs time size (afterTurn again ws es a) ≡ afterDrop more ws es bs a
+turn-split again more st bs time size h ws es (call.Accepted j) = h ws es j
+turn-split again more st bs time size h ws es (call.Refused code) = refl
+
+-- The two parts together are passing over.
+pub in-two-parts : (n : ℕ) (ws st es bs : List ℕ) (time size k : ℕ) → sentOf st bs time size (passed n ws es time k) ≡ passOver n ws st es bs time size k
+unfolding passed passOver
+in-two-parts zero ws st es bs time size k =
+    look-split (λ (id row : ℕ). calledWith (call.Refused 16) ws es) (λ (id row : ℕ). refusedWith 16 ws es bs) ws st es bs time size k (λ id row. refl) (lookAhead ws time) refl
+in-two-parts (suc n) ws st es bs time size k =
+    look-split (λ (id row : ℕ). afterDropped (λ (l v : List ℕ) (j : ℕ). passed n l v time j) (expiredDropped ws es k id row))
+    (λ (id row : ℕ). afterCall (λ (l v : List ℕ) (j : ℕ). passOver n l st v bs time size j) bs (expiredDropped ws es k id row)) ws st es bs time size k
+    (λ id row. turn-split (λ (l v : List ℕ) (j : ℕ). passed n l v time j) (λ (l v : List ℕ) (j : ℕ). passOver n l st v bs time size j) st bs time size
+    (λ l v j. in-two-parts n l st v bs time size j) (expiredDropped ws es k id row .next) (expiredDropped ws es k id row .events) (expiredDropped ws es k id row .answer))
+    (lookAhead ws time) refl
+
+pub both-parts : (n : ℕ) (ws st es bs : List ℕ) (time size k : ℕ) (d : Call) (l v : List ℕ) (p : ProducedWith)
+    → calledWith d l v ≡ passed n ws es time k → p ≡ sentAfter l st v bs time size d → p ≡ passOver n ws st es bs time size k
+both-parts n ws st es bs time size k d l v p e f = f ∙ ap (λ (c : CalledWith). sentOf st bs time size c) e ∙ in-two-parts n ws st es bs time size k
 
 -- ------------------------------------------------------------------ a refusal leaves the fragment buffer
 

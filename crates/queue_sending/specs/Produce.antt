@@ -73,6 +73,32 @@ passOver zero ws st es bs time size k = afterLook (λ (id row : ℕ). refusedWit
 passOver (suc n) ws st es bs time size k =
     afterLook (λ (id row : ℕ). afterCall (λ (l e : List ℕ) (j : ℕ). passOver n l st e bs time size j) bs (expiredDropped ws es k id row)) ws st es bs size k (lookAhead ws time)
 
+-- The same in two parts, as the code has it: the expired heads passed over, then a head to send or none.
+abbrev pub afterChoice : (ℕ → ℕ → CalledWith) → List ℕ → List ℕ → ℕ → Look → CalledWith
+afterChoice expired ws es k look.Nothing = calledWith (call.Accepted k) ws es
+afterChoice expired ws es k look.Broken = calledWith (call.Refused 16) ws es
+afterChoice expired ws es k (look.Expired id row) = expired id row
+afterChoice expired ws es k (look.Chosen at id row) = calledWith (call.Accepted k) ws es
+
+abbrev pub afterTurn : (List ℕ → List ℕ → ℕ → CalledWith) → List ℕ → List ℕ → Call → CalledWith
+afterTurn again ws es (call.Accepted j) = again ws es j
+afterTurn again ws es (call.Refused code) = calledWith (call.Refused code) ws es
+
+abbrev pub afterDropped : (List ℕ → List ℕ → ℕ → CalledWith) → CalledWith → CalledWith
+afterDropped again d = afterTurn again (d .next) (d .events) (d .answer)
+
+unfoldable pub passed : ℕ → List ℕ → List ℕ → ℕ → ℕ → CalledWith
+passed zero ws es time k = afterChoice (λ (id row : ℕ). calledWith (call.Refused 16) ws es) ws es k (lookAhead ws time)
+passed (suc n) ws es time k =
+    afterChoice (λ (id row : ℕ). afterDropped (λ (l e : List ℕ) (j : ℕ). passed n l e time j) (expiredDropped ws es k id row)) ws es k (lookAhead ws time)
+
+unfoldable pub sentChosen : List ℕ → List ℕ → List ℕ → List ℕ → ℕ → ℕ → ℕ → ProducedWith
+sentChosen ws st es bs time size k = afterLook (λ (id row : ℕ). refusedWith 16 ws es bs) ws st es bs size k (lookAhead ws time)
+
+abbrev pub sentAfter : List ℕ → List ℕ → List ℕ → List ℕ → ℕ → ℕ → Call → ProducedWith
+sentAfter ws st es bs time size (call.Accepted k) = sentChosen ws st es bs time size k
+sentAfter ws st es bs time size (call.Refused code) = refusedWith code ws es bs
+
 -- ------------------------------------------------------------------ the call
 
 -- whether an answer is a refusal

@@ -4,7 +4,7 @@ ghost use Prim.Native.Nat.{_<_, _≤_};
 ghost use lib.ListN.{length};
 ghost use Rattle.queue_streams.specs.Settings.{calledWith};
 ghost use Rattle.queue_sending.specs.Data.{producedWith};
-ghost use Rattle.queue_sending.specs.Produce.{produceCode, headExpired, expiredDropped, passOver, copied, refusal, producedPast, produceNext};
+ghost use Rattle.queue_sending.specs.Produce.{produceCode, headExpired, expiredDropped, passed, sentChosen, sentAfter, copied, refusal, producedPast, produceNext};
 use crate::choice::Look;
 use crate::choice::look_ahead;
 use crate::data::Produced;
@@ -105,19 +105,46 @@ fn drop_expired(
     drop_expired_head(queue, events, k, id, row, s, m)
 }
 
-// The choice with the expired heads passed over: "a function that calls itself with one waiting message fewer". What it leaves
-// where it is refused is not kept.
+// Passes over the expired heads, so that the choice is one to send from or none: "a function that calls itself with one waiting
+// message fewer". Its frame is small. What it leaves where it is refused is not kept.
 fn pass_over(
+    queue: &mut [u64; QUEUE_WORDS],
+    events: &mut [u64],
+    time: u64,
+    waiting: usize,
+    k: usize,
+) -> Call
+    ensures { λ r. ⌜ calledWith r (now (queue .exit)) (now (events .exit)) ≡ passed waiting (now (queue .entry)) (now (events .entry)) time k ⌝ }
+{
+    let found = look_ahead(&*queue, time);
+    match found {
+        Look::Nothing => Call::Accepted(k),
+        Look::Broken => Call::Refused(16),
+        Look::Chosen(_, _, _) => Call::Accepted(k),
+        Look::Expired(id, row) => {
+            if waiting == 0 {
+                return Call::Refused(16);
+            }
+            let dropped = drop_expired(queue, events, k, id, row);
+            match dropped {
+                Call::Accepted(k1) => pass_over(queue, events, time, waiting - 1, k1),
+                Call::Refused(code) => Call::Refused(code),
+            }
+        }
+    }
+}
+
+// Sends from the chosen stream, or says that nothing waits, after k events; a head that is still expired gets 16.
+fn send_chosen(
     queue: &mut [u64; QUEUE_WORDS],
     store: &[u8],
     events: &mut [u64],
     buffer: &mut [u8],
     time: u64,
     size: u64,
-    waiting: usize,
     k: usize,
 ) -> Produced
-    ensures { λ r. ⌜ producedWith r (now (queue .exit)) (now (events .exit)) (now (buffer .exit)) ≡ passOver waiting (now (queue .entry)) (now (store .entry)) (now (events .entry)) (now (buffer .entry)) time size k ⌝ }
+    ensures { λ r. ⌜ producedWith r (now (queue .exit)) (now (events .exit)) (now (buffer .exit)) ≡ sentChosen (now (queue .entry)) (now (store .entry)) (now (events .entry)) (now (buffer .entry)) time size k ⌝ }
 {
     let found = look_ahead(&*queue, time);
     match found {
@@ -129,18 +156,24 @@ fn pass_over(
         }
         Look::Broken => Produced::Refused(16),
         Look::Chosen(at, id, row) => hand_out(queue, store, events, buffer, size, k, at, id, row),
-        Look::Expired(id, row) => {
-            if waiting == 0 {
-                return Produced::Refused(16);
-            }
-            let dropped = drop_expired(queue, events, k, id, row);
-            match dropped {
-                Call::Accepted(k1) => {
-                    pass_over(queue, store, events, buffer, time, size, waiting - 1, k1)
-                }
-                Call::Refused(code) => Produced::Refused(code),
-            }
-        }
+        Look::Expired(_, _) => Produced::Refused(16),
+    }
+}
+
+fn send_passed(
+    queue: &mut [u64; QUEUE_WORDS],
+    store: &[u8],
+    events: &mut [u64],
+    buffer: &mut [u8],
+    time: u64,
+    size: u64,
+    c: Call,
+) -> Produced
+    ensures { λ r. ⌜ producedWith r (now (queue .exit)) (now (events .exit)) (now (buffer .exit)) ≡ sentAfter (now (queue .entry)) (now (store .entry)) (now (events .entry)) (now (buffer .entry)) time size c ⌝ }
+{
+    match c {
+        Call::Accepted(k) => send_chosen(queue, store, events, buffer, time, size, k),
+        Call::Refused(code) => Produced::Refused(code),
     }
 }
 
@@ -186,16 +219,8 @@ fn produce_past(
     let words = *queue;
     let mut saved = [0u64; EVENT_PLACES];
     copy_events(&mut saved, &*events, EVENT_PLACES);
-    let p = pass_over(
-        queue,
-        store,
-        events,
-        buffer,
-        time,
-        size,
-        t.waiting as usize,
-        0,
-    );
+    let passed = pass_over(queue, events, time, t.waiting as usize, 0);
+    let p = send_passed(queue, store, events, buffer, time, size, passed);
     let refused = is_refused(p);
     if refused {
         *queue = words;
