@@ -27,7 +27,7 @@ use Rattle.queue_sending.specs.Data.{dataToSend, ProducedWith, producedW
 use Rattle.queue_sending.specs.Fragment.{leastOf, sendCode, writtenSent, sent, handedOut}
 use Rattle.queue_sending.specs.Numbers.{numberedItem, numberedStream}
 use Rattle.payload_store.specs.Reading.{readPart}
-use Rattle.queue_sending.specs.Produce.{produceCode, headExpired, expiredDropped, afterLook, afterDrop, passOver, settledAs, settled, producedPast, produceNext}
+use Rattle.queue_sending.specs.Produce.{produceCode, pastOf, headExpired, expiredDropped, afterLook, afterDrop, passOver, settledAs, settled, producedPast, produceNext}
 use Rattle.queue_sending.specs.declared.choice.Look.{Look}
 use Rattle.queue_sending.specs.declared.choice.Look.the-variants as look
 use Rattle.queue_sending.specs.declared.data.Produced.{Produced}
@@ -180,7 +180,7 @@ pass-few (suc n) ws st es bs time size k h =
     h (lookAhead ws time)
 
 past-few : (ws st es bs : List ℕ) (time size : ℕ) → 4610 ≤ length es → Few (producedPast ws st es bs time size)
-unfolding producedPast
+unfolding producedPast pastOf
 past-few ws st es bs time size h =
     few-pick (ltb 1024 (totalsAt ws .waiting)) (refusedWith 16 ws es bs) (settled ws es bs (passOver (totalsAt ws .waiting) ws st es bs time size 0)) (λ e. few-refused 16 ws es bs)
     (λ e. by (passOver (totalsAt ws .waiting) ws st es bs time size 0) (pass-few (totalsAt ws .waiting) ws st es bs time size 0 h) (passOver (totalsAt ws .waiting) ws st es bs time size 0 .answer))

@@ -25,7 +25,7 @@ use Rattle.queue_sending.specs.Choice.{lookAhead}
 use Rattle.queue_sending.specs.Data.{dataToSend, ProducedWith, producedWith, refusedWith}
 use Rattle.queue_sending.specs.Fragment.{leastOf, sendCode, writtenSent, sent, handedOut}
 use Rattle.queue_sending.specs.Numbers.{numberedItem, numberedStream}
-use Rattle.queue_sending.specs.Produce.{produceCode, expiredDropped, afterLook, afterDrop, afterCall, passOver, afterChoice, afterTurn, afterDropped, passed, sentChosen, sentAfter, refusal, copied, settledAs, settled, producedPast, produceNext}
+use Rattle.queue_sending.specs.Produce.{produceCode, expiredDropped, afterLook, afterDrop, afterCall, passOver, afterChoice, afterTurn, afterDropped, passed, sentChosen, sentAfter, refusal, copied, settledAs, settled, pastOf, producedPast, produceNext}
 use Rattle.queue_sending.proofs.Counts.{behind, pass-behind}
 use Rattle.queue_sending.specs.declared.choice.Look.{Look}
 use Rattle.queue_sending.specs.declared.choice.Look.the-variants as look
@@ -284,36 +284,31 @@ put-back : (n : ℕ) (zs es v : List ℕ) → n ≤ length es → drop n v ≡ d
 unfolding copied
 put-back n zs es v h e = rw (take-again n es (drop n zs) h, e) (take-append-drop n es)
 
-module _ (ws st es bs : List ℕ) (time size : ℕ) (t : Totals) (et : t ≡ totalsAt ws) where
-  pub past-many : 1024 < t .waiting → refusedWith 16 ws es bs ≡ producedPast ws st es bs time size
-  unfolding producedPast
-  past-many h = rw (← et, lt-ltb _ _ h)
+module _ (ws st es bs : List ℕ) (time size n : ℕ) (r : Produced) (l v u : List ℕ) (ep : producedWith r l v u ≡ passOver n ws st es bs time size 0) (q : Bool) (eq : q ≡ refusal r) where
+  past-is : settled ws es bs (producedWith r l v u) ≡ pastOf ws st es bs time size n
+  unfolding pastOf
+  past-is = ap (λ (p : ProducedWith). settled ws es bs p) ep
 
-  module _ (h : t .waiting ≤ 1024) (r : Produced) (l v u : List ℕ) (ep : producedWith r l v u ≡ passOver (t .waiting) ws st es bs time size 0) (q : Bool) (eq : q ≡ refusal r) where
-    past-is : settled ws es bs (producedWith r l v u) ≡ producedPast ws st es bs time size
-    unfolding producedPast
-    past-is = rw (← et, le-ltb _ _ h, ← ep)
+  pub past-refused : q ≡ true → (zs saved w : List ℕ) → 4610 ≤ length es → saved ≡ copied zs es 4610 → w ≡ copied v saved 4610 → producedWith r ws w u ≡ pastOf ws st es bs time size n
+  past-refused g zs saved w long esaved ew = by r refl ∙ past-is
+    where
+      by : (r′ : Produced) → r ≡ r′ → producedWith r ws w u ≡ settled ws es bs (producedWith r l v u)
+      by (produced.Nothing k) e = let z : true ≡ false = sym g ∙ eq ∙ ap refusal e in absurd (true-false z)
+      by (produced.Fragment k d) e = let z : true ≡ false = sym g ∙ eq ∙ ap refusal e in absurd (true-false z)
+      by (produced.Refused code) e =
+          let a : passOver n ws st es bs time size 0 .answer ≡ produced.Refused code = sym (ap (λ (x : ProducedWith). x .answer) ep) ∙ e in
+          let b : u ≡ bs = ap (λ (x : ProducedWith). x .buffer) ep ∙ pass-keeps n ws st es bs time size 0 .keeps code a in
+          let d : behind v ≡ behind es = ap (λ (x : ProducedWith). behind (x .events)) ep ∙ pass-behind (behind es) n ws st es bs time size 0 refl in
+          let f : w ≡ es = ew ∙ ap (λ (x : List ℕ). copied v x 4610) esaved ∙ put-back 4610 zs es v long d in
+          rw (e, b, f)
 
-    pub past-refused : q ≡ true → (zs saved w : List ℕ) → 4610 ≤ length es → saved ≡ copied zs es 4610 → w ≡ copied v saved 4610 → producedWith r ws w u ≡ producedPast ws st es bs time size
-    past-refused g zs saved w long esaved ew = by r refl ∙ past-is
-      where
-        by : (r′ : Produced) → r ≡ r′ → producedWith r ws w u ≡ settled ws es bs (producedWith r l v u)
-        by (produced.Nothing k) e = let z : true ≡ false = sym g ∙ eq ∙ ap refusal e in absurd (true-false z)
-        by (produced.Fragment k d) e = let z : true ≡ false = sym g ∙ eq ∙ ap refusal e in absurd (true-false z)
-        by (produced.Refused code) e =
-            let a : passOver (t .waiting) ws st es bs time size 0 .answer ≡ produced.Refused code = sym (ap (λ (x : ProducedWith). x .answer) ep) ∙ e in
-            let b : u ≡ bs = ap (λ (x : ProducedWith). x .buffer) ep ∙ pass-keeps (t .waiting) ws st es bs time size 0 .keeps code a in
-            let d : behind v ≡ behind es = ap (λ (x : ProducedWith). behind (x .events)) ep ∙ pass-behind (behind es) (t .waiting) ws st es bs time size 0 refl in
-            let f : w ≡ es = ew ∙ ap (λ (x : List ℕ). copied v x 4610) esaved ∙ put-back 4610 zs es v long d in
-            rw (e, b, f)
-
-    pub past-kept : q ≡ false → producedWith r l v u ≡ producedPast ws st es bs time size
-    past-kept g = by r refl ∙ past-is
-      where
-        by : (r′ : Produced) → r ≡ r′ → producedWith r l v u ≡ settled ws es bs (producedWith r l v u)
-        by (produced.Nothing j) e = rw e
-        by (produced.Fragment j d) e = rw e
-        by (produced.Refused code) e = let z : false ≡ true = sym g ∙ eq ∙ ap refusal e in absurd (true-false (sym z))
+  pub past-kept : q ≡ false → producedWith r l v u ≡ pastOf ws st es bs time size n
+  past-kept g = by r refl ∙ past-is
+    where
+      by : (r′ : Produced) → r ≡ r′ → producedWith r l v u ≡ settled ws es bs (producedWith r l v u)
+      by (produced.Nothing j) e = rw e
+      by (produced.Fragment j d) e = rw e
+      by (produced.Refused code) e = let z : false ≡ true = sym g ∙ eq ∙ ap refusal e in absurd (true-false (sym z))
 
 -- where the arguments are not refused, the list of events has its places
 pub code-places : (ws : List ℕ) (len places room time size code : ℕ) → code ≡ produceCode ws len places room time size → code ≤ 0 → 4610 ≤ places
@@ -328,7 +323,7 @@ code-places ws len places room time size code ec h = by (eqb (optionsAt ws .«st
 -- ------------------------------------------------------------------ a refused call
 
 past-stays : (ws st es bs : List ℕ) (time size : ℕ) → Stays ws es bs (producedPast ws st es bs time size)
-unfolding producedPast
+unfolding producedPast pastOf
 past-stays ws st es bs time size =
     stay-pick ws es bs (ltb 1024 (totalsAt ws .waiting)) _ _ (stay-refused 16 ws es bs)
     (by (passOver (totalsAt ws .waiting) ws st es bs time size 0) (passOver (totalsAt ws .waiting) ws st es bs time size 0 .answer) refl)
@@ -370,7 +365,7 @@ pub produce-passes : (ws st es bs : List ℕ) (time size : ℕ) → totalsAt ws 
     → produceNext ws st es bs time size
     ≡ pick (ltb 0 (produceCode ws (length st) (length es) (length bs) time size)) (refusedWith (produceCode ws (length st) (length es) (length bs) time size) ws es bs)
     (settled ws es bs (passOver (totalsAt ws .waiting) ws st es bs time size 0))
-unfolding produceNext producedPast
+unfolding produceNext producedPast pastOf
 produce-passes ws st es bs time size h =
     ap (λ (p : ProducedWith). pick (ltb 0 (produceCode ws (length st) (length es) (length bs) time size)) (refusedWith (produceCode ws (length st) (length es) (length bs) time size) ws es bs) p)
     (by (lookAhead ws time) refl)

@@ -120,11 +120,15 @@ settledAs ws es bs p (produced.Refused code) = refusedWith code ws es bs
 abbrev pub settled : List ℕ → List ℕ → List ℕ → ProducedWith → ProducedWith
 settled ws es bs p = settledAs ws es bs p (p .answer)
 
+-- Passing over at most n messages; refused, all is as it was.
+unfoldable pub pastOf : List ℕ → List ℕ → List ℕ → List ℕ → ℕ → ℕ → ℕ → ProducedWith
+pastOf ws st es bs time size n = settled ws es bs (passOver n ws st es bs time size 0)
+
 -- Passing over as many messages as wait; 16 where that is more than there are places.
 unfoldable pub producedPast : List ℕ → List ℕ → List ℕ → List ℕ → ℕ → ℕ → ProducedWith
 producedPast ws st es bs time size =
     pick (ltb 1024 (totalsAt ws .waiting)) (refusedWith 16 ws es bs)
-    (settled ws es bs (passOver (totalsAt ws .waiting) ws st es bs time size 0))
+    (pastOf ws st es bs time size (totalsAt ws .waiting))
 
 -- The next fragment of at most `size` bytes. Where no head has expired nothing is passed over.
 unfoldable pub produceNext : List ℕ → List ℕ → List ℕ → List ℕ → ℕ → ℕ → ProducedWith

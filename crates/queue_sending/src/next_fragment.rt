@@ -4,7 +4,7 @@ ghost use Prim.Native.Nat.{_<_, _≤_};
 ghost use lib.ListN.{length};
 ghost use Rattle.queue_streams.specs.Settings.{calledWith};
 ghost use Rattle.queue_sending.specs.Data.{producedWith};
-ghost use Rattle.queue_sending.specs.Produce.{produceCode, headExpired, expiredDropped, passed, sentChosen, sentAfter, copied, refusal, producedPast, produceNext};
+ghost use Rattle.queue_sending.specs.Produce.{produceCode, headExpired, expiredDropped, passed, sentChosen, sentAfter, copied, refusal, pastOf, producedPast, produceNext};
 use crate::choice::Look;
 use crate::choice::look_ahead;
 use crate::data::Produced;
@@ -208,18 +208,15 @@ fn produce_past(
     buffer: &mut [u8],
     time: u64,
     size: u64,
+    waiting: usize,
 ) -> Produced
     requires { ⌜ 4610 ≤ length (now events) ⌝ }
-    ensures { λ r. ⌜ producedWith r (now (queue .exit)) (now (events .exit)) (now (buffer .exit)) ≡ producedPast (now (queue .entry)) (now (store .entry)) (now (events .entry)) (now (buffer .entry)) time size ⌝ }
+    ensures { λ r. ⌜ producedWith r (now (queue .exit)) (now (events .exit)) (now (buffer .exit)) ≡ pastOf (now (queue .entry)) (now (store .entry)) (now (events .entry)) (now (buffer .entry)) time size waiting ⌝ }
 {
-    let t = load_totals(&*queue);
-    if t.waiting > 1024 {
-        return Produced::Refused(16);
-    }
     let words = *queue;
     let mut saved = [0u64; EVENT_PLACES];
     copy_events(&mut saved, &*events, EVENT_PLACES);
-    let passed = pass_over(queue, events, time, t.waiting as usize, 0);
+    let passed = pass_over(queue, events, time, waiting, 0);
     let p = send_passed(queue, store, events, buffer, time, size, passed);
     let refused = is_refused(p);
     if refused {
@@ -228,6 +225,29 @@ fn produce_past(
         return p;
     }
     p
+}
+
+// Passes over as many messages as wait. Two calls, one of them with a number that is known: a compiler that sees but one call puts
+// the large frame of `produce_past` into the path without expired heads.
+fn produce_waiting(
+    queue: &mut [u64; QUEUE_WORDS],
+    store: &[u8],
+    events: &mut [u64],
+    buffer: &mut [u8],
+    time: u64,
+    size: u64,
+) -> Produced
+    requires { ⌜ 4610 ≤ length (now events) ⌝ }
+    ensures { λ r. ⌜ producedWith r (now (queue .exit)) (now (events .exit)) (now (buffer .exit)) ≡ producedPast (now (queue .entry)) (now (store .entry)) (now (events .entry)) (now (buffer .entry)) time size ⌝ }
+{
+    let t = load_totals(&*queue);
+    if t.waiting > 1024 {
+        return Produced::Refused(16);
+    }
+    if t.waiting == 1 {
+        return produce_past(queue, store, events, buffer, time, size, 1);
+    }
+    produce_past(queue, store, events, buffer, time, size, t.waiting as usize)
 }
 
 // The next fragment of at most `size` bytes; the store, the event list and the fragment buffer are lent.
@@ -257,6 +277,6 @@ pub fn produce(
         Look::Nothing => Produced::Nothing(0),
         Look::Broken => Produced::Refused(16),
         Look::Chosen(at, id, row) => hand_out(queue, store, events, buffer, size, 0, at, id, row),
-        Look::Expired(_, _) => produce_past(queue, store, events, buffer, time, size),
+        Look::Expired(_, _) => produce_waiting(queue, store, events, buffer, time, size),
     }
 }

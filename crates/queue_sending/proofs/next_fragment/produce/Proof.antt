@@ -6,9 +6,6 @@ use Rattle.queue_sending.proofs.Passes.{code-places}
 use Rattle.queue_sending.proofs.next_fragment.produce.Statement.{statement}
 use Rattle.queue_sending.proofs.next_fragment.produce.Tie as tie
 
-produce-past-requires : tie.Need-produce-past-requires
-produce-past-requires c κs = code-places _ _ _ _ _ _ _ (c .before .before .before .before .before .before .before .before .produce-code .ensures) (c .before .before .before .before .before .before .before .if1 .left)
-
 returns : tie.Need-returns
 unfolding produceNext
 returns c =
@@ -16,6 +13,9 @@ returns c =
       ← (c .before .produce-code .ensures),
       lt-ltb _ _ (c .if1 .taken),
     )
+
+produce-waiting-requires : tie.Need-produce-waiting-requires
+produce-waiting-requires c κs = code-places _ _ _ _ _ _ _ (c .before .before .before .before .before .before .before .before .produce-code .ensures) (c .before .before .before .before .before .before .before .if1 .left)
 
 returns-2 : tie.Need-returns-2
 unfolding produceNext
@@ -56,7 +56,7 @@ returns-5 c =
       le-ltb _ _ (c .before .before .before .before .before .before .before .before .before .before .before .before .if1 .left),
       ← (c .before .before .before .before .before .before .before .before .before .before .look-ahead .ensures),
       (c .before .before .before .before .before .before .before .before .enum-told3 .given .1),
-      ← (c .before .before .before .before .produce-past .ensures),
+      ← (c .before .before .before .before .produce-waiting .ensures),
     )
 
 pub produce-spec : {M : Type 1} → statement M
@@ -71,7 +71,7 @@ produce-spec =
     (λ c. search needs)
     (λ c. search needs)
     (λ c. search needs)
-    produce-past-requires
+    produce-waiting-requires
     returns-2
     returns-3
     (λ c. search needs)
