@@ -1,0 +1,176 @@
+// The calls, each with the numbers of the state and with lent parts of the arrays.
+use crate::state::EVENT_LIST;
+use crate::state::FRAGMENT_BYTES;
+use crate::state::INTERLEAVE;
+use crate::state::LETTER;
+use crate::state::LIFETIME;
+use crate::state::LIMIT;
+use crate::state::MESSAGE_ID;
+use crate::state::NO_LIFETIME;
+use crate::state::PAYLOAD;
+use crate::state::PAYLOAD_BYTES;
+use crate::state::PRIORITY;
+use crate::state::SIZE;
+use crate::state::STATE;
+use crate::state::STORE_BYTES;
+use crate::state::STREAM;
+use crate::state::THRESHOLD;
+use crate::state::TIME;
+use crate::state::low8;
+use crate::state::low16;
+use crate::state::low32;
+use queue_closing::prepare_reset_stream;
+use queue_messages::Lifetime;
+use queue_messages::MaxRetransmissions;
+use queue_messages::Message;
+use queue_messages::add;
+use queue_messages::create;
+use queue_messages::discard;
+use queue_restarts::reset;
+use queue_sending::Produced;
+use queue_sending::produce;
+use queue_streams::Call;
+use queue_streams::commit_reset_streams;
+use queue_streams::enable_message_interleaving;
+use queue_streams::rollback_reset_streams;
+use queue_streams::set_buffered_amount_low_threshold;
+use queue_streams::set_priority;
+use queue_words::QUEUE_WORDS;
+use types::StreamId;
+
+// What the program itself answers where an array is shorter than the length asked for. No document has this number.
+const TOO_SHORT: u8 = 99;
+
+pub fn lent_create(queue: &mut [u64; QUEUE_WORDS], store: &[u8], state: &[u64; STATE]) -> Call {
+    let n = state[STORE_BYTES] as usize;
+    if n > store.len() {
+        return Call::Refused(TOO_SHORT);
+    }
+    create(
+        queue,
+        &store[0..n],
+        state[LIMIT],
+        low16(state[PRIORITY]),
+        state[THRESHOLD],
+        state[THRESHOLD],
+        false,
+    )
+}
+
+fn lifetime_of(lifetime: u64) -> Lifetime {
+    if lifetime == NO_LIFETIME {
+        return Lifetime::Unlimited;
+    }
+    Lifetime::Limited(lifetime)
+}
+
+fn message_of(state: &[u64; STATE]) -> Message {
+    let lifetime = lifetime_of(state[LIFETIME]);
+    let stream_id = StreamId(low16(state[STREAM]));
+    Message {
+        stream_id: stream_id,
+        ppid: 53,
+        unordered: false,
+        lifetime: lifetime,
+        max_retransmissions: MaxRetransmissions::Unlimited,
+        lifecycle_id: state[PRIORITY],
+    }
+}
+
+fn add_part(
+    queue: &mut [u64; QUEUE_WORDS],
+    store: &mut [u8],
+    payload: &[u8],
+    state: &[u64; STATE],
+) -> Call {
+    let length = state[PAYLOAD_BYTES] as usize;
+    if length > payload.len() {
+        return Call::Refused(TOO_SHORT);
+    }
+    let m = message_of(state);
+    add(queue, store, state[TIME], m, &payload[0..length])
+}
+
+pub fn lent_add(queue: &mut [u64; QUEUE_WORDS], store: &mut [u8], state: &[u64; STATE]) -> Call {
+    let n = state[STORE_BYTES] as usize;
+    if n > store.len() {
+        return Call::Refused(TOO_SHORT);
+    }
+    let payload = [165u8; PAYLOAD];
+    add_part(queue, &mut store[0..n], &payload, state)
+}
+
+fn produce_from(
+    queue: &mut [u64; QUEUE_WORDS],
+    store: &[u8],
+    events: &mut [u64],
+    fragment: &mut [u8],
+    state: &[u64; STATE],
+) -> Produced {
+    let words = state[EVENT_LIST] as usize;
+    if words > events.len() {
+        return Produced::Refused(TOO_SHORT);
+    }
+    produce(
+        queue,
+        store,
+        &mut events[0..words],
+        fragment,
+        state[TIME],
+        state[SIZE],
+    )
+}
+
+pub fn lent_produce(
+    queue: &mut [u64; QUEUE_WORDS],
+    store: &[u8],
+    events: &mut [u64],
+    fragment: &mut [u8],
+    state: &[u64; STATE],
+) -> Produced {
+    let n = state[STORE_BYTES] as usize;
+    if n > store.len() {
+        return Produced::Refused(TOO_SHORT);
+    }
+    let bytes = state[FRAGMENT_BYTES] as usize;
+    if bytes > fragment.len() {
+        return Produced::Refused(TOO_SHORT);
+    }
+    produce_from(queue, &store[0..n], events, &mut fragment[0..bytes], state)
+}
+
+// Discard, close and setting a threshold.
+fn event_call(queue: &mut [u64; QUEUE_WORDS], events: &mut [u64], state: &[u64; STATE]) -> Call {
+    let id = low16(state[STREAM]);
+    let letter = low8(state[LETTER]);
+    match letter {
+        b'D' => discard(queue, events, id, low32(state[MESSAGE_ID])),
+        b'C' => prepare_reset_stream(queue, events, id),
+        _ => set_buffered_amount_low_threshold(queue, events, id, state[THRESHOLD]),
+    }
+}
+
+pub fn lent_event_call(
+    queue: &mut [u64; QUEUE_WORDS],
+    events: &mut [u64],
+    state: &[u64; STATE],
+) -> Call {
+    let words = state[EVENT_LIST] as usize;
+    if words > events.len() {
+        return Call::Refused(TOO_SHORT);
+    }
+    event_call(queue, &mut events[0..words], state)
+}
+
+// The calls that are lent nothing but the queue.
+pub fn plain_call(queue: &mut [u64; QUEUE_WORDS], state: &[u64; STATE]) -> Call {
+    let letter = low8(state[LETTER]);
+    match letter {
+        b'Y' => set_priority(queue, low16(state[STREAM]), low16(state[PRIORITY])),
+        b'I' => enable_message_interleaving(queue, state[INTERLEAVE] == 1),
+        b'K' => commit_reset_streams(queue),
+        b'B' => rollback_reset_streams(queue),
+        b'R' => reset(queue),
+        _ => Call::Refused(TOO_SHORT),
+    }
+}
