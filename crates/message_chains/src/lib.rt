@@ -1,5 +1,5 @@
 // The messages of a stream hang in a chain, the free places in another: what takes a message off its chain, and what its going
-// reports. Every function is total; those that write are called once a test that reads only has passed.
+// reports. A function that reads only is total; those that write are called once such a test has passed.
 pub mod amounts;
 pub mod heads;
 pub mod notes;

@@ -1,4 +1,4 @@
-// The send queue (tx/send_queue.rs): all its calls under one name. They stand in crates of their own by groups of calls, so that
+// The send queue (tx/send_queue.rs): all its calls but saving and restoring, under one name. They stand in crates of their own by groups of calls, so that
 // an edit rechecks little.
 //
 // Creation and messages.
@@ -40,3 +40,10 @@ pub use queue_streams::EVENT_PLACES;
 pub use queue_streams::Flag;
 pub use queue_streams::Number;
 pub use queue_words::QUEUE_WORDS;
+// Counters and ids.
+pub use types::Fsn;
+pub use types::Mid;
+pub use types::OutgoingMessageId;
+pub use types::Ssn;
+pub use types::StreamId;
+pub use types::StreamKey;
