@@ -59,7 +59,7 @@ pub fn nanoseconds(l: Lifetime) -> u64
     }
 }
 
-// "a lifetime sets time + lifetime + 1 ms, else never".
+// "a lifetime sets now + lifetime + 1 ms, else never".
 fn expiry(time: u64, l: Lifetime) -> u64
     requires { ⌜ (time ≤ 4611686018427387903) × (nanoseconds l ≤ 4611686018427387903) ⌝ }
     ensures { λ r. ⌜ r ≡ expiry time l ⌝ }
