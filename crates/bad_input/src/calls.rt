@@ -15,20 +15,20 @@ use crate::state::STREAM;
 use crate::state::low8;
 use crate::state::low16;
 use crate::state::wide;
+use queue_questions::buffered_amount;
+use queue_questions::buffered_amount_low_threshold;
+use queue_questions::get_handover_readiness;
+use queue_questions::get_priority;
+use queue_questions::has_data_to_send;
+use queue_questions::has_streams_ready_to_be_reset;
+use queue_questions::is_empty;
+use queue_questions::total_buffered_amount;
 use queue_restarts::get_streams_ready_to_reset;
 use queue_sending::DataToSend;
 use queue_sending::Produced;
 use queue_streams::Call;
 use queue_streams::Flag;
 use queue_streams::Number;
-use queue_streams::buffered_amount;
-use queue_streams::buffered_amount_low_threshold;
-use queue_streams::get_handover_readiness;
-use queue_streams::get_priority;
-use queue_streams::has_data_to_send;
-use queue_streams::has_streams_ready_to_be_reset;
-use queue_streams::is_empty;
-use queue_streams::total_buffered_amount;
 use queue_words::QUEUE_WORDS;
 
 // A refusal's number. Document 01 has no refusal 0: it shows as 100.

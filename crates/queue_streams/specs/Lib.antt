@@ -1,7 +1,6 @@
 -- What the calls on the streams leave, for every input. Assumes nothing.
 pub mod Events
 pub mod Known
-pub mod Questions
 pub mod Settings
 pub mod Waiting
 pub mod Restart

@@ -1,8 +1,8 @@
--- `queue_streams::questions::get_handover_readiness` meets its contract: each return is a case of `readinessOf` (proofs/Exits.antt). Assumes nothing.
+-- `queue_questions::questions::get_handover_readiness` meets its contract: each return is a case of `readinessOf` (proofs/Exits.antt). Assumes nothing.
 use borrow.Author.Needs.{needs}
-use Rattle.queue_streams.proofs.Exits.{readiness-on, readiness-data, readiness-none}
-use Rattle.queue_streams.proofs.questions.get_handover_readiness.Statement.{statement}
-use Rattle.queue_streams.proofs.questions.get_handover_readiness.Tie as tie
+use Rattle.queue_questions.proofs.Exits.{readiness-on, readiness-data, readiness-none}
+use Rattle.queue_questions.proofs.questions.get_handover_readiness.Statement.{statement}
+use Rattle.queue_questions.proofs.questions.get_handover_readiness.Tie as tie
 
 returns : tie.Need-returns
 returns c = readiness-on _ _ (c .before .load-options .ensures) (c .if1 .taken)

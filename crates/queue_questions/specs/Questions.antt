@@ -14,13 +14,13 @@ use Rattle.queue_words.specs.declared.streams.OutgoingStream.{OutgoingStream}
 use Rattle.stream_scheduler.specs.Words.{peekWords}
 use Rattle.stream_scheduler.specs.declared.Peeked.{Peeked}
 use Rattle.stream_scheduler.specs.declared.Peeked.the-variants as peeked
 use Rattle.queue_streams.specs.Known.{newStream}
 use Rattle.queue_streams.specs.declared.answers.Flag.{Flag}
 use Rattle.queue_streams.specs.declared.answers.Flag.the-variants as flag
 use Rattle.queue_streams.specs.declared.answers.Number.{Number}
 use Rattle.queue_streams.specs.declared.answers.Number.the-variants as number
-use Rattle.queue_streams.specs.declared.questions.Looked.{Looked}
-use Rattle.queue_streams.specs.declared.questions.Looked.the-variants as looked
+use Rattle.queue_questions.specs.declared.questions.Looked.{Looked}
+use Rattle.queue_questions.specs.declared.questions.Looked.the-variants as looked
 
 -- The stream of an id: the known one, or a new one.
 abbrev pub lookedAt : List ℕ → Found → Looked

@@ -1,10 +1,10 @@
--- `queue_streams::questions::stream_or_new` meets its contract: each return is a case of `streamOrNew` (proofs/Exits.antt). Assumes nothing.
+-- `queue_questions::questions::stream_or_new` meets its contract: each return is a case of `streamOrNew` (proofs/Exits.antt). Assumes nothing.
 use mathlib.Core.Path.{sym, _∙_}
 use borrow.Author.Needs.{needs}
 use Rattle.queue_words.proofs.Finds.{find-hit}
-use Rattle.queue_streams.proofs.Exits.{stream-known, stream-new, stream-broken}
-use Rattle.queue_streams.proofs.questions.stream_or_new.Statement.{statement}
-use Rattle.queue_streams.proofs.questions.stream_or_new.Tie as tie
+use Rattle.queue_questions.proofs.Exits.{stream-known, stream-new, stream-broken}
+use Rattle.queue_questions.proofs.questions.stream_or_new.Statement.{statement}
+use Rattle.queue_questions.proofs.questions.stream_or_new.Tie as tie
 
 load-stream-requires : tie.Need-load-stream-requires
 load-stream-requires c κs = find-hit _ _ _ _ (sym (c .before .before .before .find-stream .ensures) ∙ (c .before .found .given .1)) .place-fits

@@ -1,10 +1,10 @@
 // The questions: "the calls that only ask".
 ghost use mathlib.Core.Path.{_≡_};
 ghost use Prim.Native.Nat.{_≤_};
-ghost use Rattle.queue_streams.specs.Questions.{priorityOf, amountOf, thresholdOf, totalOf, emptyOf, dataOf, readyOf, readinessOf, streamOrNew, readyAmong};
-use crate::answers::Flag;
-use crate::answers::Number;
-use crate::known::new_stream;
+ghost use Rattle.queue_questions.specs.Questions.{priorityOf, amountOf, thresholdOf, totalOf, emptyOf, dataOf, readyOf, readinessOf, streamOrNew, readyAmong};
+use queue_streams::Flag;
+use queue_streams::Number;
+use queue_streams::new_stream;
 use queue_words::QUEUE_WORDS;
 use queue_words::header::load_options;
 use queue_words::header::load_totals;

@@ -1,11 +1,11 @@
--- `queue_streams::questions::ready_among` meets its contract: what is asked is whether a stream is paused from position i on. Assumes nothing.
+-- `queue_questions::questions::ready_among` meets its contract: what is asked is whether a stream is paused from position i on. Assumes nothing.
 use mathlib.Core.Path.{_≡_}
 use Prim.Native.Nat.{_≤_, _-_}
 use native.Mathlib.Omega.{arith}
-use Rattle.queue_streams.specs.Questions.{readyAmong}
-use Rattle.queue_streams.proofs.Exits.{ready-start, ready-broken, ready-here, ready-next, ready-end}
-use Rattle.queue_streams.proofs.questions.ready_among.Statement.{statement}
-use Rattle.queue_streams.proofs.questions.ready_among.Tie as tie
+use Rattle.queue_questions.specs.Questions.{readyAmong}
+use Rattle.queue_questions.proofs.Exits.{ready-start, ready-broken, ready-here, ready-next, ready-end}
+use Rattle.queue_questions.proofs.questions.ready_among.Statement.{statement}
+use Rattle.queue_questions.proofs.questions.ready_among.Tie as tie
 
 abbrev Inv-loop : tie.InvT-loop
 Inv-loop queue n i₀ i = (i ≤ n) × (readyAmong queue 0 n ≡ readyAmong queue i (n - i))

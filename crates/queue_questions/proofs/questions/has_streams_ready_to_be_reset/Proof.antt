@@ -1,9 +1,9 @@
--- `queue_streams::questions::has_streams_ready_to_be_reset` meets its contract: each return is a case of `readyOf` (proofs/Exits.antt). Assumes nothing.
+-- `queue_questions::questions::has_streams_ready_to_be_reset` meets its contract: each return is a case of `readyOf` (proofs/Exits.antt). Assumes nothing.
 use mathlib.Core.Path.{_∙_}
 use borrow.Author.Needs.{needs}
-use Rattle.queue_streams.proofs.Exits.{ready-too-many, ready-told}
-use Rattle.queue_streams.proofs.questions.has_streams_ready_to_be_reset.Statement.{statement}
-use Rattle.queue_streams.proofs.questions.has_streams_ready_to_be_reset.Tie as tie
+use Rattle.queue_questions.proofs.Exits.{ready-too-many, ready-told}
+use Rattle.queue_questions.proofs.questions.has_streams_ready_to_be_reset.Statement.{statement}
+use Rattle.queue_questions.proofs.questions.has_streams_ready_to_be_reset.Tie as tie
 
 returns : tie.Need-returns
 returns c = ready-too-many _ _ (c .before .before .load-totals .ensures) (c .if1 .taken)

@@ -1,10 +1,10 @@
--- `queue_streams::questions::total_buffered_amount` meets its contract: the total is the loaded one. Assumes nothing.
+-- `queue_questions::questions::total_buffered_amount` meets its contract: the total is the loaded one. Assumes nothing.
 use mathlib.Core.Path.{ap}
 use borrow.Author.Needs.{needs}
 use Rattle.queue_words.specs.declared.header.Totals.{Totals}
-use Rattle.queue_streams.specs.Questions.{totalOf}
-use Rattle.queue_streams.proofs.questions.total_buffered_amount.Statement.{statement}
-use Rattle.queue_streams.proofs.questions.total_buffered_amount.Tie as tie
+use Rattle.queue_questions.specs.Questions.{totalOf}
+use Rattle.queue_questions.proofs.questions.total_buffered_amount.Statement.{statement}
+use Rattle.queue_questions.proofs.questions.total_buffered_amount.Tie as tie
 
 returns : tie.Need-returns
 unfolding totalOf

@@ -1,8 +1,8 @@
--- `queue_streams::questions::buffered_amount_low_threshold` meets its contract: each return is a case of `thresholdOf` (proofs/Exits.antt). Assumes nothing.
+-- `queue_questions::questions::buffered_amount_low_threshold` meets its contract: each return is a case of `thresholdOf` (proofs/Exits.antt). Assumes nothing.
 use borrow.Author.Needs.{needs}
-use Rattle.queue_streams.proofs.Exits.{threshold-told, threshold-broken}
-use Rattle.queue_streams.proofs.questions.buffered_amount_low_threshold.Statement.{statement}
-use Rattle.queue_streams.proofs.questions.buffered_amount_low_threshold.Tie as tie
+use Rattle.queue_questions.proofs.Exits.{threshold-told, threshold-broken}
+use Rattle.queue_questions.proofs.questions.buffered_amount_low_threshold.Statement.{statement}
+use Rattle.queue_questions.proofs.questions.buffered_amount_low_threshold.Tie as tie
 
 returns : tie.Need-returns
 returns c = threshold-told _ _ _ (c .before .before .before .stream-or-new .ensures) _ (c .before .looked .given .1)

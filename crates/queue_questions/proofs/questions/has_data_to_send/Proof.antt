@@ -1,8 +1,8 @@
--- `queue_streams::questions::has_data_to_send` meets its contract: each return is a case of `dataOf` (proofs/Exits.antt). Assumes nothing.
+-- `queue_questions::questions::has_data_to_send` meets its contract: each return is a case of `dataOf` (proofs/Exits.antt). Assumes nothing.
 use borrow.Author.Needs.{needs}
-use Rattle.queue_streams.proofs.Exits.{data-waits, data-none, data-broken}
-use Rattle.queue_streams.proofs.questions.has_data_to_send.Statement.{statement}
-use Rattle.queue_streams.proofs.questions.has_data_to_send.Tie as tie
+use Rattle.queue_questions.proofs.Exits.{data-waits, data-none, data-broken}
+use Rattle.queue_questions.proofs.questions.has_data_to_send.Statement.{statement}
+use Rattle.queue_questions.proofs.questions.has_data_to_send.Tie as tie
 
 returns : tie.Need-returns
 returns c = data-waits _ _ (c .before .before .peek .ensures) _ (c .enum-told .given .1)

@@ -1,11 +1,11 @@
--- `queue_streams::questions::is_empty` meets its contract: the total is the loaded one. Assumes nothing.
+-- `queue_questions::questions::is_empty` meets its contract: the total is the loaded one. Assumes nothing.
 use mathlib.Core.Path.{ap}
 use borrow.Author.Needs.{needs}
 use lib.Dec.{eqb}
 use Rattle.queue_words.specs.declared.header.Totals.{Totals}
-use Rattle.queue_streams.specs.Questions.{emptyOf}
-use Rattle.queue_streams.proofs.questions.is_empty.Statement.{statement}
-use Rattle.queue_streams.proofs.questions.is_empty.Tie as tie
+use Rattle.queue_questions.specs.Questions.{emptyOf}
+use Rattle.queue_questions.proofs.questions.is_empty.Statement.{statement}
+use Rattle.queue_questions.proofs.questions.is_empty.Tie as tie
 
 returns : tie.Need-returns
 unfolding emptyOf

@@ -1,8 +1,8 @@
--- `queue_streams::questions::get_priority` meets its contract: each return is a case of `priorityOf` (proofs/Exits.antt). Assumes nothing.
+-- `queue_questions::questions::get_priority` meets its contract: each return is a case of `priorityOf` (proofs/Exits.antt). Assumes nothing.
 use borrow.Author.Needs.{needs}
-use Rattle.queue_streams.proofs.Exits.{priority-told, priority-broken}
-use Rattle.queue_streams.proofs.questions.get_priority.Statement.{statement}
-use Rattle.queue_streams.proofs.questions.get_priority.Tie as tie
+use Rattle.queue_questions.proofs.Exits.{priority-told, priority-broken}
+use Rattle.queue_questions.proofs.questions.get_priority.Statement.{statement}
+use Rattle.queue_questions.proofs.questions.get_priority.Tie as tie
 
 returns : tie.Need-returns
 returns c = priority-told _ _ _ (c .before .before .before .before .stream-or-new .ensures) _ (c .before .before .looked .given .1)

@@ -1,8 +1,8 @@
--- `queue_streams::questions::buffered_amount` meets its contract: each return is a case of `amountOf` (proofs/Exits.antt). Assumes nothing.
+-- `queue_questions::questions::buffered_amount` meets its contract: each return is a case of `amountOf` (proofs/Exits.antt). Assumes nothing.
 use borrow.Author.Needs.{needs}
-use Rattle.queue_streams.proofs.Exits.{amount-told, amount-broken}
-use Rattle.queue_streams.proofs.questions.buffered_amount.Statement.{statement}
-use Rattle.queue_streams.proofs.questions.buffered_amount.Tie as tie
+use Rattle.queue_questions.proofs.Exits.{amount-told, amount-broken}
+use Rattle.queue_questions.proofs.questions.buffered_amount.Statement.{statement}
+use Rattle.queue_questions.proofs.questions.buffered_amount.Tie as tie
 
 returns : tie.Need-returns
 returns c = amount-told _ _ _ (c .before .before .before .stream-or-new .ensures) _ (c .before .looked .given .1)

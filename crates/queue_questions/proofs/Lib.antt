@@ -1,0 +1,2 @@
+-- What the proofs of several questions use. Assumes nothing.
+pub mod Exits

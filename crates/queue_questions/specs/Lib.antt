@@ -1,0 +1,2 @@
+-- What the questions answer, for every input. Assumes nothing.
+pub mod Questions
