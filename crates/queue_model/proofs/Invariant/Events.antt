@@ -37,7 +37,7 @@ use Rattle.queue_model.specs.Restore
 -- ---- an amount that falls
 
 -- 1 for an amount above its threshold, 0 for any other.
-above : ℕ → ℕ → ℕ
+pub above : ℕ → ℕ → ℕ
 above t a = if ltb t a then 1 else 0
 
 -- It is at most 1.
@@ -113,15 +113,15 @@ drop-spends q s i =
 -- ---- the potential
 
 -- The streams that are above their thresholds.
-abbrev streams-above : List Stream → ℕ
+abbrev pub streams-above : List Stream → ℕ
 streams-above ss = sum-by (λ (s : Stream). above (s .threshold) (s .amount)) ss
 
 -- The events that a queue can still fire while its amounts fall: two a message, one a stream above its threshold, one for the total.
-abbrev potential : Queue → ℕ
+abbrev pub potential : Queue → ℕ
 potential q = 2 * waiting (q .streams) + streams-above (q .streams) + above (q .options .total-threshold) (q .total)
 
 -- At most 2 * 1,024 + 256 + 1.
-potential-fits : (q : Queue) → Well q → potential q ≤ event-places
+pub potential-fits : (q : Queue) → Well q → potential q ≤ event-places
 potential-fits q w =
     let a = w .messages-few in let b = w .streams-few in let c = length-sum (q .streams) in
     let d = sum-le Kept (λ s. above (s .threshold) (s .amount)) (λ s. 1) (q .streams) (λ s k. above-le (s .threshold) (s .amount)) (w .kept) in
@@ -195,7 +195,7 @@ module _ (q : Queue) (k : ℕ) (s : Stream) (i : Item) (is : List Item) (w : Wel
 -- ---- next fragment
 
 -- A look that drops a head pays for its events.
-abbrev LookSpends : Queue → Look → Type 0
+abbrev pub LookSpends : Queue → Look → Type 0
 LookSpends q nothing = Unit {0}
 LookSpends q broken = Unit {0}
 LookSpends q (dropped r ds) = length ds + potential r ≤ potential q
@@ -223,7 +223,7 @@ look-at-spends now q a w = elim (heads (q .streams) (a .stream-id)) [
     go s i is h false = tt
 
 -- Every look at the scheduler's choice.
-look-spends : (now : ℕ) (q : Queue) → Well q → LookSpends q (look now q)
+pub look-spends : (now : ℕ) (q : Queue) → Well q → LookSpends q (look now q)
 unfolding look look-for
 look-spends now q w = go (peek (q .scheduler))
   where
