@@ -1,39 +1,40 @@
-// The send queue (tx/send_queue.rs): all its calls but saving and restoring, under one name. They stand in crates of their own by groups of calls, so that
-// an edit rechecks little.
+// The send queue (tx/send_queue.rs): all its calls but saving and restoring, under one name. Each contract has two promises: what the
+// call leaves on the words, for every input (`words`), and that on the words of a queue it is the step of document 01's model
+// (`model`).
 //
 // Creation and messages.
+pub use linked_adding::add;
+pub use linked_adding::create;
+pub use linked_dropping::discard;
 pub use queue_messages::Lifetime;
 pub use queue_messages::MaxRetransmissions;
 pub use queue_messages::Message;
-pub use queue_messages::add;
-pub use queue_messages::create;
-pub use queue_messages::discard;
 // The next fragment.
+pub use linked_sending::produce;
 pub use queue_sending::Data;
 pub use queue_sending::DataToSend;
 pub use queue_sending::Expiry;
 pub use queue_sending::Produced;
-pub use queue_sending::produce;
 // Closing and restarting streams.
-pub use queue_closing::prepare_reset_stream;
+pub use linked_dropping::prepare_reset_stream;
+pub use linked_restarts::commit_reset_streams;
+pub use linked_restarts::get_streams_ready_to_reset;
+pub use linked_restarts::reset;
+pub use linked_restarts::rollback_reset_streams;
 pub use queue_restarts::ReadyStreams;
-pub use queue_restarts::get_streams_ready_to_reset;
-pub use queue_restarts::reset;
-pub use queue_streams::commit_reset_streams;
-pub use queue_streams::rollback_reset_streams;
 // Settings.
-pub use queue_streams::enable_message_interleaving;
-pub use queue_streams::set_buffered_amount_low_threshold;
-pub use queue_streams::set_priority;
+pub use linked_restarts::enable_message_interleaving;
+pub use linked_streams::set_buffered_amount_low_threshold;
+pub use linked_streams::set_priority;
 // The questions.
-pub use queue_streams::buffered_amount;
-pub use queue_streams::buffered_amount_low_threshold;
-pub use queue_streams::get_handover_readiness;
-pub use queue_streams::get_priority;
-pub use queue_streams::has_data_to_send;
-pub use queue_streams::has_streams_ready_to_be_reset;
-pub use queue_streams::is_empty;
-pub use queue_streams::total_buffered_amount;
+pub use linked_streams::buffered_amount;
+pub use linked_streams::buffered_amount_low_threshold;
+pub use linked_streams::get_handover_readiness;
+pub use linked_streams::get_priority;
+pub use linked_streams::has_data_to_send;
+pub use linked_streams::has_streams_ready_to_be_reset;
+pub use linked_streams::is_empty;
+pub use linked_streams::total_buffered_amount;
 // Answers, the words and the event list.
 pub use queue_streams::Call;
 pub use queue_streams::EVENT_PLACES;

@@ -1,0 +1,155 @@
+-- A place hung to a stream's chain, and counted: what is read then. Assumes nothing.
+use mathlib.Core.Path.{_≡_, refl, ap, _∙_, subst}
+use mathlib.Core.List.{List}
+use Prim.Native.Nat.{ℕ, _^_, _≤_, _<_}
+use native.Mathlib.Omega.{arith}
+use borrow.Author.Tests.{lt-ltb, le-ltb}
+use lib.ListN.{length}
+use Rattle.types.specs.Wrap.{wrapping-add, wrap-suc}
+use Rattle.types.proofs.Width.{wrap-one, wrap-fits}
+use Rattle.queue_words.specs.Active.{activeAt}
+use Rattle.queue_words.specs.Header.{optionsAt, totalsAt, schedulerAt, FitsTotals}
+use Rattle.queue_words.specs.Items.{itemAt, putNext, withNext}
+use Rattle.queue_words.specs.Known.{knownAt}
+use Rattle.queue_words.specs.Streams.{streamAt, putStream, FitsStream}
+use Rattle.queue_words.specs.declared.header.Totals.{Totals}
+use Rattle.queue_words.specs.declared.items.Item.{Item}
+use Rattle.queue_words.specs.declared.streams.OutgoingStream.{OutgoingStream}
+use Rattle.queue_words.proofs.Laws
+use Rattle.payload_store.specs.Words.{placeOf, sizeOf}
+use Rattle.queue_state.specs.Model.{nextOf, itemOf}
+use Rattle.queue_state.proofs.Splits.{by-index}
+use Rattle.queue_messages.specs.Add.{withLast, linkedLast, withMessage, counted}
+
+-- The place behind the place l is p, if l is a place; nothing else is changed.
+pub record Turned (ws us : List ℕ) (l p : ℕ) : Type 0 where
+  pub long : length us ≡ length ws
+  pub options : optionsAt us ≡ optionsAt ws
+  pub totals : totalsAt us ≡ totalsAt ws
+  pub scheduler : schedulerAt us ≡ schedulerAt ws
+  pub active : (j : ℕ) → activeAt us j ≡ activeAt ws j
+  pub known : (j : ℕ) → j < 256 → knownAt us j ≡ knownAt ws j
+  pub streams : (j : ℕ) → j < 256 → streamAt us j ≡ streamAt ws j
+  pub next-turned : l < 1024 → nextOf us l ≡ p
+  pub next-kept : (x : ℕ) → (l < 1024 → l ≡ x → ⊥) → nextOf us x ≡ nextOf ws x
+  pub place-kept : (x : ℕ) → placeOf us x ≡ placeOf ws x
+  pub size-kept : (x : ℕ) → sizeOf us x ≡ sizeOf ws x
+  pub item-kept : (x : ℕ) (bs : List ℕ) → itemOf (itemAt us x) bs ≡ itemOf (itemAt ws x) bs
+
+turned-none : (ws : List ℕ) (l p : ℕ) → 1024 ≤ l → Turned ws ws l p
+turned-none ws l p h = record {
+  long = refl;
+  options = refl;
+  totals = refl;
+  scheduler = refl;
+  active = λ j. refl;
+  known = λ j b. refl;
+  streams = λ j b. refl;
+  next-turned = λ b. absurd (omega arith);
+  next-kept = λ x n. refl;
+  place-kept = λ x. refl;
+  size-kept = λ x. refl;
+  item-kept = λ x bs. refl;
+}
+
+turned-next : (ws : List ℕ) (l p : ℕ) → length ws ≡ 20768 → l < 1024 → Turned ws (putNext ws l p) l p
+turned-next ws l p len h = record {
+  long = Laws.whole-put-next ws l p;
+  options = Laws.options-put-next ws l p;
+  totals = Laws.totals-put-next ws l p;
+  scheduler = Laws.scheduler-put-next ws l p;
+  active = λ j. Laws.active-put-next ws l p j h;
+  known = λ j b. Laws.known-put-next ws l p j b;
+  streams = λ j b. Laws.stream-put-next ws l p j b;
+  next-turned = λ b. ap (λ (m : Item). m .next) own;
+  next-kept = λ x n. ap (λ (m : Item). m .next) (Laws.item-put-next-other ws l p x (n h));
+  place-kept = λ x. Laws.place-put-next ws l p x;
+  size-kept = λ x. Laws.length-put-next ws l p x;
+  item-kept = λ x bs. by-index l x
+      (λ e. subst (λ y. itemOf (itemAt (putNext ws l p) y) bs ≡ itemOf (itemAt ws y) bs) e (ap (λ (m : Item). itemOf m bs) own))
+      (λ ne. ap (λ (m : Item). itemOf m bs) (Laws.item-put-next-other ws l p x ne));
+}
+  where
+    own : itemAt (putNext ws l p) l ≡ withNext (itemAt ws l) p
+    own = Laws.item-put-next ws l p len h
+
+-- Then the stream's row and the totals stored.
+pub record Hung (ws us : List ℕ) (row l p : ℕ) (s : OutgoingStream) (t : Totals) : Type 0 where
+  pub long : length us ≡ length ws
+  pub options : optionsAt us ≡ optionsAt ws
+  pub totals : totalsAt us ≡ t
+  pub scheduler : schedulerAt us ≡ schedulerAt ws
+  pub active : (j : ℕ) → activeAt us j ≡ activeAt ws j
+  pub known : (j : ℕ) → j < 256 → knownAt us j ≡ knownAt ws j
+  pub own-row : streamAt us row ≡ s
+  pub other-rows : (r : ℕ) → r < 256 → (row ≡ r → ⊥) → streamAt us r ≡ streamAt ws r
+  pub next-turned : l < 1024 → nextOf us l ≡ p
+  pub next-kept : (x : ℕ) → (l < 1024 → l ≡ x → ⊥) → nextOf us x ≡ nextOf ws x
+  pub place-kept : (x : ℕ) → placeOf us x ≡ placeOf ws x
+  pub size-kept : (x : ℕ) → sizeOf us x ≡ sizeOf ws x
+  pub item-kept : (x : ℕ) (bs : List ℕ) → itemOf (itemAt us x) bs ≡ itemOf (itemAt ws x) bs
+
+fits-message : (t : Totals) (free n : ℕ) → FitsTotals (withMessage t free n)
+fits-message t free n = record {
+  message-id-fits =
+      let e : wrapping-add 32 (t .«next_message_id» .0) 1 ≡ wrap-suc 32 (t .«next_message_id» .0) = wrap-one 32 (t .«next_message_id» .0) in
+      let b : wrap-suc 32 (t .«next_message_id» .0) < 2 ^ 32 = wrap-fits 32 (t .«next_message_id» .0) in
+      rw e b;
+}
+
+module _ (ws vs : List ℕ) (row l p free n : ℕ) (s : OutgoingStream) (len : length ws ≡ 20768) (hr : row < 256) (fits : FitsStream s) (v : Turned ws vs l p) where
+  abbrev rs : List ℕ
+  rs = putStream vs row s
+
+  abbrev us : List ℕ
+  us = counted (putStream vs row s) free n
+
+  long-v : length vs ≡ 20768
+  long-v = v .long ∙ len
+
+  long-r : length rs ≡ 20768
+  long-r = Laws.whole-put-stream vs row s ∙ long-v
+
+  totals-r : totalsAt rs ≡ totalsAt ws
+  totals-r = Laws.totals-put-stream vs row s ∙ v .totals
+
+  item-u : (x : ℕ) → itemAt us x ≡ itemAt vs x
+  unfolding counted
+  item-u x = Laws.item-put-totals rs (withMessage (totalsAt rs) free n) x ∙ Laws.item-put-stream vs row s x hr
+
+  hung-row : Hung ws us row l p s (withMessage (totalsAt ws) free n)
+  unfolding counted
+  hung-row =
+      let t : Totals = withMessage (totalsAt rs) free n in
+      record {
+        long = Laws.whole-put-totals rs t ∙ Laws.whole-put-stream vs row s ∙ v .long;
+        options = Laws.options-put-totals rs t ∙ Laws.options-put-stream vs row s ∙ v .options;
+        totals = Laws.totals-at-put rs t long-r (fits-message (totalsAt rs) free n) ∙ ap (λ (x : Totals). withMessage x free n) totals-r;
+        scheduler = Laws.scheduler-put-totals rs t ∙ Laws.scheduler-put-stream vs row s ∙ v .scheduler;
+        active = λ j. Laws.active-put-totals rs t j ∙ Laws.active-put-stream vs row s j hr ∙ v .active j;
+        known = λ j b. Laws.known-put-totals rs t j ∙ Laws.known-put-stream vs row s j b ∙ v .known j b;
+        own-row = Laws.stream-put-totals rs t row ∙ Laws.stream-at-put vs row s long-v hr fits;
+        other-rows = λ r b ne. Laws.stream-put-totals rs t r ∙ Laws.stream-at-put-other vs row s r ne ∙ v .streams r b;
+        next-turned = λ b. ap (λ (m : Item). m .next) (item-u l) ∙ v .next-turned b;
+        next-kept = λ x k. ap (λ (m : Item). m .next) (item-u x) ∙ v .next-kept x k;
+        place-kept = λ x. ap (λ (m : Item). m .place) (item-u x) ∙ v .place-kept x;
+        size-kept = λ x. ap (λ (m : Item). m .length) (item-u x) ∙ v .size-kept x;
+        item-kept = λ x bs. ap (λ (m : Item). itemOf m bs) (item-u x) ∙ v .item-kept x bs;
+      }
+
+-- A stream without messages, and one with.
+pub hung-first : (ws : List ℕ) (row p free n : ℕ) (s : OutgoingStream) → length ws ≡ 20768 → row < 256 → FitsStream s → s .first ≡ 1024 → s .last ≡ 1024
+    → Hung ws (counted (linkedLast ws row s p n) free n) row (s .last) p (withLast s p p n) (withMessage (totalsAt ws) free n)
+unfolding linkedLast
+hung-first ws row p free n s len hr f e el =
+    rw (lt-ltb 1023 (s .first) (omega arith))
+    (hung-row ws ws row (s .last) p free n (withLast s p p n) len hr (record { priority-fits = f .priority-fits; pause-state-fits = f .pause-state-fits; ssn-fits = f .ssn-fits; unordered-mid-fits = f .unordered-mid-fits; ordered-mid-fits = f .ordered-mid-fits })
+    (turned-none ws (s .last) p (omega arith)))
+
+pub hung-last : (ws : List ℕ) (row p free n : ℕ) (s : OutgoingStream) → length ws ≡ 20768 → row < 256 → FitsStream s → s .first < 1024 → s .last < 1024
+    → Hung ws (counted (linkedLast ws row s p n) free n) row (s .last) p (withLast s (s .first) p n) (withMessage (totalsAt ws) free n)
+unfolding linkedLast
+hung-last ws row p free n s len hr f a b =
+    rw (le-ltb 1023 (s .first) (omega arith), le-ltb 1023 (s .last) (omega arith))
+    (hung-row ws (putNext ws (s .last) p) row (s .last) p free n (withLast s (s .first) p n) len hr (record { priority-fits = f .priority-fits; pause-state-fits = f .pause-state-fits; ssn-fits = f .ssn-fits; unordered-mid-fits = f .unordered-mid-fits; ordered-mid-fits = f .ordered-mid-fits })
+    (turned-next ws (s .last) p len b))

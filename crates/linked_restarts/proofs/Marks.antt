@@ -1,0 +1,162 @@
+-- Asking for the ready ids is the model's. Assumes nothing.
+use mathlib.Core.Path.{_≡_, refl, sym, ap, _∙_, subst}
+use mathlib.Core.Bool.{Bool, true, false}
+use mathlib.Core.List.{List, map}
+use Prim.Native.Nat.{ℕ, zero, suc, _+_, _≤_, _<_}
+use native.Mathlib.Omega.{arith}
+use borrow.Author.Tests.{le-ltb}
+use lib.Dec.{eqb}
+use Rattle.queue_words.specs.Flags.{pick}
+use Rattle.queue_words.specs.Header.{optionsAt, totalsAt}
+use Rattle.queue_words.specs.Known.{idAt}
+use Rattle.queue_words.specs.Streams.{streamAt, putStream, FitsStream}
+use Rattle.queue_words.specs.declared.header.Totals.{Totals}
+use Rattle.queue_words.specs.declared.streams.OutgoingStream.{OutgoingStream}
+use Rattle.queue_words.proofs.Laws
+use Rattle.queue_model.specs.Logic.{if_then_else_}
+use Rattle.queue_model.specs.Types as plain
+use Rattle.queue_model.specs.Types.{Stream, Scheduler, Queue, ids, resetting, with-pause, with-state}
+use Rattle.queue_model.specs.Run as run
+use Rattle.queue_model.specs.Reset.{is-paused, paused-ids, paused-to-resetting, ready-ids}
+use Rattle.stream_scheduler.specs.Link.{modelScheduler}
+use Rattle.queue_streams.specs.declared.answers.Call.the-variants.{Accepted}
+use Rattle.queue_restarts.specs.Ready.{placesFit, allPlacesFit, withState, marked, markedAll, collected, readied, ready}
+use Rattle.queue_state.specs.Chains.{each}
+use Rattle.queue_state.specs.Model.{itemIn, pauseOf, streamOf, rowAt, streamIn, streamsIn, model, optionsOf}
+use Rattle.queue_state.specs.Good.{Shape, Good}
+use Rattle.queue_state.proofs.Frames.{stream-is, row-below}
+use Rattle.queue_state.proofs.Singles.{model-is}
+use Rattle.queue_state.proofs.Rooms.{AllKnown, all-known}
+use Rattle.linked_restarts.specs.Ids.{idsOf, readyOf, Readies}
+use Rattle.linked_restarts.proofs.Sweeps.{Turn, Swept, foldTo, sweep, swept-streams}
+use Rattle.linked_restarts.proofs.Turns.{paused-is, no-turn, stored-turn}
+use Rattle.linked_restarts.proofs.Closings.{good-after}
+use Rattle.linked_restarts.proofs.Collects.{collected-is}
+
+-- ---- a paused stream marked
+
+pub marked-id : (s : Stream) → (paused-to-resetting s) .id ≡ s .id
+unfolding paused-to-resetting
+marked-id s = go (is-paused s)
+  where
+    go : (b : Bool) → (if b then with-pause resetting s else s) .id ≡ s .id
+    go true = refl
+    go false = refl
+
+marked-by : (s : Stream) (b : Bool) → is-paused s ≡ b → paused-to-resetting s ≡ (if b then with-pause resetting s else s)
+unfolding paused-to-resetting
+marked-by s b e = rw e
+
+state-is : (id : ℕ) (s : OutgoingStream) (is : List plain.Item) → streamOf id (withState s 3) is ≡ with-pause resetting (streamOf id s is)
+unfolding pauseOf
+state-is id s is = refl
+
+-- The scheduler stays as it is.
+abbrev still : Stream → Scheduler → Scheduler
+still s sc = sc
+
+fold-still : (f : ℕ → Stream) (n : ℕ) (sc : Scheduler) → foldTo still f n sc ≡ sc
+unfolding foldTo
+fold-still f zero sc = refl
+fold-still f (suc n) sc = fold-still f n sc
+
+module _ (us st : List ℕ) (g : Shape us st) (a : AllKnown us st) (i : ℕ) (hi : i < totalsAt us .known) where
+  abbrev row : OutgoingStream
+  row = streamAt us (rowAt us i)
+
+  here : streamIn us st i ≡ streamOf (idAt us i) row (each (itemIn us st) (g .q i))
+  here = stream-is us st g i hi
+
+  state : is-paused (streamIn us st i) ≡ eqb (row .«pause_state») 2
+  state = ap is-paused here ∙ paused-is (idAt us i) row (each (itemIn us st) (g .q i))
+
+  fits : FitsStream (withState row 3)
+  fits =
+      let f = Laws.stream-at-fits us (rowAt us i) in
+      record { priority-fits = f .priority-fits; pause-state-fits = omega arith; ssn-fits = f .ssn-fits; unordered-mid-fits = f .unordered-mid-fits; ordered-mid-fits = f .ordered-mid-fits }
+
+  by-state : (b : Bool) → eqb (row .«pause_state») 2 ≡ b → Turn paused-to-resetting still us st i (pick b (putStream us (rowAt us i) (withState row 3)) us)
+  by-state true e =
+      stored-turn us st g a i hi paused-to-resetting still (withState row 3) fits refl refl
+      (state-is (idAt us i) row (each (itemIn us st) (g .q i)) ∙ ap (with-pause resetting) (sym here) ∙ sym (marked-by (streamIn us st i) true (state ∙ e))) refl
+  by-state false e = no-turn us st g a i hi paused-to-resetting still (marked-by (streamIn us st i) false (state ∙ e)) refl
+
+  mark-turn : Turn paused-to-resetting still us st i (marked us (rowAt us i))
+  unfolding marked
+  mark-turn =
+      let r : rowAt us i < 256 = row-below us st g i hi in
+      rw (le-ltb 255 (rowAt us i) (omega arith)) (by-state (eqb (row .«pause_state») 2) refl)
+
+-- ---- the call
+
+all-zero : (ws : List ℕ) → markedAll ws 0 ≡ ws
+unfolding markedAll
+all-zero ws = refl
+
+all-suc : (ws : List ℕ) (i : ℕ) → markedAll ws (suc i) ≡ marked (markedAll ws i) (rowAt (markedAll ws i) i)
+unfolding markedAll
+all-suc ws i = refl
+
+fit-from : (ws : List ℕ) (i m : ℕ) → ((j : ℕ) → j < i + m → rowAt ws j ≤ 255) → placesFit ws i m ≡ true
+unfolding placesFit
+fit-from ws i zero h = refl
+fit-from ws i (suc m) h = rw (le-ltb 255 (rowAt ws i) (h i (omega arith))) (fit-from ws (suc i) m (λ j l. h j (omega arith)))
+
+ready-next : (q : Queue) → (ready-ids q) .next ≡ with-state q (q .total) (map paused-to-resetting (q .streams)) (q .scheduler)
+unfolding ready-ids
+ready-next q = refl
+
+ready-answer : (q : Queue) → (ready-ids q) .outcome .answer ≡ ids (paused-ids (q .streams))
+unfolding ready-ids
+ready-answer q = refl
+
+ready-is : (q : Queue) → run.step run.ready-ids q ≡ ready-ids q
+unfolding run.step
+ready-is q = refl
+
+module _ (ws st : List ℕ) (g : Good ws st) where
+  abbrev done-words : List ℕ
+  done-words = markedAll ws (totalsAt ws .known)
+
+  places-fit : allPlacesFit ws (totalsAt ws .known) ≡ true
+  unfolding allPlacesFit
+  places-fit =
+      rw (le-ltb 256 (totalsAt ws .known) (g .shape .known-fits))
+      (fit-from ws 0 (totalsAt ws .known) (λ j h. let r = row-below ws st (g .shape) j (omega arith) in omega arith))
+
+  turn : (i : ℕ) → i < totalsAt ws .known → (h : Shape (markedAll ws i) st) → AllKnown (markedAll ws i) st → totalsAt (markedAll ws i) ≡ totalsAt ws
+      → streamIn (markedAll ws i) st i ≡ streamIn ws st i → Turn paused-to-resetting still (markedAll ws i) st i (markedAll ws (suc i))
+  turn i hi h a t e =
+      let hi′ : i < totalsAt (markedAll ws i) .known = subst (λ (x : Totals). i < x .known) (sym t) hi in
+      rw (all-suc ws i) (mark-turn (markedAll ws i) st h a i hi′)
+
+  swept : Swept paused-to-resetting still ws st (totalsAt ws .known) done-words
+  swept = sweep paused-to-resetting still marked-id ws st (g .shape) (all-known ws st (g .well)) (λ i. markedAll ws i) (all-zero ws) turn (totalsAt ws .known) (omega arith)
+
+  after-streams : streamsIn done-words st ≡ map paused-to-resetting (streamsIn ws st)
+  after-streams = swept-streams paused-to-resetting still marked-id ws st (g .shape) (all-known ws st (g .well)) (λ i. markedAll ws i) (all-zero ws) turn
+
+  marked-model : model done-words st ≡ (run.step run.ready-ids (model ws st)) .next
+  unfolding model
+  marked-model =
+      model-is done-words st (optionsOf (optionsAt ws)) (totalsAt ws .interleaving) (totalsAt ws .total) (totalsAt ws .«next_message_id» .0) (map paused-to-resetting (streamsIn ws st)) (modelScheduler ws)
+      (ap optionsOf (swept .options)) (ap (λ (t : Totals). t .interleaving) (swept .totals)) (ap (λ (t : Totals). t .total) (swept .totals)) (ap (λ (t : Totals). t .«next_message_id» .0) (swept .totals)) after-streams
+      (swept .scheduler ∙ fold-still (streamIn ws st) (totalsAt ws .known) (modelScheduler ws))
+      ∙ sym (ap (λ x. x .next) (ready-is (model ws st)) ∙ ready-next (model ws st))
+
+  model-ids : paused-ids (streamsIn ws st) ≡ paused-ids ((model ws st) .streams)
+  unfolding model
+  model-ids = refl
+
+  accepted : ready ws ≡ readied (collected ws (totalsAt ws .known)) done-words
+  unfolding ready
+  accepted = rw places-fit
+
+  pub ready-link : Readies ws st ((ready ws) .answer) ((ready ws) .next) st
+  ready-link =
+      let e = ap (λ x. x .outcome .answer) (ready-is (model ws st)) ∙ ready-answer (model ws st) in
+      rw accepted (record {
+        good = good-after run.ready-ids ws st done-words tt g (swept .shape) (swept .options) marked-model;
+        next = marked-model;
+        answer = collected-is ws st (g .shape) ∙ ap (idsOf (Accepted 0)) model-ids ∙ sym (ap readyOf e);
+      })

@@ -1,0 +1,265 @@
+-- The last fragment of a message: what the words then stand for. Assumes nothing.
+use mathlib.Core.Path.{_≡_, refl, sym, ap, _∙_, subst}
+use mathlib.Core.Bool.{Bool}
+use mathlib.Core.List.{List, [], _∷_}
+use Prim.Native.Nat.{ℕ, _+_, _-_, _≤_, _<_}
+use native.Mathlib.Omega.{arith}
+use borrow.Author.Tests.{eq-eqb, ne-eqb, le-ltb}
+use lib.Dec.{eqb, ltb}
+use lib.ListN.{length}
+use Rattle.queue_words.specs.Flags.{pick}
+use Rattle.queue_words.specs.Header.{optionsAt, totalsAt}
+use Rattle.queue_words.specs.Items.{itemAt}
+use Rattle.queue_words.specs.Known.{knownAt, idAt}
+use Rattle.queue_words.specs.Streams.{streamAt, putStream, FitsStream}
+use Rattle.queue_words.specs.declared.header.Totals.{Totals}
+use Rattle.queue_words.specs.declared.items.Item.{Item}
+use Rattle.queue_words.specs.declared.known.Known.{Known}
+use Rattle.queue_words.specs.declared.streams.OutgoingStream.{OutgoingStream}
+use Rattle.queue_words.proofs.Laws
+use Rattle.queue_model.specs.Types.{Stream, Scheduler, Weight, PauseState, not-paused, pending, paused, resetting}
+use Rattle.queue_model.specs.Types as plain
+use Rattle.queue_model.specs.Scheduler.{accept, set-bytes-remaining}
+use Rattle.queue_model.specs.Streams.{put-stream, stream-key, head-size, weight-of}
+use Rattle.queue_model.specs.Produce.{end-pending, next-size}
+use Rattle.stream_scheduler.specs.Link.{entryAt, modelScheduler}
+use Rattle.stream_scheduler.specs.Rows.{weightOf}
+use Rattle.stream_scheduler.specs.Words.{acceptAt}
+use Rattle.queue_streams.specs.Waiting.{headSize, parametersFor, rescheduled}
+use Rattle.message_chains.specs.Heads.{released, withoutHead}
+use Rattle.queue_sending.specs.Fragment.{endPending, nextFirst, waitingOn, finished}
+use Rattle.queue_sending.specs.Numbers.{numberedItem, numberedStream}
+use Rattle.queue_state.specs.Chains.{Linked, count, each}
+use Rattle.queue_state.specs.Model.{nextOf, itemIn, pauseOf, streamOf, rowAt, streamsIn}
+use Rattle.queue_state.specs.Good.{Shape}
+use Rattle.queue_state.proofs.Chains.{each-frame, linked-frame}
+use Rattle.queue_state.proofs.Splits.{by-index}
+use Rattle.queue_state.proofs.Frames.{Same, row-below, row-fits}
+use Rattle.queue_state.proofs.Singles.{Alike, alike-untouched}
+use Rattle.queue_state.proofs.Heads.{HeadLeft, head-left, head-linked}
+use Rattle.queue_state.proofs.Rooms.{AllKnown, KnownTo, Let, accept-known, rescheduled-link, head-is, weight-is}
+use Rattle.queue_state.proofs.Twice.{State, is-open, is-pending, is-paused, is-resetting, state}
+use Rattle.queue_state.proofs.Alikes.{alike-same, alike-both}
+use Rattle.linked_sending.proofs.Looking.{Choice}
+use Rattle.linked_sending.proofs.Numbering.{Renumbered, renumbered, stream-fits}
+
+-- ---- states
+
+-- "When a pending stream's message ends or is discarded, it is paused."
+pub end-state : (n : ℕ) → pauseOf (endPending n) ≡ end-pending (pauseOf n)
+unfolding endPending end-pending
+end-state n = go (state n) (state 2)
+  where
+    go : State n → State 2 → pauseOf (pick (eqb n 1) 2 n) ≡ end-pending (pauseOf n)
+    go (is-open e p) t = rw (ne-eqb n 1 (λ z. omega arith), p)
+    go (is-pending e p) (is-paused f q) = rw (eq-eqb n 1 e, p, q)
+    go (is-pending e p) (is-open f q) = absurd (omega arith)
+    go (is-pending e p) (is-pending f q) = absurd (omega arith)
+    go (is-pending e p) (is-resetting f q) = absurd (omega arith)
+    go (is-paused e p) t = rw (ne-eqb n 1 (λ z. omega arith), p)
+    go (is-resetting e p) t = rw (ne-eqb n 1 (λ z. omega arith), p)
+
+end-fits : (n : ℕ) → n < 256 → endPending n < 256
+unfolding endPending
+end-fits n h = by-index n 1 (λ e. rw (eq-eqb n 1 e) (omega arith)) (λ e. rw (ne-eqb n 1 e) h)
+
+size-behind : (p : PauseState) (is : List plain.Item) → (p ≡ paused → ⊥) → next-size p is ≡ head-size is
+unfolding next-size
+size-behind not-paused is h = refl
+size-behind pending is h = refl
+size-behind paused is h = absurd (h refl)
+size-behind resetting is h = refl
+
+size-paused : (is : List plain.Item) → next-size paused is ≡ 0
+unfolding next-size
+size-paused is = refl
+
+none-behind : (ws : List ℕ) → headSize ws 1024 ≡ 0
+unfolding headSize
+none-behind ws = refl
+
+not-two : {p : PauseState} → p ≡ not-paused → p ≡ paused → ⊥
+not-two a b = let z : _≡_ {A = ℕ} 0 1 = cc in omega arith
+
+not-pending : {p : PauseState} → p ≡ pending → p ≡ paused → ⊥
+not-pending a b = let z : _≡_ {A = ℕ} 0 1 = cc in omega arith
+
+not-resetting : {p : PauseState} → p ≡ resetting → p ≡ paused → ⊥
+not-resetting a b = let z : _≡_ {A = ℕ} 0 1 = cc in omega arith
+
+-- "a message behind it, unless the stream is now paused, then makes the stream begin anew"
+behind-is : (ws : List ℕ) (n next : ℕ) (is : List plain.Item) → headSize ws next ≡ head-size is → headSize ws (nextFirst n next) ≡ next-size (pauseOf n) is
+unfolding nextFirst
+behind-is ws n next is e = go (state n)
+  where
+    go : State n → headSize ws (pick (eqb n 2) 1024 next) ≡ next-size (pauseOf n) is
+    go (is-open f p) = rw (ne-eqb n 2 (λ z. omega arith)) (e ∙ sym (size-behind (pauseOf n) is (not-two p)))
+    go (is-pending f p) = rw (ne-eqb n 2 (λ z. omega arith)) (e ∙ sym (size-behind (pauseOf n) is (not-pending p)))
+    go (is-paused f p) = rw (eq-eqb n 2 f, p) (none-behind ws ∙ sym (size-paused is))
+    go (is-resetting f p) = rw (ne-eqb n 2 (λ z. omega arith)) (e ∙ sym (size-behind (pauseOf n) is (not-resetting p)))
+
+-- ---- the words
+
+pub record Finished (ws st : List ℕ) (g : Shape ws st) (at : ℕ) (c : Choice ws st g at) (n : ℕ) (us : List ℕ) : Type 0 where
+  pub shape : Shape us st
+  pub options : optionsAt us ≡ optionsAt ws
+  pub total : totalsAt us .total ≡ totalsAt ws .total - n
+  pub interleaving : totalsAt us .interleaving ≡ totalsAt ws .interleaving
+  pub next-id : totalsAt us .«next_message_id» ≡ totalsAt ws .«next_message_id»
+  pub scheduler : (w : Stream) → w .priority ≡ streamAt ws (rowAt ws (c .pos)) .priority
+      → modelScheduler us ≡ set-bytes-remaining (idAt ws (c .pos)) (next-size (pauseOf (endPending (streamAt ws (rowAt ws (c .pos)) .«pause_state»))) (each (itemIn ws st) (c .rest))) (weight-of (totalsAt ws .interleaving) w) (accept (entryAt ws at) n (modelScheduler ws))
+  pub streams : streamsIn us st ≡ put-stream (streamOf (idAt ws (c .pos)) (withoutHead (numberedStream (streamAt ws (rowAt ws (c .pos))) (itemAt ws (c .first))) (endPending (streamAt ws (rowAt ws (c .pos)) .«pause_state»)) (nextOf ws (c .first)) n) (each (itemIn ws st) (c .rest))) (streamsIn ws st)
+
+module _ (ws st : List ℕ) (g : Shape ws st) (known : AllKnown ws st) (at : ℕ) (c : Choice ws st g at) (n : ℕ) where
+  abbrev s : OutgoingStream
+  s = streamAt ws (rowAt ws (c .pos))
+
+  abbrev m : Item
+  m = itemAt ws (c .first)
+
+  abbrev s′ : OutgoingStream
+  s′ = numberedStream (streamAt ws (rowAt ws (c .pos))) (itemAt ws (c .first))
+
+  abbrev m′ : Item
+  m′ = numberedItem (streamAt ws (rowAt ws (c .pos))) (itemAt ws (c .first))
+
+  abbrev id : ℕ
+  id = (entryAt ws at) .stream-id
+
+  below : c .pos < 256
+  below = omega (arith, c .known, g .known-fits)
+
+  -- the scheduler, handing out
+  abbrev u1 : List ℕ
+  u1 = (acceptAt ws at n) .next
+
+  one : Let ws st g ((acceptAt ws at n) .next) (accept (entryAt ws at) n (modelScheduler ws))
+  one = accept-known ws st g known at n (c .listed)
+
+  abbrev g1 : Shape ((acceptAt ws at n) .next) st
+  g1 = one .unmoved .shape
+
+  alike1 : Alike ws u1
+  alike1 = alike-untouched ws u1 (one .unmoved .shape .long ∙ sym (g .long)) (one .untouched)
+
+  places1 : g1 .q (c .pos) ≡ c .first ∷ c .rest
+  places1 = one .unmoved .q-is (c .pos) ∙ c .places-are
+
+  known1 : c .pos < totalsAt u1 .known
+  known1 = omega (arith, c .known, alike1 .known)
+
+  id-known : KnownTo (streamsIn u1 st) id
+  id-known = rw (one .unmoved .streams) (_, c .found-in)
+
+  item1 : itemAt u1 (c .first) ≡ m
+  item1 = alike1 .items (c .first) (c .first-fits)
+
+  -- what is behind the message
+  linked1 : Linked (nextOf u1) (nextOf u1 (c .first)) (c .rest)
+  linked1 = head-linked u1 st g1 (c .pos) known1 (c .first) (c .rest) places1 .2
+
+  next-is : m′ .next ≡ nextOf u1 (c .first)
+  next-is = renumbered s m .next-same ∙ sym (ap (λ (y : Item). y .next) item1)
+
+  rest-fits : (y : ℕ) → 1 ≤ count y (c .rest) → y < 1024
+  rest-fits y h =
+      let k : 1 ≤ count y (c .first ∷ c .rest) = omega arith in
+      row-fits (g .q) (g .fr) y (c .pos) (g .split) below (rw (c .places-are) k)
+
+  items1 : each (itemIn u1 st) (c .rest) ≡ each (itemIn ws st) (c .rest)
+  items1 = each-frame (itemIn ws st) (itemIn u1 st) (c .rest) (λ y h. alike-same ws st u1 alike1 y (rest-fits y h) .item-same)
+
+  -- the stream waits with it, or not
+  abbrev first2 : ℕ
+  first2 = nextFirst (endPending (s′ .«pause_state»)) (m′ .next)
+
+  abbrev u2 : List ℕ
+  u2 = rescheduled u1 (totalsAt u1 .interleaving) id first2 (s′ .priority)
+
+  two : Let u1 st g1 u2 (set-bytes-remaining id (headSize u1 first2) (weightOf (parametersFor (totalsAt u1 .interleaving) (s′ .priority))) (modelScheduler u1))
+  two = rescheduled-link u1 st g1 (one .known) id id-known (totalsAt u1 .interleaving) first2 (s′ .priority) (rw (renumbered s m .priority-same) (Laws.stream-at-fits ws (rowAt ws (c .pos)) .priority-fits))
+
+  abbrev g2 : Shape u2 st
+  g2 = two .unmoved .shape
+
+  alike2 : Alike ws u2
+  alike2 = alike-both ws u1 u2 alike1 (alike-untouched u1 u2 (two .unmoved .shape .long ∙ sym (g1 .long)) (two .untouched))
+
+  size2 : headSize u1 first2 ≡ next-size (pauseOf (endPending (s .«pause_state»))) (each (itemIn ws st) (c .rest))
+  size2 =
+      let h : headSize u1 (m′ .next) ≡ head-size (each (itemIn ws st) (c .rest)) = rw next-is (head-is u1 st g1 (nextOf u1 (c .first)) (c .rest) linked1 ∙ ap head-size items1) in
+      rw (renumbered s m .state-same) (behind-is u1 (endPending (s .«pause_state»)) (m′ .next) (each (itemIn ws st) (c .rest)) h)
+
+  -- the message leaves
+  places2 : g2 .q (c .pos) ≡ c .first ∷ c .rest
+  places2 = two .unmoved .q-is (c .pos) ∙ places1
+
+  known2 : c .pos < totalsAt u2 .known
+  known2 = omega (arith, c .known, alike2 .known)
+
+  table2 : knownAt u2 (c .pos) ≡ knownAt ws (c .pos)
+  table2 = alike2 .table (c .pos) below
+
+  row2 : rowAt u2 (c .pos) ≡ rowAt ws (c .pos)
+  row2 = ap (λ (k : Known). k .place) table2
+
+  in-rows : rowAt ws (c .pos) < 256
+  in-rows = row-below ws st g (c .pos) (c .known)
+
+  last2 : s′ .last ≡ streamAt u2 (rowAt u2 (c .pos)) .last
+  last2 = renumbered s m .last-same ∙ sym (ap (λ (y : OutgoingStream). y .last) (ap (streamAt u2) row2 ∙ alike2 .rows (rowAt ws (c .pos)) in-rows))
+
+  next2 : nextOf u2 (c .first) ≡ nextOf ws (c .first)
+  next2 = ap (λ (y : Item). y .next) (alike2 .items (c .first) (c .first-fits))
+
+  state-fits : endPending (s .«pause_state») < 256
+  state-fits = end-fits (s .«pause_state») (Laws.stream-at-fits ws (rowAt ws (c .pos)) .pause-state-fits)
+
+  abbrev s3 : OutgoingStream
+  s3 = withoutHead s′ (endPending (s .«pause_state»)) (nextOf u2 (c .first)) n
+
+  abbrev u3 : List ℕ
+  u3 = putStream (released u2 (c .first) n) (rowAt u2 (c .pos)) s3
+
+  three : HeadLeft u2 st g2 (c .pos) (c .first) (c .rest) s3 n u3
+  three = head-left u2 st g2 (c .pos) known2 (c .first) (c .rest) places2 s′ (stream-fits s m (Laws.stream-at-fits ws (rowAt ws (c .pos)))) last2 (endPending (s .«pause_state»)) state-fits n
+
+  items2 : each (itemIn u2 st) (c .rest) ≡ each (itemIn ws st) (c .rest)
+  items2 = each-frame (itemIn ws st) (itemIn u2 st) (c .rest) (λ y h. alike-same ws st u2 alike2 y (rest-fits y h) .item-same)
+
+  streams3 : streamsIn u3 st ≡ put-stream (streamOf (idAt ws (c .pos)) (withoutHead s′ (endPending (s .«pause_state»)) (nextOf ws (c .first)) n) (each (itemIn ws st) (c .rest))) (streamsIn ws st)
+  streams3 =
+      let d : idAt u2 (c .pos) ≡ idAt ws (c .pos) = ap (λ (k : Known). k .id .0) table2 in
+      let e : streamOf (idAt u2 (c .pos)) s3 (each (itemIn u2 st) (c .rest)) ≡ streamOf (idAt ws (c .pos)) (withoutHead s′ (endPending (s .«pause_state»)) (nextOf ws (c .first)) n) (each (itemIn ws st) (c .rest)) = rw (d, next2, items2) in
+      three .streams ∙ ap (λ (y : Stream). put-stream y (streamsIn u2 st)) e
+      ∙ ap (put-stream (streamOf (idAt ws (c .pos)) (withoutHead s′ (endPending (s .«pause_state»)) (nextOf ws (c .first)) n) (each (itemIn ws st) (c .rest)))) (two .unmoved .streams ∙ one .unmoved .streams)
+
+  il1 : totalsAt u1 .interleaving ≡ totalsAt ws .interleaving
+  il1 = ap (λ (t : Totals). t .interleaving) (one .untouched .same-totals)
+
+  totals2 : totalsAt u2 ≡ totalsAt ws
+  totals2 = two .untouched .same-totals ∙ one .untouched .same-totals
+
+  scheduler3 : (w : Stream) → w .priority ≡ s .priority → modelScheduler u3 ≡ set-bytes-remaining (idAt ws (c .pos)) (next-size (pauseOf (endPending (s .«pause_state»))) (each (itemIn ws st) (c .rest))) (weight-of (totalsAt ws .interleaving) w) (accept (entryAt ws at) n (modelScheduler ws))
+  scheduler3 w e =
+      let f : weightOf (parametersFor (totalsAt u1 .interleaving) (s′ .priority)) ≡ weight-of (totalsAt ws .interleaving) w = rw il1 (weight-is (totalsAt ws .interleaving) (s′ .priority) w (e ∙ sym (renumbered s m .priority-same))) in
+      let k : set-bytes-remaining id (headSize u1 first2) (weightOf (parametersFor (totalsAt u1 .interleaving) (s′ .priority))) (modelScheduler u1) ≡ set-bytes-remaining (idAt ws (c .pos)) (next-size (pauseOf (endPending (s .«pause_state»))) (each (itemIn ws st) (c .rest))) (weight-of (totalsAt ws .interleaving) w) (accept (entryAt ws at) n (modelScheduler ws)) = rw (c .id-is, size2, f, one .scheduler) in
+      three .schedules ∙ two .scheduler ∙ k
+
+  are : u3 ≡ finished ((acceptAt ws at n) .next) id (rowAt ws (c .pos)) s′ m′ n
+  unfolding finished waitingOn
+  are =
+      let e : s′ .first ≡ c .first = renumbered s m .first-same ∙ c .first-is in
+      let f : m′ .next ≡ nextOf u2 (c .first) = renumbered s m .next-same ∙ sym next2 in
+      rw (row2, e, ← f, renumbered s m .state-same)
+
+  pub the-finished : Finished ws st g at c n (finished ((acceptAt ws at n) .next) ((entryAt ws at) .stream-id) (rowAt ws (c .pos)) (numberedStream (streamAt ws (rowAt ws (c .pos))) (itemAt ws (c .first))) (numberedItem (streamAt ws (rowAt ws (c .pos))) (itemAt ws (c .first))) n)
+  the-finished = subst (Finished ws st g at c n) are (record {
+    shape = three .after .shape;
+    options = three .options ∙ two .untouched .same-options ∙ one .untouched .same-options;
+    total = three .total ∙ ap (λ (t : Totals). t .total - n) totals2;
+    interleaving = three .interleaving ∙ ap (λ (t : Totals). t .interleaving) totals2;
+    next-id = three .next-id ∙ ap (λ (t : Totals). t .«next_message_id») totals2;
+    scheduler = scheduler3;
+    streams = streams3;
+  })

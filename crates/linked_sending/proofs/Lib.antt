@@ -1,0 +1,10 @@
+-- The next fragment is the model's.
+pub mod Looking
+pub mod Numbering
+pub mod Enough
+pub mod Part
+pub mod Last
+pub mod Expired
+pub mod Sent
+pub mod Passing
+pub mod Produces

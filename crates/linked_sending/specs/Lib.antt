@@ -1,0 +1,2 @@
+-- What the next fragment means. Assumes nothing.
+pub mod Meaning

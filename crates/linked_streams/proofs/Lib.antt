@@ -1,0 +1,4 @@
+-- The calls on the streams are the model's steps.
+pub mod Stepped
+pub mod Sets
+pub mod Asks

@@ -1,0 +1,61 @@
+-- What the questions promise. Assumes nothing.
+use Prim.Native.Nat.{ℕ}
+use mathlib.Core.Path.{_≡_}
+use mathlib.Core.Bool.{Bool, false}
+use mathlib.Core.List.{List}
+use Rattle.queue_model.specs.Types.{Answer, refused, done, number, flag, ids, fragment, nothing-waits}
+use Rattle.queue_model.specs.Calls
+use Rattle.queue_model.specs.Run as run
+use Rattle.queue_questions.specs.Questions.{priorityOf, amountOf, thresholdOf, totalOf, emptyOf, dataOf, readyOf, readinessOf}
+use Rattle.queue_streams.specs.declared.answers.Flag.{Flag}
+use Rattle.queue_streams.specs.declared.answers.Flag.the-variants as flag-answer
+use Rattle.queue_streams.specs.declared.answers.Number.{Number}
+use Rattle.queue_state.specs.Good.{Good}
+use Rattle.queue_state.specs.Model.{model}
+use Rattle.queue_state.specs.Promise.{shown, numberOf}
+
+-- A question for yes or no: the model's answer.
+abbrev pub flagOf : Answer → Flag
+flagOf (refused n) = flag-answer.Refused n
+flagOf done = flag-answer.Value false
+flagOf (number m) = flag-answer.Value false
+flagOf (flag b) = flag-answer.Value b
+flagOf (ids l) = flag-answer.Value false
+flagOf (fragment f) = flag-answer.Value false
+flagOf nothing-waits = flag-answer.Value false
+
+-- A question answers r: for every input w, the definition on the words; on the words of a queue, with the store st, m st, the model's. It changes nothing.
+pub record Asked {A : Type 0} (ws : List ℕ) (r w : A) (m : List ℕ → A) : Type 0 where
+  pub words : r ≡ w
+  pub model : (st : List ℕ) → Good ws st → r ≡ m st
+
+-- "A call of its own answers the priority last set or restored, the default where there is none, and changes nothing."
+abbrev pub PriorityMeets : List ℕ → ℕ → Number → Type 0
+PriorityMeets ws id r = Asked ws r (priorityOf ws id) (λ st. numberOf (shown (run.ask-priority id) ws st .answer))
+
+-- A stream's amount, 0 where it is not known.
+abbrev pub AmountMeets : List ℕ → ℕ → Number → Type 0
+AmountMeets ws id r = Asked ws r (amountOf ws id) (λ st. numberOf (shown (run.ask-amount id) ws st .answer))
+
+-- A stream's threshold, the default where it is not known.
+abbrev pub ThresholdMeets : List ℕ → ℕ → Number → Type 0
+ThresholdMeets ws id r = Asked ws r (thresholdOf ws id) (λ st. numberOf (shown (run.ask-threshold id) ws st .answer))
+
+-- The total, and whether it is 0.
+abbrev pub TotalMeets : List ℕ → ℕ → Type 0
+TotalMeets ws r = Asked ws r (totalOf ws) (λ st. (model ws st) .total)
+
+abbrev pub EmptyMeets : List ℕ → Bool → Type 0
+EmptyMeets ws r = Asked ws r (emptyOf ws) (λ st. Calls.is-empty (model ws st))
+
+-- Whether a stream waits.
+abbrev pub DataMeets : List ℕ → Flag → Type 0
+DataMeets ws r = Asked ws r (dataOf ws) (λ st. flagOf (shown run.ask-has-data ws st .answer))
+
+-- Whether a stream is paused.
+abbrev pub ReadyMeets : List ℕ → Flag → Type 0
+ReadyMeets ws r = Asked ws r (readyOf ws) (λ st. flagOf (shown run.ask-streams-ready ws st .answer))
+
+-- "Readiness is 2 if handover with waiting data is off and the total is above 0, else 0."
+abbrev pub ReadinessMeets : List ℕ → ℕ → Type 0
+ReadinessMeets ws r = Asked ws r (readinessOf ws) (λ st. Calls.readiness (model ws st))
