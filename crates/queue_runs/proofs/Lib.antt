@@ -1,0 +1,1 @@
+-- Every list of calls on a new queue is the model's.
