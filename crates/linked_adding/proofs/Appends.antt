@@ -27,7 +27,7 @@ use Rattle.queue_state.proofs.Splits.{by-index, free-once, row-once, far-free, 
 use Rattle.queue_state.proofs.Frames.{Same, Kept, free-frame, free-fits, row-fits}
 use Rattle.queue_state.proofs.Steps.{After, step}
 use Rattle.queue_state.proofs.Singles.{scheduler-same}
-use Rattle.queue_messages.specs.Add.{withLast, withMessage}
+use Rattle.queue_messages.specs.Add.{withLast}
 use Rattle.linked_adding.proofs.Placed.{Placed}
 use Rattle.linked_adding.proofs.Hung.{Hung}
 
@@ -40,10 +40,18 @@ abbrev pub First : List ℕ → ℕ → ℕ → ℕ → Type 0
 First [] first p old = first ≡ p
 First (x ∷ xs) first p old = first ≡ old
 
+-- Totals t with one message more: u. The first free place is then `free`; the sums of bytes are free to be others.
+pub record Counted (t : Totals) (free : ℕ) (u : Totals) : Type 0 where
+  pub known : u .known ≡ t .known
+  pub waiting : u .waiting ≡ sum (t .waiting) 1
+  pub free-is : u .free ≡ free
+  pub used : u .used ≡ t .used
+  pub end : u .end ≡ t .end
+
 module _ (ws st : List ℕ) (g : Shape ws st) (i : ℕ) (hk : i < totalsAt ws .known) (p : ℕ) (fr : List ℕ) (efr : g .fr ≡ p ∷ fr) (hp : p < 1024) (behind : Linked (nextOf ws) (nextOf ws p) fr)
     (m : Item) (bs : List ℕ) (ends : m .next ≡ 1024) (some-bytes : 1 ≤ length bs)
     (vs ut : List ℕ) (a : Placed ws st p m bs vs ut)
-    (us : List ℕ) (first : ℕ) (b : Hung vs us (rowAt ws i) (streamAt ws (rowAt ws i) .last) p (withLast (streamAt ws (rowAt ws i)) first p (length bs)) (withMessage (totalsAt vs) (nextOf ws p) (length bs)))
+    (us : List ℕ) (first n : ℕ) (t : Totals) (c : Counted (totalsAt vs) (nextOf ws p) t) (b : Hung vs us (rowAt ws i) (streamAt ws (rowAt ws i) .last) p (withLast (streamAt ws (rowAt ws i)) first p n) t)
     (first-is : First (g .q i) first p (streamAt ws (rowAt ws i) .first)) where
   abbrev row : ℕ
   row = rowAt ws i
@@ -80,8 +88,8 @@ module _ (ws st : List ℕ) (g : Shape ws st) (i : ℕ) (hk : i < totalsAt ws .k
     long = b .long;
     places = λ x h. b .place-kept x;
     sizes = λ x h. b .size-kept x;
-    used = ap (λ (t : Totals). t .used) (b .totals);
-    end = ap (λ (t : Totals). t .end) (b .totals);
+    used = ap (λ (x : Totals). x .used) (b .totals) ∙ c .used;
+    end = ap (λ (x : Totals). x .end) (b .totals) ∙ c .end;
   }
 
   item-same : (x : ℕ) → x < 1024 → itemIn us ut x ≡ itemIn vs ut x
@@ -140,14 +148,14 @@ module _ (ws st : List ℕ) (g : Shape ws st) (i : ℕ) (hk : i < totalsAt ws .k
   bare-new x h = free-kept x h .size-same ∙ g .bare x (rw efr (omega arith))
 
   totals-known : totalsAt us .known ≡ totalsAt ws .known
-  totals-known = ap (λ (t : Totals). t .known) (b .totals) ∙ ap (λ (t : Totals). t .known) (a .totals)
+  totals-known = ap (λ (x : Totals). x .known) (b .totals) ∙ c .known ∙ ap (λ (x : Totals). x .known) (a .totals)
 
   few : totalsAt ws .waiting ≤ 1024
   few = omega (arith, g .waits, g .split .all)
 
   totals-waiting : totalsAt us .waiting ≡ totalsAt ws .waiting + 1
   totals-waiting =
-      ap (λ (t : Totals). t .waiting) (b .totals) ∙ ap (λ (t : Totals). sum (t .waiting) 1) (a .totals) ∙ sum-is (totalsAt ws .waiting) 1 (omega (arith, few))
+      ap (λ (x : Totals). x .waiting) (b .totals) ∙ c .waiting ∙ ap (λ (x : Totals). sum (x .waiting) 1) (a .totals) ∙ sum-is (totalsAt ws .waiting) 1 (omega (arith, few))
 
   totals-used : usedOf us ≡ usedOf ws + length bs
   totals-used = places-same .used ∙ a .used
@@ -156,7 +164,7 @@ module _ (ws st : List ℕ) (g : Shape ws st) (i : ℕ) (hk : i < totalsAt ws .k
   sum-new = omega (arith, sum-snoc (sizeOf us) p (g .q i), sum-frame (sizeOf ws) (sizeOf us) (g .q i) (λ x h. size-of x (far x h)), new-size)
 
   free-first : totalsAt us .free ≡ nextOf ws p
-  free-first = ap (λ (t : Totals). t .free) (b .totals)
+  free-first = ap (λ (x : Totals). x .free) (b .totals) ∙ c .free-is
 
   schedulers : GoodScheduler us × (modelScheduler us ≡ modelScheduler ws)
   schedulers =
@@ -186,7 +194,7 @@ module _ (ws st : List ℕ) (g : Shape ws st) (i : ℕ) (hk : i < totalsAt ws .k
       each-snoc (itemIn us ut) p (g .q i)
       ∙ rw (each-frame (itemIn ws st) (itemIn us ut) (g .q i) (λ x h. item-of x (row-fits (g .q) (g .fr) x i (g .split) below h) (far x h)), item-same p hp, a .new-item)
 
-  pub streams-new : streamsIn us ut ≡ put-stream (streamOf (idAt ws i) (withLast s first p (length bs)) (each (itemIn ws st) (g .q i) ++ (itemOf m bs ∷ []))) (streamsIn ws st)
+  pub streams-new : streamsIn us ut ≡ put-stream (streamOf (idAt ws i) (withLast s first p n) (each (itemIn ws st) (g .q i) ++ (itemOf m bs ∷ []))) (streamsIn ws st)
   streams-new = after .streams ∙ rw (b .own-row, items-new)
 
   pub scheduler-new : modelScheduler us ≡ modelScheduler ws

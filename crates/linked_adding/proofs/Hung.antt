@@ -1,14 +1,12 @@
 -- A place hung to a stream's chain, and counted: what is read then. Assumes nothing.
 use mathlib.Core.Path.{_≡_, refl, ap, _∙_, subst}
 use mathlib.Core.List.{List}
-use Prim.Native.Nat.{ℕ, _^_, _≤_, _<_}
+use Prim.Native.Nat.{ℕ, _≤_, _<_}
 use native.Mathlib.Omega.{arith}
 use borrow.Author.Tests.{lt-ltb, le-ltb}
 use lib.ListN.{length}
-use Rattle.types.specs.Wrap.{wrapping-add, wrap-suc}
-use Rattle.types.proofs.Width.{wrap-one, wrap-fits}
 use Rattle.queue_words.specs.Active.{activeAt}
-use Rattle.queue_words.specs.Header.{optionsAt, totalsAt, schedulerAt, FitsTotals}
+use Rattle.queue_words.specs.Header.{optionsAt, totalsAt, putTotals, schedulerAt, FitsTotals}
 use Rattle.queue_words.specs.Items.{itemAt, putNext, withNext}
 use Rattle.queue_words.specs.Known.{knownAt}
 use Rattle.queue_words.specs.Streams.{streamAt, putStream, FitsStream}
@@ -19,7 +17,7 @@ use Rattle.queue_words.proofs.Laws
 use Rattle.payload_store.specs.Words.{placeOf, sizeOf}
 use Rattle.queue_state.specs.Model.{nextOf, itemOf}
 use Rattle.queue_state.proofs.Splits.{by-index}
-use Rattle.queue_messages.specs.Add.{withLast, linkedLast, withMessage, counted}
+use Rattle.queue_messages.specs.Add.{withLast, linkedLast}
 
 -- The place behind the place l is p, if l is a place; nothing else is changed.
 pub record Turned (ws us : List ℕ) (l p : ℕ) : Type 0 where
@@ -89,20 +87,16 @@ pub record Hung (ws us : List ℕ) (row l p : ℕ) (s : OutgoingStream) (t : Tot
   pub size-kept : (x : ℕ) → sizeOf us x ≡ sizeOf ws x
   pub item-kept : (x : ℕ) (bs : List ℕ) → itemOf (itemAt us x) bs ≡ itemOf (itemAt ws x) bs
 
-fits-message : (t : Totals) (free n : ℕ) → FitsTotals (withMessage t free n)
-fits-message t free n = record {
-  message-id-fits =
-      let e : wrapping-add 32 (t .«next_message_id» .0) 1 ≡ wrap-suc 32 (t .«next_message_id» .0) = wrap-one 32 (t .«next_message_id» .0) in
-      let b : wrap-suc 32 (t .«next_message_id» .0) < 2 ^ 32 = wrap-fits 32 (t .«next_message_id» .0) in
-      rw e b;
-}
+-- Totals that are changed by F still fit.
+abbrev pub FitsAfter : (Totals → Totals) → Type 0
+FitsAfter F = (t : Totals) → FitsTotals t → FitsTotals (F t)
 
-module _ (ws vs : List ℕ) (row l p free n : ℕ) (s : OutgoingStream) (len : length ws ≡ 20768) (hr : row < 256) (fits : FitsStream s) (v : Turned ws vs l p) where
+module _ (F : Totals → Totals) (after-fits : FitsAfter F) (ws vs : List ℕ) (row l p : ℕ) (s : OutgoingStream) (len : length ws ≡ 20768) (hr : row < 256) (fits : FitsStream s) (v : Turned ws vs l p) where
   abbrev rs : List ℕ
   rs = putStream vs row s
 
   abbrev us : List ℕ
-  us = counted (putStream vs row s) free n
+  us = putTotals (putStream vs row s) (F (totalsAt (putStream vs row s)))
 
   long-v : length vs ≡ 20768
   long-v = v .long ∙ len
@@ -114,17 +108,15 @@ module _ (ws vs : List ℕ) (row l p free n : ℕ) (s : OutgoingStream) (len : l
   totals-r = Laws.totals-put-stream vs row s ∙ v .totals
 
   item-u : (x : ℕ) → itemAt us x ≡ itemAt vs x
-  unfolding counted
-  item-u x = Laws.item-put-totals rs (withMessage (totalsAt rs) free n) x ∙ Laws.item-put-stream vs row s x hr
+  item-u x = Laws.item-put-totals rs (F (totalsAt rs)) x ∙ Laws.item-put-stream vs row s x hr
 
-  hung-row : Hung ws us row l p s (withMessage (totalsAt ws) free n)
-  unfolding counted
+  hung-row : Hung ws us row l p s (F (totalsAt ws))
   hung-row =
-      let t : Totals = withMessage (totalsAt rs) free n in
+      let t : Totals = F (totalsAt rs) in
       record {
         long = Laws.whole-put-totals rs t ∙ Laws.whole-put-stream vs row s ∙ v .long;
         options = Laws.options-put-totals rs t ∙ Laws.options-put-stream vs row s ∙ v .options;
-        totals = Laws.totals-at-put rs t long-r (fits-message (totalsAt rs) free n) ∙ ap (λ (x : Totals). withMessage x free n) totals-r;
+        totals = Laws.totals-at-put rs t long-r (after-fits (totalsAt rs) (Laws.totals-at-fits rs)) ∙ ap F totals-r;
         scheduler = Laws.scheduler-put-totals rs t ∙ Laws.scheduler-put-stream vs row s ∙ v .scheduler;
         active = λ j. Laws.active-put-totals rs t j ∙ Laws.active-put-stream vs row s j hr ∙ v .active j;
         known = λ j b. Laws.known-put-totals rs t j ∙ Laws.known-put-stream vs row s j b ∙ v .known j b;
@@ -138,18 +130,18 @@ module _ (ws vs : List ℕ) (row l p free n : ℕ) (s : OutgoingStream) (len : l
       }
 
 -- A stream without messages, and one with.
-pub hung-first : (ws : List ℕ) (row p free n : ℕ) (s : OutgoingStream) → length ws ≡ 20768 → row < 256 → FitsStream s → s .first ≡ 1024 → s .last ≡ 1024
-    → Hung ws (counted (linkedLast ws row s p n) free n) row (s .last) p (withLast s p p n) (withMessage (totalsAt ws) free n)
+pub hung-first : (F : Totals → Totals) → FitsAfter F → (ws : List ℕ) (row p n : ℕ) (s : OutgoingStream) → length ws ≡ 20768 → row < 256 → FitsStream s → s .first ≡ 1024 → s .last ≡ 1024
+    → Hung ws (putTotals (linkedLast ws row s p n) (F (totalsAt (linkedLast ws row s p n)))) row (s .last) p (withLast s p p n) (F (totalsAt ws))
 unfolding linkedLast
-hung-first ws row p free n s len hr f e el =
+hung-first F after-fits ws row p n s len hr f e el =
     rw (lt-ltb 1023 (s .first) (omega arith))
-    (hung-row ws ws row (s .last) p free n (withLast s p p n) len hr (record { priority-fits = f .priority-fits; pause-state-fits = f .pause-state-fits; ssn-fits = f .ssn-fits; unordered-mid-fits = f .unordered-mid-fits; ordered-mid-fits = f .ordered-mid-fits })
+    (hung-row F after-fits ws ws row (s .last) p (withLast s p p n) len hr (record { priority-fits = f .priority-fits; pause-state-fits = f .pause-state-fits; ssn-fits = f .ssn-fits; unordered-mid-fits = f .unordered-mid-fits; ordered-mid-fits = f .ordered-mid-fits })
     (turned-none ws (s .last) p (omega arith)))
 
-pub hung-last : (ws : List ℕ) (row p free n : ℕ) (s : OutgoingStream) → length ws ≡ 20768 → row < 256 → FitsStream s → s .first < 1024 → s .last < 1024
-    → Hung ws (counted (linkedLast ws row s p n) free n) row (s .last) p (withLast s (s .first) p n) (withMessage (totalsAt ws) free n)
+pub hung-last : (F : Totals → Totals) → FitsAfter F → (ws : List ℕ) (row p n : ℕ) (s : OutgoingStream) → length ws ≡ 20768 → row < 256 → FitsStream s → s .first < 1024 → s .last < 1024
+    → Hung ws (putTotals (linkedLast ws row s p n) (F (totalsAt (linkedLast ws row s p n)))) row (s .last) p (withLast s (s .first) p n) (F (totalsAt ws))
 unfolding linkedLast
-hung-last ws row p free n s len hr f a b =
+hung-last F after-fits ws row p n s len hr f a b =
     rw (le-ltb 1023 (s .first) (omega arith), le-ltb 1023 (s .last) (omega arith))
-    (hung-row ws (putNext ws (s .last) p) row (s .last) p free n (withLast s (s .first) p n) len hr (record { priority-fits = f .priority-fits; pause-state-fits = f .pause-state-fits; ssn-fits = f .ssn-fits; unordered-mid-fits = f .unordered-mid-fits; ordered-mid-fits = f .ordered-mid-fits })
+    (hung-row F after-fits ws (putNext ws (s .last) p) row (s .last) p (withLast s (s .first) p n) len hr (record { priority-fits = f .priority-fits; pause-state-fits = f .pause-state-fits; ssn-fits = f .ssn-fits; unordered-mid-fits = f .unordered-mid-fits; ordered-mid-fits = f .ordered-mid-fits })
     (turned-next ws (s .last) p len b))

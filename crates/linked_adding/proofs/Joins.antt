@@ -3,15 +3,15 @@ use mathlib.Core.Path.{_≡_, refl, sym, ap, _∙_, subst}
 use mathlib.Core.Bool.{Bool, true, not, _&&_}
 use mathlib.Core.List.{List, [], _∷_, _++_}
 use mathlib.Core.Option.{none, some, Option·getD}
-use Prim.Native.Nat.{ℕ, _+_, _≤_, _<_}
+use Prim.Native.Nat.{ℕ, _+_, _^_, _≤_, _<_}
 use native.Mathlib.Omega.{arith}
 use borrow.Author.Tests.{le-ltb}
 use lib.ListN.{length}
 use Rattle.types.specs.Wrap.{wrapping-add, wrap-suc}
-use Rattle.types.proofs.Width.{wrap-one}
+use Rattle.types.proofs.Width.{wrap-one, wrap-fits}
 use Rattle.types.specs.declared.OutgoingMessageId.{OutgoingMessageId}
 use Rattle.queue_words.specs.Flags.{pick}
-use Rattle.queue_words.specs.Header.{optionsAt, totalsAt}
+use Rattle.queue_words.specs.Header.{optionsAt, totalsAt, putTotals}
 use Rattle.queue_words.specs.Items.{putItem, FitsItem}
 use Rattle.queue_words.specs.Known.{idAt}
 use Rattle.queue_words.specs.Streams.{streamAt}
@@ -44,8 +44,8 @@ use Rattle.queue_messages.specs.declared.message.MaxRetransmissions.the-variant
 use Rattle.queue_messages.specs.declared.message.Message.{Message}
 use Rattle.linked_adding.specs.Message.{messageOf, lifetimeOf, retransmissionsOf}
 use Rattle.linked_adding.proofs.Placed.{Placed, placed}
-use Rattle.linked_adding.proofs.Hung.{Hung, hung-first, hung-last}
-use Rattle.linked_adding.proofs.Appends.{sum-is, First, after, streams-new, scheduler-new}
+use Rattle.linked_adding.proofs.Hung.{FitsAfter, Hung, hung-first, hung-last}
+use Rattle.linked_adding.proofs.Appends.{sum-is, First, Counted, after, streams-new, scheduler-new}
 use Rattle.linked_adding.proofs.Passes.{free-place}
 use Rattle.linked_adding.proofs.Begins.{Begun, begun, put-known, starts-is, starts-none, size-one}
 
@@ -77,19 +77,27 @@ pub record Joined (ws st : List ℕ) (i time : ℕ) (m : Message) (bs us ut : Li
   pub streams : streamsIn us ut ≡ put-stream (with-message (streamIn ws st i) (new-item time (totalsAt ws .«next_message_id» .0) (messageOf m bs))) (streamsIn ws st)
   pub scheduler : modelScheduler us ≡ plain-add.started (totalsAt ws .interleaving) (streamIn ws st i) (with-message (streamIn ws st i) (new-item time (totalsAt ws .«next_message_id» .0) (messageOf m bs))) (modelScheduler ws)
 
+fits-message : (free n : ℕ) → FitsAfter (λ t. withMessage t free n)
+fits-message free n t f = record {
+  message-id-fits =
+      let e : wrapping-add 32 (t .«next_message_id» .0) 1 ≡ wrap-suc 32 (t .«next_message_id» .0) = wrap-one 32 (t .«next_message_id» .0) in
+      let b : wrap-suc 32 (t .«next_message_id» .0) < 2 ^ 32 = wrap-fits 32 (t .«next_message_id» .0) in
+      rw e b;
+}
+
 -- the place hung where the chain ends
-hangs : (ws vs : List ℕ) (row p free n : ℕ) (ps : List ℕ) → length vs ≡ 20768 → row < 256 → Row ws (streamAt ws row) ps
-    → (first : ℕ) × (Hung vs (counted (linkedLast vs row (streamAt ws row) p n) free n) row (streamAt ws row .last) p (withLast (streamAt ws row) first p n) (withMessage (totalsAt vs) free n)) × First ps first p (streamAt ws row .first)
-hangs ws vs row p free n [] l h r = (p, hung-first vs row p free n (streamAt ws row) l h (Laws.stream-at-fits ws row) (r .linked) (r .last-is), refl)
-hangs ws vs row p free n (x ∷ xs) l h r =
+pub hangs : (F : Totals → Totals) → FitsAfter F → (ws vs : List ℕ) (row p n : ℕ) (ps : List ℕ) → length vs ≡ 20768 → row < 256 → Row ws (streamAt ws row) ps
+    → (first : ℕ) × (Hung vs (putTotals (linkedLast vs row (streamAt ws row) p n) (F (totalsAt (linkedLast vs row (streamAt ws row) p n)))) row (streamAt ws row .last) p (withLast (streamAt ws row) first p n) (F (totalsAt vs))) × First ps first p (streamAt ws row .first)
+hangs F a ws vs row p n [] l h r = (p, hung-first F a vs row p n (streamAt ws row) l h (Laws.stream-at-fits ws row) (r .linked) (r .last-is), refl)
+hangs F a ws vs row p n (x ∷ xs) l h r =
     let s : OutgoingStream = streamAt ws row in
     let k : Linked (nextOf ws) (s .first) (x ∷ xs) = r .linked in
-    let a : s .first < 1024 = omega (arith, k .0, k .1) in
-    let b : s .last < 1024 = omega (arith, r .last-is, last-lt (nextOf ws) (s .first) x xs k) in
-    (s .first, hung-last vs row p free n s l h (Laws.stream-at-fits ws row) a b, refl)
+    let b : s .first < 1024 = omega (arith, k .0, k .1) in
+    let c : s .last < 1024 = omega (arith, r .last-is, last-lt (nextOf ws) (s .first) x xs k) in
+    (s .first, hung-last F a vs row p n s l h (Laws.stream-at-fits ws row) b c, refl)
 
 -- the stream with one message more, by its row
-longer : (id first p n : ℕ) (s : OutgoingStream) (is : List plain.Item) (j : plain.Item) → s .«buffered_amount» + n ≤ 18446744073709551615 → plain.remaining j ≡ n
+pub longer : (id first p n : ℕ) (s : OutgoingStream) (is : List plain.Item) (j : plain.Item) → s .«buffered_amount» + n ≤ 18446744073709551615 → plain.remaining j ≡ n
     → streamOf id (withLast s first p n) (is ++ (j ∷ [])) ≡ with-message (streamOf id s is) j
 longer id first p n s is j h e = rw (sum-is (s .«buffered_amount») n h, e)
 
@@ -134,14 +142,18 @@ module _ (ws st : List ℕ) (g : Shape ws st) (known : AllKnown ws st) (i : ℕ)
   put = placed ws st p new (g .long) hp fits refl refl (g .lay) (g .bare p (rw efr (count-head p fr))) bs room
 
   hung : (first : ℕ) × (Hung vs us row (s .last) p (withLast s first p (length bs)) (withMessage (totalsAt vs) (nextOf ws p) (length bs))) × First (g .q i) first p (s .first)
-  hung = hangs ws vs row p (nextOf ws p) (length bs) (g .q i) (put .long ∙ g .long) (row-below ws st g i hk) (g .rows i hk)
+  unfolding counted
+  hung = hangs (λ t. withMessage t (nextOf ws p) (length bs)) (fits-message (nextOf ws p) (length bs)) ws vs row p (length bs) (g .q i) (put .long ∙ g .long) (row-below ws st g i hk) (g .rows i hk)
 
   ends : new .next ≡ 1024
   unfolding newItem
   ends = refl
 
+  counts : Counted (totalsAt vs) (nextOf ws p) (withMessage (totalsAt vs) (nextOf ws p) (length bs))
+  counts = record { known = refl; waiting = refl; free-is = refl; used = refl; end = refl }
+
   shape-us : Shape us vt
-  shape-us = after ws st g i hk p fr efr hp behind new bs ends some-bytes vs vt put us (hung .0) (hung .1) (hung .2) .shape
+  shape-us = after ws st g i hk p fr efr hp behind new bs ends some-bytes vs vt put us (hung .0) (length bs) (withMessage (totalsAt vs) (nextOf ws p) (length bs)) counts (hung .1) (hung .2) .shape
 
   old-is : old ≡ streamOf (idAt ws i) s (each (itemIn ws st) (g .q i))
   old-is = stream-is ws st g i hk
@@ -149,14 +161,14 @@ module _ (ws st : List ℕ) (g : Shape ws st) (known : AllKnown ws st) (i : ℕ)
   streams-us : streamsIn us vt ≡ put-stream more (streamsIn ws st)
   streams-us =
       let j : plain.Item = new-item time (totalsAt ws .«next_message_id» .0) (messageOf m bs) in
-      streams-new ws st g i hk p fr efr hp behind new bs ends some-bytes vs vt put us (hung .0) (hung .1) (hung .2)
+      streams-new ws st g i hk p fr efr hp behind new bs ends some-bytes vs vt put us (hung .0) (length bs) (withMessage (totalsAt vs) (nextOf ws p) (length bs)) counts (hung .1) (hung .2)
       ∙ ap (λ (x : Stream). put-stream x (streamsIn ws st))
       (ap (λ k. streamOf (idAt ws i) (withLast s (hung .0) p (length bs)) (each (itemIn ws st) (g .q i) ++ (k ∷ []))) (item-new time (totalsAt ws .«next_message_id») m bs)
       ∙ longer (idAt ws i) (hung .0) p (length bs) s (each (itemIn ws st) (g .q i)) j amount-fits (remaining-new time (totalsAt ws .«next_message_id» .0) (messageOf m bs))
       ∙ ap (λ (x : Stream). with-message x j) (sym old-is))
 
   scheduler-us : modelScheduler us ≡ modelScheduler ws
-  scheduler-us = scheduler-new ws st g i hk p fr efr hp behind new bs ends some-bytes vs vt put us (hung .0) (hung .1) (hung .2)
+  scheduler-us = scheduler-new ws st g i hk p fr efr hp behind new bs ends some-bytes vs vt put us (hung .0) (length bs) (withMessage (totalsAt vs) (nextOf ws p) (length bs)) counts (hung .1) (hung .2)
 
   totals-us : totalsAt us ≡ withMessage (totalsAt vs) (nextOf ws p) (length bs)
   totals-us = hung .1 .totals

@@ -176,7 +176,7 @@ fn starts(s: OutgoingStream) -> bool
 }
 
 // Hangs a message's place to the end of a stream's chain.
-fn link_last(queue: &mut [u64; QUEUE_WORDS], row: usize, s: OutgoingStream, place: u64, n: u64)
+pub fn link_last(queue: &mut [u64; QUEUE_WORDS], row: usize, s: OutgoingStream, place: u64, n: u64)
     requires { ⌜ row < 256 ⌝ }
     ensures { λ _. ⌜ now (queue .exit) ≡ linkedLast (now (queue .entry)) row s place n ⌝ }
 {

@@ -36,7 +36,7 @@ fn create_code(payload_limit: u64, store_length: u64) -> u8
 }
 
 // All places are free, chained in their order; none has a payload, and none points past the store.
-fn free_all(queue: &mut [u64; QUEUE_WORDS])
+pub fn free_all(queue: &mut [u64; QUEUE_WORDS])
     ensures { λ _. ⌜ now (queue .exit) ≡ freed (now (queue .entry)) 1024 ⌝ }
 {
     let mut i = 0;

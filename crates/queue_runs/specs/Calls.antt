@@ -1,8 +1,8 @@
 -- The calls on a queue other than saving, with their arguments, and what they show. Assumes nothing.
 use Prim.Native.Nat.{ℕ, _/_, _<_, _^_}
-use mathlib.Core.Bool.{Bool}
-use mathlib.Core.List.{List}
-use lib.Dec.{T}
+use mathlib.Core.Bool.{Bool, true, _&&_}
+use mathlib.Core.List.{List, [], _∷_}
+use lib.Dec.{T, ltb}
 use lib.ListN.{length}
 use lib.Pow.{areBytes}
 use Rattle.queue_model.specs.Run as run
@@ -25,6 +25,7 @@ pub data Call : Type 0 where
   set-threshold : (events : List ℕ) (id threshold : ℕ) → Call
   set-priority : (id priority : ℕ) → Call
   set-interleaving : Bool → Call
+  restore : (time : ℕ) (image : List ℕ) → Call
   ask-priority ask-amount ask-threshold : (id : ℕ) → Call
   ask-total ask-empty ask-has-data ask-streams-ready ask-readiness : Call
 
@@ -41,6 +42,7 @@ callOf len reset = run.reset
 callOf len (set-threshold es id t) = run.set-threshold (length es / 2) id t
 callOf len (set-priority id p) = run.set-priority id p
 callOf len (set-interleaving b) = run.set-interleaving b
+callOf len (restore time image) = run.restore len time image
 callOf len (ask-priority id) = run.ask-priority id
 callOf len (ask-amount id) = run.ask-amount id
 callOf len (ask-threshold id) = run.ask-threshold id
@@ -50,19 +52,31 @@ callOf len ask-has-data = run.ask-has-data
 callOf len ask-streams-ready = run.ask-streams-ready
 callOf len ask-readiness = run.ask-readiness
 
--- Every number has the width of its parameter, every list is shorter than 2^64.
+-- A lent list of words or of bytes: shorter than 2^64, each of its width.
+abbrev pub areWords : List ℕ → Bool
+areWords [] = true
+areWords (w ∷ ws) = ltb w (2 ^ 64) && areWords ws
+
+abbrev pub Words : List ℕ → Type 0
+Words ws = (length ws < 2 ^ 64) × T (areWords ws)
+
+abbrev pub Bytes : List ℕ → Type 0
+Bytes bs = (length bs < 2 ^ 64) × T (areBytes bs)
+
+-- Every number has the width of its parameter, every list is shorter than 2^64: all that can be called, and nothing else.
 abbrev pub Typed : Call → Type 0
-Typed (add time m payload) = (time < 2 ^ 64) × MessageTyped (messageOf m payload)
-Typed (produce es bs time size) = (length es < 2 ^ 64) × ((length bs < 2 ^ 64) × ((time < 2 ^ 64) × (size < 2 ^ 64)))
-Typed (discard es id k) = (length es < 2 ^ 64) × ((id < 2 ^ 16) × (k < 2 ^ 32))
-Typed (close es id) = (length es < 2 ^ 64) × (id < 2 ^ 16)
+Typed (add time m payload) = (time < 2 ^ 64) × (MessageTyped (messageOf m payload) × (length payload < 2 ^ 64))
+Typed (produce es bs time size) = Words es × (Bytes bs × ((time < 2 ^ 64) × (size < 2 ^ 64)))
+Typed (discard es id k) = Words es × ((id < 2 ^ 16) × (k < 2 ^ 32))
+Typed (close es id) = Words es × (id < 2 ^ 16)
 Typed ready-ids = Unit {0}
 Typed commit = Unit {0}
 Typed rollback = Unit {0}
 Typed reset = Unit {0}
-Typed (set-threshold es id t) = (length es < 2 ^ 64) × ((id < 2 ^ 16) × (t < 2 ^ 64))
+Typed (set-threshold es id t) = Words es × ((id < 2 ^ 16) × (t < 2 ^ 64))
 Typed (set-priority id p) = (id < 2 ^ 16) × (p < 2 ^ 16)
 Typed (set-interleaving b) = Unit {0}
+Typed (restore time image) = (time < 2 ^ 64) × Bytes image
 Typed (ask-priority id) = id < 2 ^ 16
 Typed (ask-amount id) = id < 2 ^ 16
 Typed (ask-threshold id) = id < 2 ^ 16

@@ -1,3 +1,7 @@
--- The calls on a queue, one step, and lists of calls, made of the definitions that the contracts cite. Assumes nothing.
+-- The calls on a queue, one step, and lists of calls, made of the definitions that the contracts cite; what they mean, and demand 3. Assumes nothing.
 pub mod Calls
 pub mod Run
+pub mod Meaning
+pub mod Creation
+pub mod Demand3
+pub mod Refusals

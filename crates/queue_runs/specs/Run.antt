@@ -1,6 +1,6 @@
 -- One step over the words and the store, by the definitions that the contracts cite; and lists of calls. Assumes nothing.
 use Prim.Native.Nat.{ℕ}
-use mathlib.Core.Bool.{Bool, true, false}
+use mathlib.Core.Bool.{true, false}
 use mathlib.Core.List.{List, [], _∷_}
 use Rattle.queue_streams.specs.Settings.{Called, CalledWith, setPriority, setThreshold}
 use Rattle.queue_streams.specs.Restart.{reopen, setInterleaving}
@@ -12,7 +12,8 @@ use Rattle.queue_restarts.specs.Ready as readying
 use Rattle.queue_restarts.specs.Reset.{resetQueue}
 use Rattle.queue_sending.specs.Data.{ProducedWith}
 use Rattle.queue_sending.specs.Produce.{produceNext}
-use Rattle.queue_runs.specs.Calls.{Call, add, produce, discard, close, ready-ids, commit, rollback, reset, set-threshold, set-priority, set-interleaving, ask-priority, ask-amount, ask-threshold, ask-total, ask-empty, ask-has-data, ask-streams-ready, ask-readiness, Shown, shown, called, sent, readied, number, flag, count, truth}
+use Rattle.handover.specs.Restore as restoring
+use Rattle.queue_runs.specs.Calls.{Call, add, produce, discard, close, ready-ids, commit, rollback, reset, set-threshold, set-priority, set-interleaving, restore, ask-priority, ask-amount, ask-threshold, ask-total, ask-empty, ask-has-data, ask-streams-ready, ask-readiness, Shown, shown, called, sent, readied, number, flag, count, truth}
 
 -- A queue: its words and its store.
 pub record State : Type 0 where
@@ -59,6 +60,7 @@ step reset s = quiet (resetQueue (s .words)) (s .store)
 step (set-threshold es id t) s = loud (setThreshold (s .words) es id t) (s .store)
 step (set-priority id p) s = quiet (setPriority (s .words) id p) (s .store)
 step (set-interleaving b) s = quiet (setInterleaving b (s .words)) (s .store)
+step (restore time image) s = stores (restoring.restore (s .words) (s .store) time image)
 step (ask-priority id) s = stepped (shown (number (priorityOf (s .words) id)) [] []) s
 step (ask-amount id) s = stepped (shown (number (amountOf (s .words) id)) [] []) s
 step (ask-threshold id) s = stepped (shown (number (thresholdOf (s .words) id)) [] []) s

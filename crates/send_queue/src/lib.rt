@@ -1,4 +1,4 @@
-// The send queue (tx/send_queue.rs): all its calls but saving and restoring, under one name. Each contract has two promises: what the
+// The send queue (tx/send_queue.rs): all its calls, under one name. Each contract has two promises: what the
 // call leaves on the words, for every input (`words`), and that on the words of a queue it is the step of document 01's model
 // (`model`).
 //
@@ -35,6 +35,10 @@ pub use linked_streams::has_data_to_send;
 pub use linked_streams::has_streams_ready_to_be_reset;
 pub use linked_streams::is_empty;
 pub use linked_streams::total_buffered_amount;
+// The changeover image.
+pub use linked_restoring::restore;
+pub use linked_saving::save;
+pub use saving::Saved;
 // Answers, the words and the event list.
 pub use queue_streams::Call;
 pub use queue_streams::EVENT_PLACES;

@@ -1,0 +1,20 @@
+-- `handover_records::numbers::put_u32` meets its contract: each return is what its definition says, by what the calls ensure and the tests taken. Assumes nothing.
+use borrow.Author.Needs.{needs}
+use Rattle.handover_records.proofs.Halves.{halves-wrote}
+use Rattle.handover_records.proofs.numbers.put_u32.Statement.{statement}
+use Rattle.handover_records.proofs.numbers.put_u32.Tie as tie
+
+returns : tie.Need-returns
+returns c = halves-wrote (c .before .before .before .before .before .before .before .before .before .args .buffer .now) _ _ (c .before .before .before .before .before .before .before .before .before .args .at) 2 2 (c .before .before .before .before .before .before .before .before .before .args .n) (c .before .before .before .before .before .before .before .before .before .pre) (search needs) (c .before .before .before .before .before .before .put-u16 .ensures) (c .before .before .put-u162 .ensures)
+
+pub put-u32-spec : {M : Type 1} → statement M
+put-u32-spec =
+    tie.close
+    (tie.spec
+    (λ c. search needs)
+    (λ c. search needs)
+    (λ c. search needs)
+    (λ c. search needs)
+    (λ c. search needs)
+    (λ c. search needs)
+    returns)

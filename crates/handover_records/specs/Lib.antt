@@ -1,0 +1,4 @@
+-- The numbers and records of an image, and where its message records stand. Assumes nothing.
+pub mod Numbers
+pub mod Records
+pub mod Positions

@@ -1,0 +1,82 @@
+-- An image that is accepted has what restoring its parts needs. Assumes nothing.
+use mathlib.Core.Path.{_≡_, refl, ap, _∙_}
+use mathlib.Core.Bool.{Bool, true, false}
+use mathlib.Core.List.{List}
+use Prim.Native.Nat.{ℕ, _+_, _*_, _-_, _≤_}
+use native.Mathlib.Omega.{arith}
+use lib.Dec.{T, eqb, ltb}
+use lib.Pow.{areBytes}
+use lib.ListN.{length}
+use Rattle.queue_words.specs.Flags.{pick}
+use Rattle.queue_model.specs.Types.{Queue}
+use Rattle.queue_model.specs.Restore.{restored}
+use Rattle.queue_state.specs.Model.{tab}
+use Rattle.queue_state.proofs.Tabs.{tab-same}
+use Rattle.handover_records.specs.Records.{streamAt}
+use Rattle.handover_records.specs.Positions.{streamRecordAt, streamsFrom}
+use Rattle.handover_records.specs.declared.records.Trailer.{Trailer}
+use Rattle.image_rules.specs.Trailers.{trailerIn}
+use Rattle.image_rules.specs.Code.{rulesKept, amountsFit, imageCode}
+use Rattle.image_rules.proofs.ReadLink.{handoverAt, Read, handover-read}
+use Rattle.image_rules.proofs.CodeLink.{image-counts}
+use Rattle.image_rules.proofs.AcceptedFacts.{Accepted, accepted-facts}
+use Rattle.linked_restoring.proofs.Widths.{trailer-fits}
+use Rattle.linked_restoring.proofs.Behind.{IdsRise}
+use Rattle.linked_restoring.proofs.AllRecords.{Limits}
+use Rattle.linked_restoring.proofs.Parts.{Holds}
+
+-- It keeps the rules.
+kept-of : (bs : List ℕ) (d len : ℕ) → imageCode bs d len ≡ 0 → rulesKept bs (trailerIn bs) ≡ true
+unfolding imageCode
+kept-of bs d len e = go (ltb (length bs) 20) (rulesKept bs (trailerIn bs)) (pick (eqb (trailerIn bs .«default_priority») d) (pick (amountsFit bs (trailerIn bs) len) 0 15) 14) e
+  where
+    go : (a b : Bool) (n : ℕ) → _≡_ {A = ℕ} (pick a 13 (pick b n 13)) 0 → b ≡ true
+    go true b n e = absurd (omega (arith, e))
+    go false true n e = refl
+    go false false n e = absurd (omega (arith, e))
+
+module _ (bs : List ℕ) (bytes : T (areBytes bs)) (d len : ℕ) (fine : imageCode bs d len ≡ 0) where
+  a : Accepted bs (trailerIn bs) d len
+  a = accepted-facts bs d len fine
+
+  abbrev t : Trailer
+  t = trailerIn bs
+
+  streams-same : tab (λ k. streamRecordAt bs (14 * k)) (t .streams) ≡ streamsFrom bs 0 (t .streams)
+  unfolding streamsFrom
+  streams-same = tab-same (t .streams) (λ k. streamRecordAt bs (0 + k * 14)) (λ k. streamRecordAt bs (14 * k)) (λ j h. let e : 14 * j ≡ 0 + j * 14 = omega arith in ap (streamRecordAt bs) e)
+
+  rise : IdsRise bs (t .streams)
+  rise i j h l =
+      let x : 14 * i ≡ i * 14 = omega arith in
+      let y : 14 * j ≡ j * 14 = omega arith in
+      omega (arith, a .ids-rise i j h l, ap (λ (p : ℕ). streamAt bs p .id) x, ap (λ (p : ℕ). streamAt bs p .id) y)
+
+  pub accepted-holds : Holds bs (t .streams) (t .«streams_size») (t .messages) (t .«next_message_id») (handoverAt bs)
+  accepted-holds =
+      let r : Read bs (handoverAt bs) = handover-read bs in
+      let k = a .rules .trailer in
+      record {
+        next-is = r .next-is;
+        next-fits = trailer-fits bs (length bs - 20) bytes (omega (arith, a .long)) .0;
+        streams-are = r .streams-are ∙ streams-same;
+        messages-are = r .messages-are;
+        streams-few = a .amounts .streams-few;
+        streams-inside = omega (arith, k .fills, k .whole);
+        ids-rise = rise;
+        within = λ k l. record { inside = omega (arith, a .message-inside k l); some-bytes = a .message-at k l .facts .length-some };
+      }
+
+  pub accepted-long : 20 ≤ length bs
+  accepted-long = a .long
+
+  -- What it restores keeps the limits.
+  pub accepted-limits : (time : ℕ) (q : Queue) → Limits ((restored time (handoverAt bs) q) .streams) len
+  unfolding restored
+  accepted-limits time q =
+      let c = image-counts (q .options) time bs (kept-of bs d len fine) in
+      record {
+        streams-few = omega (arith, c .streams, a .amounts .all-streams-few);
+        messages-few = omega (arith, c .messages, a .amounts .messages-few);
+        store-fits = omega (arith, c .bytes, a .amounts .bytes-fit);
+      }

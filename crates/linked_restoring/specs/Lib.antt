@@ -1,0 +1,2 @@
+-- What restoring promises. Assumes nothing.
+pub mod Restore

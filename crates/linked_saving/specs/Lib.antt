@@ -1,0 +1,2 @@
+-- What saving promises. Assumes nothing.
+pub mod Meaning

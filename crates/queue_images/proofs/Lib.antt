@@ -1,0 +1,2 @@
+-- Every saved image is accepted by a new queue created alike.
+pub mod Demand2

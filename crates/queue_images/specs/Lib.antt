@@ -1,0 +1,2 @@
+-- Demand 2 on images, on the words and stores that the calls leave. Assumes nothing.
+pub mod Demand2

@@ -1,0 +1,17 @@
+-- `restoring::message_records::has_flag` meets its contract: each return is what its definition says, by what the calls ensure and the tests taken. Assumes nothing.
+use borrow.Author.Needs.{needs}
+use mathlib.Core.Path.{refl}
+use Rattle.restoring.specs.Messages.{hasFlag}
+use Rattle.restoring.proofs.message_records.has_flag.Statement.{statement}
+use Rattle.restoring.proofs.message_records.has_flag.Tie as tie
+
+returns : tie.Need-returns
+unfolding hasFlag
+returns c = refl
+
+pub has-flag-spec : {M : Type 1} → statement M
+has-flag-spec =
+    tie.close
+    (tie.spec
+    (λ c. search needs)
+    returns)

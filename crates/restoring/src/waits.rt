@@ -1,0 +1,33 @@
+// Restoring, third: "every stream with messages then waits".
+ghost use mathlib.Core.Path.{_≡_};
+ghost use Prim.Native.Nat.{_≤_};
+ghost use Rattle.restoring.specs.Messages.{waitsAt, waitsAll};
+use queue_streams::reschedule;
+use queue_words::QUEUE_WORDS;
+use queue_words::known::Known;
+use queue_words::known::load_known;
+use queue_words::streams::load_stream;
+
+fn wait_at(queue: &mut [u64; QUEUE_WORDS], interleaving: bool, k: Known)
+    ensures { λ _. ⌜ now (queue .exit) ≡ waitsAt interleaving (now (queue .entry)) k ⌝ }
+{
+    if k.place > 255 {
+        return;
+    }
+    let s = load_stream(&*queue, k.place as usize);
+    if s.first < 1024 {
+        reschedule(queue, interleaving, k.id.0, s.first, s.priority);
+    }
+}
+
+pub fn wait_all(queue: &mut [u64; QUEUE_WORDS], interleaving: bool, n: usize)
+    requires { ⌜ n ≤ 256 ⌝ }
+    ensures { λ _. ⌜ now (queue .exit) ≡ waitsAll interleaving (now (queue .entry)) n ⌝ }
+{
+    let mut i = 0;
+    while i < n {
+        let k = load_known(&*queue, i);
+        wait_at(queue, interleaving, k);
+        i += 1;
+    }
+}

@@ -1,0 +1,25 @@
+-- `saving::messages::message_record` meets its contract: each field is what its definition says. Assumes nothing.
+use borrow.Author.Needs.{needs}
+use Rattle.saving.specs.Records.{messageRecord}
+use Rattle.saving.proofs.messages.message_record.Statement.{statement}
+use Rattle.saving.proofs.messages.message_record.Tie as tie
+
+returns : tie.Need-returns
+unfolding messageRecord
+returns c = rw ((c .before .before .before .before .before .before .given .ensures .0), (c .before .before .before .before .before .given2 .ensures .0), (c .before .before .before .before .given3 .ensures .0), (c .before .before .before .ms-left .ensures), (c .before .before .given4 .ensures .0))
+
+pub message-record-spec : {M : Type 1} → statement M
+message-record-spec =
+    tie.close
+    (tie.spec
+    (λ c κs. search needs)
+    (λ c κs. search needs)
+    (λ c κs. search needs)
+    (λ c. search needs)
+    (λ c. search needs)
+    (λ c. search needs)
+    (λ c κs. search needs)
+    (λ c κs. search needs)
+    (λ c. search needs)
+    (λ c. search needs)
+    returns)

@@ -1,0 +1,73 @@
+// Saving: the call.
+ghost use mathlib.Core.Path.{_≡_};
+ghost use mathlib.Core.Bool.{true};
+ghost use Prim.Native.Nat.{_+_, _≤_, _<_};
+ghost use lib.ListN.{length};
+ghost use Rattle.handover_records.specs.Numbers.{wrote};
+ghost use Rattle.saving.specs.Bytes.{imageBytes, imageSize};
+ghost use Rattle.saving.specs.Measure.{tallyQueue};
+ghost use Rattle.saving.specs.Save.{savedAs, saveImage};
+use crate::measuring::Tally;
+use crate::measuring::tally_queue;
+use crate::messages::put_messages;
+use crate::streams::put_streams;
+use handover_records::records::Trailer;
+use handover_records::records::put_trailer;
+use queue_words::QUEUE_WORDS;
+use queue_words::header::load_options;
+use queue_words::header::load_totals;
+
+// The image's length, which stands at the start of the lent buffer, or the refusal's number.
+pub enum Saved {
+    Image(usize),
+    Refused(u8),
+}
+
+// The image of sound words.
+fn put_image(queue: &[u64; QUEUE_WORDS], store: &[u8], image: &mut [u8], time: u64, t: Tally)
+    requires { ⌜ (t ≡ tallyQueue (now queue) (length (now store))) × (t .ok ≡ true) × (imageSize t ≤ length (now image)) ⌝ }
+    ensures { λ _. ⌜ now (image .exit) ≡ wrote (now (image .entry)) 0 (imageBytes (now (queue .entry)) (now (store .entry)) time t) ⌝ }
+{
+    let h = load_totals(queue);
+    let o = load_options(queue);
+    let known = h.known as usize;
+    let behind_streams = put_streams(queue, image, 0, known);
+    let behind = put_messages(queue, store, image, behind_streams, time, known);
+    put_trailer(
+        image,
+        behind,
+        Trailer {
+            next_message_id: h.next_message_id.0,
+            default_priority: o.default_priority,
+            streams: t.streams as u16,
+            messages: t.messages as u16,
+            form: 1,
+            messages_size: t.bytes as u32,
+            streams_size: (t.streams * 14) as u32,
+        },
+    );
+}
+
+// Saves the queue at a time. A refused call leaves the buffer as it was; so do the places past the image stay.
+pub fn save(queue: &[u64; QUEUE_WORDS], store: &[u8], image: &mut [u8], time: u64) -> Saved
+    ensures { λ r. ⌜ savedAs r (now (image .exit)) ≡ saveImage (now (queue .entry)) (now (store .entry)) (now (image .entry)) time ⌝ }
+{
+    let len = store.len() as u64;
+    let o = load_options(queue);
+    if len != o.store_length {
+        return Saved::Refused(2);
+    }
+    if time > 4611686018427387903 {
+        return Saved::Refused(4);
+    }
+    let t = tally_queue(queue, len);
+    if t.ok {
+        let size = t.streams * 14 + t.bytes + 20;
+        if (image.len() as u64) < size {
+            return Saved::Refused(11);
+        }
+        put_image(queue, store, image, time, t);
+        return Saved::Image(size as usize);
+    }
+    Saved::Refused(16)
+}
