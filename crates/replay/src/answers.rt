@@ -1,4 +1,5 @@
 // One line of the trace: the call, its answer line, and what is settled after it.
+use crate::changeover::answer_changeover;
 use crate::lent::lent_add;
 use crate::lent::lent_create;
 use crate::lent::lent_event_call;
@@ -19,8 +20,16 @@ use crate::settle::settle_no_events;
 use crate::settle::settle_store;
 use crate::settle::settle_words;
 use crate::state::BUFFER;
+use crate::state::CHOICE;
+use crate::state::CREATED_HANDOVER;
+use crate::state::CREATED_LIMIT;
+use crate::state::CREATED_PRIORITY;
+use crate::state::CREATED_STORE;
+use crate::state::CREATED_THRESHOLD;
+use crate::state::CREATED_TOTAL;
 use crate::state::EVENT_WORDS;
 use crate::state::FRAGMENT;
+use crate::state::IMAGE;
 use crate::state::LENT_EVENTS;
 use crate::state::LENT_FRAGMENT;
 use crate::state::LENT_IMAGE;
@@ -53,13 +62,23 @@ use queue_streams::Flag;
 use queue_streams::Number;
 use queue_words::QUEUE_WORDS;
 
-// "At each `n` they are 2305, 262144, 2100000 and the creation length." After a refused one there is no queue.
-fn begin(state: &mut [u64; STATE], refusal: u64) {
+// "At each `n` they are 2305, 262144, 2100000 and the creation length." Interleaving is off.
+fn begin(state: &mut [u64; STATE]) {
     state[LENT_EVENTS] = 2305;
     state[LENT_FRAGMENT] = 262144;
     state[LENT_IMAGE] = 2100000;
     state[LENT_STORE] = state[1];
-    state[QUEUES] = bit(refusal == 0);
+    state[CHOICE] = 0;
+}
+
+// The arguments of creation, which a queue alike is created with.
+fn keep_arguments(state: &mut [u64; STATE]) {
+    state[CREATED_LIMIT] = state[0];
+    state[CREATED_STORE] = state[1];
+    state[CREATED_PRIORITY] = state[2];
+    state[CREATED_THRESHOLD] = state[3];
+    state[CREATED_TOTAL] = state[4];
+    state[CREATED_HANDOVER] = state[5];
 }
 
 fn answer_create(
@@ -70,11 +89,13 @@ fn answer_create(
     output: &mut [u8; BUFFER],
     state: &mut [u64; STATE],
 ) {
-    clear_store(store);
-    clear_store(kept_store);
+    begin(state);
+    keep_arguments(state);
+    clear_store(store, 2100000);
+    clear_store(kept_store, 2100000);
     let c = lent_create(queue, &*store, &*state);
     let refusal = refusal_of(c);
-    begin(state, refusal);
+    state[QUEUES] = bit(refusal == 0);
     put_answer(output, state, b'n', refusal);
     settle_no_events(events_of(c), output, state);
     settle_words(&*queue, kept, refusal, output, state);
@@ -219,6 +240,13 @@ fn answer_event_call(
     settle_words(&*queue, kept, refusal, output, state);
 }
 
+// The choice is kept for a queue alike.
+fn keep_choice(state: &mut [u64; STATE], letter: u8) {
+    if letter == b'i' {
+        state[CHOICE] = state[0];
+    }
+}
+
 fn answer_plain(
     queue: &mut [u64; QUEUE_WORDS],
     kept: &mut [u64; QUEUE_WORDS],
@@ -228,6 +256,7 @@ fn answer_plain(
     let c = plain_call(queue, &*state);
     let refusal = refusal_of(c);
     let letter = low8(state[LETTER]);
+    keep_choice(state, letter);
     put_answer(output, state, letter, refusal);
     settle_no_events(events_of(c), output, state);
     settle_words(&*queue, kept, refusal, output, state);
@@ -310,6 +339,7 @@ pub fn answer(
     events: &mut [u64; EVENT_WORDS],
     fragment: &mut [u8; FRAGMENT],
     payload: &mut [u8; PAYLOAD],
+    image: &mut [u8; IMAGE],
     output: &mut [u8; BUFFER],
     state: &mut [u64; STATE],
 ) {
@@ -322,6 +352,7 @@ pub fn answer(
         b'd' | b'c' | b't' => answer_event_call(queue, kept, events, output, state),
         b'g' => answer_ready(queue, kept, output, state),
         b'q' => answer_questions(&*queue, output, state),
-        _ => answer_plain(queue, kept, output, state),
+        b'k' | b'b' | b'r' | b'y' | b'i' => answer_plain(queue, kept, output, state),
+        _ => answer_changeover(queue, kept, store, kept_store, image, output, state),
     }
 }

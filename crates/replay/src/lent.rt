@@ -1,13 +1,22 @@
 // The calls, each with the lengths that the trace says: a part of an array is lent.
 use crate::payload::fill;
+use crate::state::CREATED_HANDOVER;
+use crate::state::CREATED_LIMIT;
+use crate::state::CREATED_PRIORITY;
+use crate::state::CREATED_STORE;
+use crate::state::CREATED_THRESHOLD;
+use crate::state::CREATED_TOTAL;
+use crate::state::IMAGE_LENGTH;
 use crate::state::LENT_EVENTS;
 use crate::state::LENT_FRAGMENT;
+use crate::state::LENT_IMAGE;
 use crate::state::LENT_STORE;
 use crate::state::LETTER;
 use crate::state::STATE;
 use crate::state::low8;
 use crate::state::low16;
 use crate::state::low32;
+use handover::restore;
 use queue_closing::prepare_reset_stream;
 use queue_messages::Lifetime;
 use queue_messages::MaxRetransmissions;
@@ -25,6 +34,8 @@ use queue_streams::rollback_reset_streams;
 use queue_streams::set_buffered_amount_low_threshold;
 use queue_streams::set_priority;
 use queue_words::QUEUE_WORDS;
+use saving::Saved;
+use saving::save;
 use types::StreamId;
 
 // What the program itself answers where an array is shorter than the length asked for, which no trace asks.
@@ -39,18 +50,18 @@ fn event_words(places: u64) -> usize {
 }
 
 pub fn lent_create(queue: &mut [u64; QUEUE_WORDS], store: &[u8], state: &[u64; STATE]) -> Call {
-    let n = state[1] as usize;
+    let n = state[CREATED_STORE] as usize;
     if n > store.len() {
         return Call::Refused(TOO_SHORT);
     }
     create(
         queue,
         &store[0..n],
-        state[0],
-        low16(state[2]),
-        state[3],
-        state[4],
-        state[5] == 1,
+        state[CREATED_LIMIT],
+        low16(state[CREATED_PRIORITY]),
+        state[CREATED_THRESHOLD],
+        state[CREATED_TOTAL],
+        state[CREATED_HANDOVER] == 1,
     )
 }
 
@@ -164,6 +175,42 @@ pub fn lent_event_call(
         return Call::Refused(TOO_SHORT);
     }
     event_call(queue, &mut events[0..words], state)
+}
+
+// Restores the current image.
+pub fn lent_restore(
+    queue: &mut [u64; QUEUE_WORDS],
+    store: &mut [u8],
+    image: &[u8],
+    state: &[u64; STATE],
+) -> Call {
+    let n = state[LENT_STORE] as usize;
+    if n > store.len() {
+        return Call::Refused(TOO_SHORT);
+    }
+    let length = state[IMAGE_LENGTH] as usize;
+    if length > image.len() {
+        return Call::Refused(TOO_SHORT);
+    }
+    restore(queue, &mut store[0..n], state[0], &image[0..length])
+}
+
+// Saves to a buffer, which is not the current image.
+pub fn lent_save(
+    queue: &[u64; QUEUE_WORDS],
+    store: &[u8],
+    buffer: &mut [u8],
+    state: &[u64; STATE],
+) -> Saved {
+    let n = state[LENT_STORE] as usize;
+    if n > store.len() {
+        return Saved::Refused(TOO_SHORT);
+    }
+    let room = state[LENT_IMAGE] as usize;
+    if room > buffer.len() {
+        return Saved::Refused(TOO_SHORT);
+    }
+    save(queue, &store[0..n], &mut buffer[0..room], state[0])
 }
 
 // The calls that are lent nothing but the queue.

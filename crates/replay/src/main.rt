@@ -1,6 +1,8 @@
 // Runs a trace of calls, read from standard input, on the send queue, and writes the answers. Where the queue breaks what a
 // trace cannot show, or a line is malformed, a line of the answers begins with BROKEN.
 mod answers;
+mod changeover;
+mod image;
 mod input;
 mod lent;
 mod marks;
@@ -15,8 +17,8 @@ use answers::answer;
 use input::BAD_LINE;
 use input::NO_LINE;
 use input::read_line;
+use marks::mark_bytes;
 use marks::mark_events;
-use marks::mark_fragment;
 use output::flush;
 use output::put_broken;
 use parse::parse;
@@ -25,6 +27,7 @@ use ranges::is_call;
 use state::BUFFER;
 use state::EVENT_WORDS;
 use state::FRAGMENT;
+use state::IMAGE;
 use state::LINE;
 use state::LINE_BYTES;
 use state::PAYLOAD;
@@ -79,6 +82,7 @@ fn run(
     events: &mut [u64; EVENT_WORDS],
     fragment: &mut [u8; FRAGMENT],
     payload: &mut [u8; PAYLOAD],
+    image: &mut [u8; IMAGE],
     input: &mut [u8; BUFFER],
     output: &mut [u8; BUFFER],
     state: &mut [u64; STATE],
@@ -97,11 +101,16 @@ fn run(
             events,
             fragment,
             payload,
+            image,
             output,
             state,
         );
         left -= 1;
     }
+}
+
+fn mark_fragment(fragment: &mut [u8; FRAGMENT]) {
+    mark_bytes(fragment, 300000);
 }
 
 fn main() {
@@ -112,11 +121,12 @@ fn main() {
     let mut events = [0u64; EVENT_WORDS];
     let mut fragment = [0u8; FRAGMENT];
     let mut payload = [0u8; PAYLOAD];
+    let mut image = [0u8; IMAGE];
     let mut input = [0u8; BUFFER];
     let mut output = [0u8; BUFFER];
     let mut state = [0u64; STATE];
     mark_events(&mut events, EVENT_WORDS);
-    mark_fragment(&mut fragment, FRAGMENT);
+    mark_fragment(&mut fragment);
     run(
         &mut queue,
         &mut kept,
@@ -125,6 +135,7 @@ fn main() {
         &mut events,
         &mut fragment,
         &mut payload,
+        &mut image,
         &mut input,
         &mut output,
         &mut state,

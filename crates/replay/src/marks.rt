@@ -2,10 +2,9 @@
 ghost use mathlib.Core.Bool.{true};
 ghost use mathlib.Core.Path.{_≡_};
 ghost use Prim.Native.Nat.{ℕ, _≤_, _<_};
-ghost use lib.ListN.{getD};
+ghost use lib.ListN.{length, getD};
 ghost use Rattle.replay.specs.Marks.{eventMark, byteMark};
 use crate::state::EVENT_WORDS;
-use crate::state::FRAGMENT;
 use crate::state::STORE;
 use queue_words::QUEUE_WORDS;
 use queue_words::whole;
@@ -48,25 +47,25 @@ pub fn events_marked(events: &[u64; EVENT_WORDS], from: usize) -> bool
     true
 }
 
-// The same for the fragment buffer. Its check goes through all bytes, so that it can take many at a time.
-pub fn mark_fragment(fragment: &mut [u8; FRAGMENT], n: usize) {
+// The same for the fragment buffer and the image buffer. The check goes through all bytes, so that it can take many at a time.
+pub fn mark_bytes(buffer: &mut [u8], n: usize) {
     let mut i = 0;
-    while i < 300000 {
+    while i < buffer.len() {
         if i >= n {
             return;
         }
-        fragment[i] = byte_mark(i);
+        buffer[i] = byte_mark(i);
         i += 1;
     }
 }
 
-pub fn fragment_marked(fragment: &[u8; FRAGMENT], from: usize) -> bool
-    ensures { λ r. ⌜ (r ≡ true → (k : ℕ) → k < 300000 → from ≤ k → getD (now (fragment .entry)) k 0 ≡ byteMark k) ⌝ }
+pub fn bytes_marked(buffer: &[u8], from: usize) -> bool
+    ensures { λ r. ⌜ (r ≡ true → (k : ℕ) → k < length (now (buffer .entry)) → from ≤ k → getD (now (buffer .entry)) k 0 ≡ byteMark k) ⌝ }
 {
     let mut strays: u8 = 0;
     let mut i = from;
-    while i < 300000 {
-        if fragment[i] != byte_mark(i) {
+    while i < buffer.len() {
+        if buffer[i] != byte_mark(i) {
             strays = 1;
         }
         i += 1;
@@ -114,12 +113,16 @@ pub fn keep_store(store: &[u8; STORE], kept: &mut [u8; STORE], n: usize) {
     }
 }
 
-pub fn store_same(store: &[u8; STORE], kept: &[u8; STORE]) -> bool
-    ensures { λ r. ⌜ (r ≡ true → (k : ℕ) → k < 2100000 → getD (now (store .entry)) k 0 ≡ getD (now (kept .entry)) k 0) ⌝ }
+// Whether those are the same.
+pub fn store_same(store: &[u8; STORE], kept: &[u8; STORE], n: usize) -> bool
+    ensures { λ r. ⌜ (r ≡ true → (k : ℕ) → k < n → getD (now (store .entry)) k 0 ≡ getD (now (kept .entry)) k 0) ⌝ }
 {
+    if n > 2100000 {
+        return false;
+    }
     let mut strays: u8 = 0;
     let mut i = 0;
-    while i < 2100000 {
+    while i < n {
         if store[i] != kept[i] {
             strays = 1;
         }
@@ -128,9 +131,13 @@ pub fn store_same(store: &[u8; STORE], kept: &[u8; STORE]) -> bool
     strays == 0
 }
 
-pub fn clear_store(store: &mut [u8; STORE]) {
+// Zeros in their place.
+pub fn clear_store(store: &mut [u8; STORE], n: usize) {
+    if n > 2100000 {
+        return;
+    }
     let mut i = 0;
-    while i < 2100000 {
+    while i < n {
         store[i] = 0;
         i += 1;
     }

@@ -19,8 +19,8 @@ const NO_CALL: u64 = 99;
 fn count_of(letter: u8) -> u64 {
     match letter {
         b'g' | b'k' | b'b' | b'r' => 0,
-        b'c' | b'i' | b'q' => 1,
-        b'p' | b'd' | b't' | b'y' => 2,
+        b'c' | b'i' | b'q' | b's' | b'o' | b'w' | b'l' => 1,
+        b'p' | b'd' | b't' | b'y' | b'h' | b'x' => 2,
         b'v' => 4,
         b'n' => 6,
         b'a' => 11,
@@ -70,6 +70,13 @@ fn most_threshold(k: usize) -> u64 {
     }
 }
 
+fn most_change(k: usize) -> u64 {
+    match k {
+        0 => ANY,
+        _ => 255,
+    }
+}
+
 fn most(letter: u8, k: usize) -> u64 {
     match letter {
         b'n' => most_new(k),
@@ -79,6 +86,8 @@ fn most(letter: u8, k: usize) -> u64 {
         b't' => most_threshold(k),
         b'c' | b'q' | b'y' => BITS16,
         b'i' => FLAG,
+        b'x' => most_change(k),
+        b'l' => 2100000,
         _ => ANY,
     }
 }
@@ -86,7 +95,7 @@ fn most(letter: u8, k: usize) -> u64 {
 // Whether the line may come while there is no queue.
 fn needs_no_queue(letter: u8) -> bool {
     match letter {
-        b'n' | b'v' => true,
+        b'n' | b'v' | b'h' | b'x' | b'l' => true,
         _ => false,
     }
 }

@@ -1,10 +1,10 @@
 // What is settled after each call: "places past what a call writes stay unchanged", and "a refused call changes nothing".
+use crate::marks::bytes_marked;
 use crate::marks::events_marked;
-use crate::marks::fragment_marked;
 use crate::marks::keep_store;
 use crate::marks::keep_words;
+use crate::marks::mark_bytes;
 use crate::marks::mark_events;
-use crate::marks::mark_fragment;
 use crate::marks::store_same;
 use crate::marks::words_same;
 use crate::output::put_broken;
@@ -13,6 +13,7 @@ use crate::output::put_number;
 use crate::state::BUFFER;
 use crate::state::EVENT_WORDS;
 use crate::state::FRAGMENT;
+use crate::state::IMAGE;
 use crate::state::LENT_STORE;
 use crate::state::STATE;
 use crate::state::STORE;
@@ -62,7 +63,7 @@ pub fn settle_words(
     keep_words(queue, kept);
 }
 
-// The store, the same way.
+// The part of the store that was lent, the same way. A call has no other.
 pub fn settle_store(
     store: &[u8; STORE],
     kept: &mut [u8; STORE],
@@ -70,16 +71,17 @@ pub fn settle_store(
     output: &mut [u8; BUFFER],
     state: &mut [u64; STATE],
 ) {
+    let n = state[LENT_STORE] as usize;
     if refusal == 0 {
-        keep_store(store, kept, state[LENT_STORE] as usize);
+        keep_store(store, kept, n);
         return;
     }
-    let same = store_same(store, &*kept);
+    let same = store_same(store, &*kept, n);
     if same {
         return;
     }
     put_broken(output, state, b"store changed at a refusal");
-    keep_store(store, kept, 2100000);
+    keep_store(store, kept, n);
 }
 
 // A call that is lent no event list reports no event.
@@ -141,14 +143,28 @@ pub fn settle_fragment(
 ) {
     if n > 300000 {
         put_broken(output, state, b"fragment longer than its buffer");
-        mark_fragment(fragment, 300000);
+        mark_bytes(fragment, 300000);
         return;
     }
-    let marked = fragment_marked(&*fragment, n as usize);
+    let marked = bytes_marked(&*fragment, n as usize);
     if marked {
-        mark_fragment(fragment, n as usize);
+        mark_bytes(fragment, n as usize);
         return;
     }
     put_broken(output, state, b"fragment buffer changed past the fragment");
-    mark_fragment(fragment, 300000);
+    mark_bytes(fragment, 300000);
+}
+
+// The image buffer: n bytes, and then nothing but marks.
+pub fn settle_image(
+    buffer: &[u8; IMAGE],
+    n: usize,
+    output: &mut [u8; BUFFER],
+    state: &mut [u64; STATE],
+) {
+    let marked = bytes_marked(buffer, n);
+    if marked {
+        return;
+    }
+    put_broken(output, state, b"image buffer changed past the image");
 }

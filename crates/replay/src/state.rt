@@ -9,6 +9,9 @@
 //     18          1 if there is a queue
 //     19          bytes waiting in the output buffer
 //     20 to 21    the next byte of the input buffer, and where its bytes end
+//     22          the length of the current image
+//     23 to 28    the numbers of the line that created the queue
+//     29          the interleaving choice, 0 or 1
 pub const STATE: usize = 32;
 
 pub const NUMBERS: usize = 11;
@@ -35,6 +38,22 @@ pub const INPUT_AT: usize = 20;
 
 pub const INPUT_END: usize = 21;
 
+pub const IMAGE_LENGTH: usize = 22;
+
+pub const CREATED_LIMIT: usize = 23;
+
+pub const CREATED_STORE: usize = 24;
+
+pub const CREATED_PRIORITY: usize = 25;
+
+pub const CREATED_THRESHOLD: usize = 26;
+
+pub const CREATED_TOTAL: usize = 27;
+
+pub const CREATED_HANDOVER: usize = 28;
+
+pub const CHOICE: usize = 29;
+
 // The lengths of the arrays.
 pub const EVENT_WORDS: usize = 8192;
 
@@ -43,6 +62,8 @@ pub const FRAGMENT: usize = 300000;
 pub const PAYLOAD: usize = 300000;
 
 pub const STORE: usize = 2100000;
+
+pub const IMAGE: usize = 2100000;
 
 pub const LINE_BYTES: usize = 512;
 

@@ -5,10 +5,10 @@ use Rattle.replay.proofs.marks.clear_store.Statement.{statement}
 use Rattle.replay.proofs.marks.clear_store.Tie as tie
 
 abbrev Inv-loop : tie.InvT-loop
-Inv-loop store₀ i₀ store i = Unit {0}
+Inv-loop store₀ n i₀ store i = Unit {0}
 
 abbrev μ-loop : tie.MeasureT-loop
-μ-loop store₀ i₀ store i = 2100000 - i
+μ-loop store₀ n i₀ store i = n - i
 
 pub clear-store-spec : {M : Type 1} → statement M
-clear-store-spec = tie.close (tie.spec Inv-loop μ-loop (λ c. search needs) (λ c. search needs) (λ c. search needs) (λ c. search needs) (λ c. search needs) (λ c. search needs))
+clear-store-spec = tie.close (tie.spec Inv-loop μ-loop (λ c. search needs) (λ c. search needs) (λ c. search needs) (λ c. search needs) (λ c. search needs) (λ c. search needs) (λ c. search needs))

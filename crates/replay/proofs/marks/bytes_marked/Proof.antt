@@ -1,4 +1,4 @@
--- `replay::marks::fragment_marked` meets its contract: without strays each byte passed has its mark. Assumes nothing.
+-- `replay::marks::bytes_marked` meets its contract: without strays each byte passed has its mark. Assumes nothing.
 use mathlib.Core.Logic.{⊎-elim}
 use mathlib.Core.Path.{_≡_, sym, _∙_}
 use Prim.Native.Nat.{ℕ, _-_, _≤_, _<_}
@@ -6,16 +6,16 @@ use native.Mathlib.Omega.{arith}
 use borrow.Author.Count.{below-more}
 use borrow.Author.Needs.{needs}
 use borrow.Author.Tests.{eqb-true}
-use lib.ListN.{getD}
+use lib.ListN.{length, getD}
 use Rattle.replay.specs.Marks.{byteMark}
-use Rattle.replay.proofs.marks.fragment_marked.Statement.{statement}
-use Rattle.replay.proofs.marks.fragment_marked.Tie as tie
+use Rattle.replay.proofs.marks.bytes_marked.Statement.{statement}
+use Rattle.replay.proofs.marks.bytes_marked.Tie as tie
 
 abbrev Inv-loop : tie.InvT-loop
-Inv-loop fragment from strays₀ i₀ strays i = strays ≡ 0 → (k : ℕ) → k < i → from ≤ k → getD fragment k 0 ≡ byteMark k
+Inv-loop buffer from strays₀ i₀ strays i = strays ≡ 0 → (k : ℕ) → k < i → from ≤ k → getD buffer k 0 ≡ byteMark k
 
 abbrev μ-loop : tie.MeasureT-loop
-μ-loop fragment from strays₀ i₀ strays i = 300000 - i
+μ-loop buffer from strays₀ i₀ strays i = length buffer - i
 
 loop-holds : tie.Need-loop-holds Inv-loop μ-loop
 loop-holds c = λ z k h f. absurd (omega arith)
@@ -31,5 +31,5 @@ loop-again c =
 returns : tie.Need-returns Inv-loop μ-loop
 returns c = λ e k h f. c .before .loop .inv (eqb-true _ _ e) k (omega arith) f
 
-pub fragment-marked-spec : {M : Type 1} → statement M
-fragment-marked-spec = tie.close (tie.spec Inv-loop μ-loop loop-holds (λ c. search needs) (λ c κs. search needs) (λ c. search needs) (λ c. search needs) loop-again returns)
+pub bytes-marked-spec : {M : Type 1} → statement M
+bytes-marked-spec = tie.close (tie.spec Inv-loop μ-loop loop-holds (λ c. search needs) (λ c κs. search needs) (λ c. search needs) (λ c. search needs) loop-again returns)
