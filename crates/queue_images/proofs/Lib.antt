@@ -1,2 +1,3 @@
 -- Every saved image is accepted by a new queue created alike.
 pub mod Demand2
+pub mod Stays

@@ -1,6 +1,7 @@
 -- Demand 3, on the words and the store that the calls leave. Assumes nothing.
 use mathlib.Core.Path.{_≡_, refl, sym, ap, subst, _∙_}
 use mathlib.Core.Logic.{_↔_}
+use mathlib.Core.Bool.{true, false}
 use mathlib.Core.List.{List, []}
 use Prim.Native.Nat.{ℕ}
 use native.Mathlib.Omega.{arith}
@@ -12,12 +13,12 @@ use Rattle.queue_model.specs.Restore as image
 use Rattle.queue_model.specs.Demands as demands
 use Rattle.queue_model.specs.Demands.{Reachable, Indistinguishable}
 use Rattle.queue_model.proofs.Demand3.Theorem as model
-use Rattle.queue_streams.specs.declared.answers.Call.the-variants.{Accepted}
 use Rattle.queue_state.proofs.Singles.{model-interleaving}
-use Rattle.queue_runs.specs.Calls.{restore, called}
+use Rattle.queue_runs.specs.Calls.{restore}
 use Rattle.queue_runs.specs.Run.{State, after}
 use Rattle.queue_runs.specs.Meaning.{queueOf, Good, quietOf, SameShown}
 use Rattle.queue_runs.specs.Creation.{Arguments, optionsWith, newState}
+use Rattle.queue_runs.specs.Refusals.{refusal}
 use Rattle.queue_runs.specs.Demand3.{Reached, Accepts, restored, Demand3}
 use Rattle.queue_runs.proofs.Steps.{step-link, meant, store-same}
 use Rattle.queue_runs.proofs.Runs.{run-link}
@@ -43,8 +44,8 @@ stands a len s r =
 
 -- ------------------------------------------------------------------ accepted images
 
--- A call that answers that it is accepted is done.
-accepted-done : (o : Outcome) → Quiet o → quietOf o .answer ≡ called (Accepted 0) → o ≡ told done []
+-- A call that is not refused is done.
+accepted-done : (o : Outcome) → Quiet o → refusal (quietOf o .answer) ≡ false → o ≡ told done []
 accepted-done o (quiet-refused n) e = let z : _≡_ {A = ℕ} 0 1 = cc in absurd (omega arith)
 accepted-done o quiet-done e = refl
 
@@ -57,7 +58,7 @@ restores time i s g h =
     let k = step-link (restore time i) s g (h .typed) in
     let len : ℕ = length (s .store) in
     let x : plain.Step = meant (restore time i) s in
-    let o : x .outcome ≡ told done [] = accepted-done (x .outcome) (form-of (run.restore len time i) (queueOf s)) (ap (λ y. y .answer) (sym (k .shows-are)) ∙ h .accepted) in
+    let o : x .outcome ≡ told done [] = accepted-done (x .outcome) (form-of (run.restore len time i) (queueOf s)) (ap (λ y. refusal (y .answer)) (sym (k .shows-are)) ∙ h .accepted) in
     let e : x ≡ reply done [] (queueOf (restored time i s)) = λ j. record { outcome = o j; next = sym (k .next-is) j } in
     record {
       bytes = h .typed .1 .1;

@@ -10,3 +10,4 @@ pub mod Translates
 pub mod Alike
 pub mod Demand3
 pub mod Stays
+pub mod Ties

@@ -1,15 +1,16 @@
 -- Demand 3, on the words and the store that the calls leave. Assumes nothing.
 use Prim.Native.Nat.{ℕ, _≤_}
 use mathlib.Core.Path.{_≡_}
+use mathlib.Core.Bool.{false}
 use mathlib.Core.Logic.{_↔_}
 use mathlib.Core.List.{List}
 use lib.ListN.{length}
 use Rattle.queue_words.specs.Header.{totalsAt}
-use Rattle.queue_streams.specs.declared.answers.Call.the-variants.{Accepted}
-use Rattle.queue_runs.specs.Calls.{Call, restore, Typed, called}
+use Rattle.queue_runs.specs.Calls.{Call, restore, Typed}
 use Rattle.queue_runs.specs.Run.{State, step, after}
 use Rattle.queue_runs.specs.Creation.{Arguments, newState, Creates}
 use Rattle.queue_runs.specs.Meaning.{AllTyped, SameShown}
+use Rattle.queue_runs.specs.Refusals.{refusal}
 
 -- A queue that creation with these arguments and a store of this length, in any words and with any bytes in the store, and then calls lead to. (Saving changes nothing.)
 pub record Reached (a : Arguments) (len : ℕ) (s : State) : Type 0 where
@@ -23,7 +24,7 @@ pub record Reached (a : Arguments) (len : ℕ) (s : State) : Type 0 where
 -- "An image is accepted when restoring it is not refused".
 pub record Accepts (time : ℕ) (image : List ℕ) (s : State) : Type 0 where
   pub typed : Typed (restore time image)
-  pub accepted : step (restore time image) s .shows .answer ≡ called (Accepted 0)
+  pub accepted : refusal (step (restore time image) s .shows .answer) ≡ false
 
 -- The queue restored from it.
 abbrev pub restored : ℕ → List ℕ → State → State

@@ -3,5 +3,5 @@ pub mod Calls
 pub mod Run
 pub mod Meaning
 pub mod Creation
-pub mod Demand3
 pub mod Refusals
+pub mod Demand3
