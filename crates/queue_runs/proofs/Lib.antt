@@ -11,3 +11,5 @@ pub mod Alike
 pub mod Demand3
 pub mod Stays
 pub mod Ties
+pub mod Listed
+pub mod OtherStore

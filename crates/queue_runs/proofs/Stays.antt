@@ -42,7 +42,7 @@ use Rattle.queue_runs.specs.Calls.{add, produce, discard, close, ready-i
 use Rattle.queue_runs.specs.Run.{State, state, step}
 use Rattle.queue_runs.specs.Refusals.{callRefused, sentRefused, RefusedUnchanged}
 
-not-refused : {G : Type 0} → false ≡ true → G
+pub not-refused : {G : Type 0} → false ≡ true → G
 not-refused e = let z : _≡_ {A = ℕ} 0 1 = cc in absurd (omega arith)
 
 -- ---- calls that leave words

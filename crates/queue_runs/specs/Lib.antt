@@ -5,3 +5,4 @@ pub mod Meaning
 pub mod Creation
 pub mod Refusals
 pub mod Demand3
+pub mod Numbers

@@ -1,0 +1,112 @@
+-- The numbers with which each call can be refused, on any words at all. Assumes nothing.
+use Prim.Native.Nat.{ℕ}
+use mathlib.Core.Path.{_≡_}
+use mathlib.Core.Bool.{Bool, true, false}
+use mathlib.Core.List.{List, [], _∷_}
+use lib.Dec.{eqb}
+use lib.ListN.{length}
+use Rattle.queue_words.specs.Flags.{pick}
+use Rattle.queue_words.specs.Header.{optionsAt}
+use Rattle.queue_streams.specs.declared.answers.Call as answer
+use Rattle.queue_streams.specs.declared.answers.Call.the-variants as call
+use Rattle.queue_streams.specs.declared.answers.Flag.{Flag}
+use Rattle.queue_streams.specs.declared.answers.Flag.the-variants as flags
+use Rattle.queue_streams.specs.declared.answers.Number.{Number}
+use Rattle.queue_streams.specs.declared.answers.Number.the-variants as numbers
+use Rattle.queue_sending.specs.declared.data.Produced.{Produced}
+use Rattle.queue_sending.specs.declared.data.Produced.the-variants as produced
+use Rattle.queue_runs.specs.Calls.{Call, add, produce, discard, close, ready-ids, commit, rollback, reset, set-threshold, set-priority, set-interleaving, restore, ask-priority, ask-amount, ask-threshold, ask-total, ask-empty, ask-has-data, ask-streams-ready, ask-readiness, Answer, called, sent, readied, number, flag, count, truth}
+use Rattle.queue_runs.specs.Run.{State, step}
+use Rattle.queue_runs.specs.Refusals.{refusal}
+
+-- ------------------------------------------------------------------ the number of a refusal
+
+abbrev pub callNumber : answer.Call → ℕ
+callNumber (call.Accepted k) = 0
+callNumber (call.Refused n) = n
+
+abbrev pub sentNumber : Produced → ℕ
+sentNumber (produced.Nothing k) = 0
+sentNumber (produced.Fragment k d) = 0
+sentNumber (produced.Refused n) = n
+
+abbrev pub askedNumber : Number → ℕ
+askedNumber (numbers.Value n) = 0
+askedNumber (numbers.Refused n) = n
+
+abbrev pub flagNumber : Flag → ℕ
+flagNumber (flags.Value b) = 0
+flagNumber (flags.Refused n) = n
+
+-- The number of a refusal, 0 where the answer is none.
+abbrev pub refusalNumber : Answer → ℕ
+refusalNumber (called a) = callNumber a
+refusalNumber (sent a) = sentNumber a
+refusalNumber (readied r) = callNumber (r .answer)
+refusalNumber (number a) = askedNumber a
+refusalNumber (flag a) = flagNumber a
+refusalNumber (count n) = 0
+refusalNumber (truth b) = 0
+
+-- ------------------------------------------------------------------ the numbers of a call
+
+-- Document 01's list, for each call: the refusals that can apply to it.
+abbrev pub listed : Call → List ℕ
+listed (add time m payload) = 2 ∷ 4 ∷ 5 ∷ 6 ∷ 7 ∷ 8 ∷ 16 ∷ []
+listed (produce es bs time size) = 2 ∷ 3 ∷ 4 ∷ 9 ∷ 10 ∷ 16 ∷ []
+listed (discard es id k) = 3 ∷ 16 ∷ []
+listed (close es id) = 3 ∷ 6 ∷ 16 ∷ []
+listed ready-ids = 16 ∷ []
+listed commit = 16 ∷ []
+listed rollback = 16 ∷ []
+listed reset = 16 ∷ []
+listed (set-threshold es id t) = 3 ∷ 6 ∷ 16 ∷ []
+listed (set-priority id p) = 6 ∷ 16 ∷ []
+listed (set-interleaving b) = 16 ∷ []
+listed (restore time image) = 2 ∷ 4 ∷ 12 ∷ 13 ∷ 14 ∷ 15 ∷ []
+listed (ask-priority id) = 16 ∷ []
+listed (ask-amount id) = 16 ∷ []
+listed (ask-threshold id) = 16 ∷ []
+listed ask-total = []
+listed ask-empty = []
+listed ask-has-data = 16 ∷ []
+listed ask-streams-ready = 16 ∷ []
+listed ask-readiness = []
+
+-- Whether a number stands in a list.
+abbrev pub among : ℕ → List ℕ → Bool
+among n [] = false
+among n (k ∷ ks) = pick (eqb n k) true (among n ks)
+
+-- A refused call gives a number of its list.
+abbrev pub RefusalsListed : Type 0
+RefusalsListed = (c : Call) (s : State) → refusal (step c s .shows .answer) ≡ true → among (refusalNumber (step c s .shows .answer)) (listed c) ≡ true
+
+-- ------------------------------------------------------------------ a store of another length
+
+-- Whether a call is lent the store.
+abbrev pub takesStore : Call → Bool
+takesStore (add time m payload) = true
+takesStore (produce es bs time size) = true
+takesStore (discard es id k) = false
+takesStore (close es id) = false
+takesStore ready-ids = false
+takesStore commit = false
+takesStore rollback = false
+takesStore reset = false
+takesStore (set-threshold es id t) = false
+takesStore (set-priority id p) = false
+takesStore (set-interleaving b) = false
+takesStore (restore time image) = true
+takesStore (ask-priority id) = false
+takesStore (ask-amount id) = false
+takesStore (ask-threshold id) = false
+takesStore ask-total = false
+takesStore ask-empty = false
+takesStore ask-has-data = false
+takesStore ask-streams-ready = false
+takesStore ask-readiness = false
+
+-- 2: "The store is [..] not of its creation length later": such a call is refused with 2, whatever its other arguments.
+abbrev pub OtherStore : Type 0
+OtherStore = (c : Call) (s : State) → takesStore c ≡ true → (optionsAt (s .words) .«store_length» ≡ length (s .store) → ⊥) → refusalNumber (step c s .shows .answer) ≡ 2
