@@ -14,7 +14,7 @@ use Rattle.payload_store.specs.Putting.{putCode, putPayload, placed}
 use Rattle.payload_store.proofs.Cases.{by-lt}
 use Rattle.payload_store.proofs.Puts.{put-law}
 use Rattle.stream_scheduler.specs.Link.{Room, listed, free, entryAt}
-use Rattle.stream_scheduler.specs.Rows.{seek}
+use Rattle.active_table.specs.Rows.{seek}
 use Rattle.stream_scheduler.specs.Words.{waitsIn}
 use Rattle.stream_scheduler.proofs.Search.{Sought, hit, miss, sought}
 use Rattle.queue_state.specs.Chains.{Linked, total}

@@ -18,7 +18,7 @@ use Rattle.queue_model.specs.Types.{Active}
 use Rattle.queue_model.specs.Scheduler.{active-key, find-active, put-active}
 use Rattle.queue_model.proofs.Table.{Rising, rising-put, find-put-other, sum-put-new, length-sum}
 use Rattle.stream_scheduler.specs.Link.{entryAt, tableOf}
-use Rattle.stream_scheduler.specs.Rows.{seek}
+use Rattle.active_table.specs.Rows.{seek}
 use Rattle.stream_scheduler.specs.Words.{waitsIn}
 use Rattle.stream_scheduler.proofs.Index.{rising-table, table-none}
 use Rattle.stream_scheduler.proofs.Search.{Sought, hit, miss, sought}

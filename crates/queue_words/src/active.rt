@@ -57,24 +57,6 @@ pub fn store_active(queue: &mut [u64; QUEUE_WORDS], i: usize, a: ActiveStreamInf
     active_in(queue, i, a)
 }
 
-// One word of a row: the stream's id, the finish time.
-
-pub fn load_active_id(queue: &[u64; QUEUE_WORDS], i: usize) -> u16
-    requires { ⌜ i < 256 ⌝ }
-    ensures { λ r. ⌜ r ≡ activeAt (now (queue .entry)) i .«stream_id» .0 ⌝ }
-{
-    let at = BASE + i * 5;
-    (queue[at + 0] % 65536) as u16
-}
-
-pub fn load_finish(queue: &[u64; QUEUE_WORDS], i: usize) -> u64
-    requires { ⌜ i < 256 ⌝ }
-    ensures { λ r. ⌜ r ≡ activeAt (now (queue .entry)) i .«virtual_finish_time» ⌝ }
-{
-    let at = BASE + i * 5;
-    queue[at + 3]
-}
-
 pub fn active_fits(a: ActiveStreamInfo)
     ensures { λ _. ⌜ FitsActive a ⌝ }
 {}

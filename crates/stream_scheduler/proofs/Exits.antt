@@ -17,9 +17,10 @@ use Rattle.queue_words.specs.declared.active.SchedulingParameters.{SchedulingPa
 use Rattle.queue_words.specs.declared.active.SchedulingParameters.the-variants.{RoundRobin, WeightedFairQueuing}
 use Rattle.queue_words.specs.declared.header.Options.{Options}
 use Rattle.queue_words.specs.declared.header.SchedulerState.{SchedulerState}
-use Rattle.stream_scheduler.specs.Rows.{advanced, scheduledRow, seekFrom, seek, bestOf, better, bestTo}
+use Rattle.active_table.specs.Rows.{seek, bestTo}
+use Rattle.active_table.specs.declared.Best.{Best}
+use Rattle.stream_scheduler.specs.Rows.{advanced, scheduledRow}
 use Rattle.stream_scheduler.specs.Words.{outcome, currentRow, peekAmong, peekWords, waitsIn, forgotten, rested, stateOf, droppedRow, takenOut, removeStream, setIn, setBytesRemaining, rememberedWord, acceptRow, acceptAt}
-use Rattle.stream_scheduler.specs.declared.Best.{Best}
 use Rattle.stream_scheduler.specs.declared.Peeked.the-variants.{At, Nothing, Broken}
 
 -- ------------------------------------------------------------------ cost and times
@@ -53,97 +54,6 @@ pub chunk-row : (limit id w start bytes chunk finish : ℕ) → chunk ≡ min by
       «bytes_remaining» = bytes;
     }) (scheduledRow limit id w start bytes)
 chunk-row limit id w start bytes chunk finish ec ef = rw (ef, ec)
-
--- ------------------------------------------------------------------ the search for a stream's row
-
-module _ (ws : List ℕ) (id n : ℕ) where
-  pub seek-start : seek ws id n ≡ seekFrom ws id 0 (n - 0)
-  unfolding seek
-  seek-start = rw sub-zero
-
-  module _ (i : ℕ) (inv : seek ws id n ≡ seekFrom ws id i (n - i)) where
-    module _ (h : i < n) (a : ℕ) (ea : a ≡ (activeAt ws i) .«stream_id» .0) where
-      pub seek-here : a ≡ id → i ≡ seek ws id n
-      unfolding seekFrom
-      seek-here e =
-          let s : n - i ≡ suc (n - (i + 1)) = omega arith in
-          sym (inv ∙ rw (s, ← ea, eq-eqb _ _ e))
-
-      pub seek-next : (a ≡ id → ⊥) → (j : ℕ) → j ≡ i + 1 → seek ws id n ≡ seekFrom ws id j (n - j)
-      unfolding seekFrom
-      seek-next e j ej =
-          let s : n - i ≡ suc (n - (i + 1)) = omega arith in
-          inv ∙ rw (ej, s, ← ea, ne-eqb _ _ e, add-one)
-
-    pub seek-end : i ≤ n → n ≤ i → n ≡ seek ws id n
-    unfolding seekFrom
-    seek-end l g =
-        let s : n - i ≡ 0 = omega arith in
-        let z : i ≡ n = omega arith in
-        sym (inv ∙ rw (s, z))
-
--- Four rows from i on.
-module _ (ws : List ℕ) (id n i : ℕ) (inv : seek ws id n ≡ seekFrom ws id i (n - i)) (h : i + 4 ≤ n) (a : ℕ) (ea : a ≡ (activeAt ws i) .«stream_id» .0) where
-  pub four-first : a ≡ id → i ≡ seek ws id n
-  four-first = seek-here ws id n i inv (omega arith) a ea
-
-  module _ (na : a ≡ id → ⊥) (b : ℕ) (eb : b ≡ (activeAt ws (i + 1)) .«stream_id» .0) where
-    four-1 : seek ws id n ≡ seekFrom ws id (i + 1) (n - (i + 1))
-    four-1 = seek-next ws id n i inv (omega arith) a ea na (i + 1) (omega arith)
-
-    pub four-second : b ≡ id → i + 1 ≡ seek ws id n
-    four-second = seek-here ws id n (i + 1) four-1 (omega arith) b eb
-
-    module _ (nb : b ≡ id → ⊥) (c : ℕ) (ec : c ≡ (activeAt ws (i + 2)) .«stream_id» .0) where
-      four-2 : seek ws id n ≡ seekFrom ws id (i + 2) (n - (i + 2))
-      four-2 = seek-next ws id n (i + 1) four-1 (omega arith) b eb nb (i + 2) (omega arith)
-
-      pub four-third : c ≡ id → i + 2 ≡ seek ws id n
-      four-third = seek-here ws id n (i + 2) four-2 (omega arith) c ec
-
-      module _ (nc : c ≡ id → ⊥) (d : ℕ) (ed : d ≡ (activeAt ws (i + 3)) .«stream_id» .0) where
-        four-3 : seek ws id n ≡ seekFrom ws id (i + 3) (n - (i + 3))
-        four-3 = seek-next ws id n (i + 2) four-2 (omega arith) c ec nc (i + 3) (omega arith)
-
-        pub four-fourth : d ≡ id → i + 3 ≡ seek ws id n
-        four-fourth = seek-here ws id n (i + 3) four-3 (omega arith) d ed
-
-        pub four-none : (d ≡ id → ⊥) → seek ws id n ≡ seekFrom ws id (i + 4) (n - (i + 4))
-        four-none nd = seek-next ws id n (i + 3) four-3 (omega arith) d ed nd (i + 4) (omega arith)
-
--- ------------------------------------------------------------------ the search for the least row
-
-module _ (ws : List ℕ) (a : Best) (i f : ℕ) (ef : f ≡ (activeAt ws i) .«virtual_finish_time») where
-  module _ (d : ℕ) (ed : d ≡ (activeAt ws i) .«stream_id» .0) where
-    pub better-finish : f < a .finish → _≡_ {A = Best} (record { id = d; at = i; finish = f }) (better a (bestOf ws i))
-    unfolding better
-    better-finish h = rw (← ef, ← ed, lt-ltb _ _ h)
-
-    module _ (l : a .finish ≤ f) (e : f ≡ a .finish) where
-      pub better-id : d < a .id → _≡_ {A = Best} (record { id = d; at = i; finish = f }) (better a (bestOf ws i))
-      unfolding better
-      better-id h = rw (← ef, ← ed, le-ltb _ _ l, eq-eqb _ _ e, lt-ltb _ _ h)
-
-      pub better-same : a .id ≤ d → a ≡ better a (bestOf ws i)
-      unfolding better
-      better-same h = rw (← ef, ← ed, le-ltb _ _ l, eq-eqb _ _ e, le-ltb _ _ h)
-
-  pub better-kept : a .finish ≤ f → (f ≡ a .finish → ⊥) → a ≡ better a (bestOf ws i)
-  unfolding better
-  better-kept l ne = rw (← ef, le-ltb _ _ l, ne-eqb _ _ ne)
-
-pub least-first : (ws : List ℕ) (b : Best) → b ≡ bestOf ws 0 → b ≡ bestTo ws 0
-unfolding bestTo
-least-first ws b e = e
-
-pub least-next : (ws : List ℕ) (i : ℕ) (b c : Best) → b ≡ bestTo ws i → c ≡ better b (bestOf ws (i + 1)) → c ≡ bestTo ws (i + 1)
-unfolding bestTo
-least-next ws i b c eb ec = rw (ec, eb, add-one)
-
-pub least-end : (ws : List ℕ) (i n : ℕ) (b : Best) → b ≡ bestTo ws i → i < n → n ≤ i + 1 → b ≡ bestTo ws (n - 1)
-least-end ws i n b e l g =
-    let z : n - 1 ≡ i = omega arith in
-    rw (z, e)
 
 -- ------------------------------------------------------------------ the choice
 

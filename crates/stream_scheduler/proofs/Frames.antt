@@ -17,7 +17,8 @@ use Rattle.queue_words.specs.declared.active.ActiveStreamInfo.{ActiveStreamInfo
 use Rattle.queue_words.specs.declared.active.SchedulingParameters.{SchedulingParameters}
 use Rattle.queue_words.specs.declared.header.SchedulerState.{SchedulerState}
 use Rattle.queue_words.proofs.Laws.{options-put-scheduler, totals-put-scheduler, known-put-scheduler, stream-put-scheduler, item-put-scheduler, options-put-active, totals-put-active, known-put-active, stream-put-active, item-put-active}
-use Rattle.stream_scheduler.specs.Rows.{advanced, scheduledRow, seek}
+use Rattle.active_table.specs.Rows.{seek}
+use Rattle.stream_scheduler.specs.Rows.{advanced, scheduledRow}
 use Rattle.stream_scheduler.specs.Words.{Outcome, outcome, forgotten, rested, stateOf, droppedRow, takenOut, removeStream, setIn, setBytesRemaining, rememberedWord, partRow, acceptRow, acceptAt}
 use Rattle.stream_scheduler.specs.Link.{entryAt, GoodScheduler, Steps, FitsParameters, Room, listed, free, Untouched}
 use Rattle.stream_scheduler.proofs.Search.{Sought, hit, miss, sought}

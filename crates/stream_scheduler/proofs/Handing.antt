@@ -20,7 +20,8 @@ use Rattle.queue_words.proofs.Laws.{active-at-fits, scheduler-at-put, options-p
 use Rattle.stream_scheduler.specs.declared.Peeked.{Peeked}
 use Rattle.stream_scheduler.specs.declared.Peeked.the-variants.{At, Nothing, Broken}
 use Rattle.queue_words.specs.declared.active.SchedulingParameters.the-variants.{RoundRobin, WeightedFairQueuing}
-use Rattle.stream_scheduler.specs.Rows.{weightOf, weightAt, advanced, scheduledRow, seek, bestTo}
+use Rattle.active_table.specs.Rows.{seek, bestTo}
+use Rattle.stream_scheduler.specs.Rows.{weightOf, weightAt, advanced, scheduledRow}
 use Rattle.stream_scheduler.specs.Words.{Outcome, outcome, currentRow, peekAmong, peekWords, stateOf, droppedRow, rememberedIn, rememberedWord, partRow, acceptRow, acceptAt}
 use Rattle.stream_scheduler.specs.Link.{entryOf, entryAt, tableOf, currentOf, modelScheduler, Unlike, GoodScheduler, Steps, Chooses, row-chosen, none-chosen}
 use Rattle.stream_scheduler.proofs.Index.{table-nil, table-at, table-none, table-set, unlike-same, table-least}

@@ -10,7 +10,8 @@ use Rattle.queue_words.specs.declared.active.ActiveStreamInfo.{ActiveStreamInfo
 use Rattle.queue_words.specs.declared.active.SchedulingParameters.{SchedulingParameters}
 use Rattle.queue_words.specs.declared.active.SchedulingParameters.the-variants.{RoundRobin, WeightedFairQueuing}
 use Rattle.queue_words.specs.declared.header.SchedulerState.{SchedulerState}
-use Rattle.stream_scheduler.specs.Rows.{advanced, scheduledRow, seek, bestTo}
+use Rattle.active_table.specs.Rows.{seek, bestTo}
+use Rattle.stream_scheduler.specs.Rows.{advanced, scheduledRow}
 use Rattle.stream_scheduler.specs.declared.Peeked.{Peeked}
 use Rattle.stream_scheduler.specs.declared.Peeked.the-variants.{At, Nothing, Broken}
 

@@ -1,4 +1,5 @@
-// The stream scheduler (tx/stream_scheduler.rs) over the table of active streams in the queue's words.
+// The stream scheduler (tx/stream_scheduler.rs) over the table of active streams in the queue's words. Rows are looked up by way of
+// crate active_table, whose functions the queue lends the table to.
 //
 // A stream that waits has a row. Rows stand as the Rust's `Vec` has them: a new one at the end, and the last one in the place
 // of one that is removed. Every public function is total: where the number of rows is above 256, a row asked for is not among
@@ -7,14 +8,14 @@ ghost use mathlib.Core.Path.{_≡_};
 ghost use Prim.Native.Nat.{_+_, _-_, _*_, _<_, _≤_, min};
 ghost use Rattle.queue_model.specs.Scheduler.{cost, saturating};
 ghost use Rattle.queue_model.specs.Types.{weighted};
-ghost use Rattle.stream_scheduler.specs.Rows.{advanced, scheduledRow, bestOf, better, seek, bestTo};
+ghost use Rattle.stream_scheduler.specs.Rows.{advanced, scheduledRow};
 ghost use Rattle.stream_scheduler.specs.Words.{outcome, forgotten, rested, rememberedWord, currentRow, peekWords, waitsIn, droppedRow, takenOut, removeStream, setIn, setBytesRemaining, acceptAt};
+use active_table::least_row;
+use active_table::seek;
 use queue_words::QUEUE_WORDS;
 use queue_words::active::ActiveStreamInfo;
 use queue_words::active::SchedulingParameters;
 use queue_words::active::load_active;
-use queue_words::active::load_active_id;
-use queue_words::active::load_finish;
 use queue_words::active::parameters_of;
 use queue_words::active::parameters_word;
 use queue_words::active::store_active;
@@ -98,90 +99,6 @@ fn schedule_next_chunk(
     }
 }
 
-// The first row of a stream among n rows, or n: four rows a turn, then the rows that are left.
-fn seek(queue: &[u64; QUEUE_WORDS], stream_id: u16, n: usize) -> usize
-    requires { ⌜ n ≤ 256 ⌝ }
-    ensures { λ r. ⌜ r ≡ seek (now (queue .entry)) «stream_id» n ⌝ }
-{
-    let mut i = 0;
-    while i + 4 <= n {
-        let a = load_active_id(queue, i);
-        if a == stream_id {
-            return i;
-        }
-        let b = load_active_id(queue, i + 1);
-        if b == stream_id {
-            return i + 1;
-        }
-        let c = load_active_id(queue, i + 2);
-        if c == stream_id {
-            return i + 2;
-        }
-        let d = load_active_id(queue, i + 3);
-        if d == stream_id {
-            return i + 3;
-        }
-        i += 4;
-    }
-    while i < n {
-        let id = load_active_id(queue, i);
-        if id == stream_id {
-            return i;
-        }
-        i += 1;
-    }
-    n
-}
-
-// A row in the search for the least: its place, finish time and stream.
-pub struct Best {
-    pub id: u16,
-    pub at: usize,
-    pub finish: u64,
-}
-
-fn best_of(queue: &[u64; QUEUE_WORDS], i: usize) -> Best
-    requires { ⌜ i < 256 ⌝ }
-    ensures { λ r. ⌜ r ≡ bestOf (now (queue .entry)) i ⌝ }
-{
-    let id = load_active_id(queue, i);
-    let finish = load_finish(queue, i);
-    Best { id, at: i, finish }
-}
-
-// The smaller finish time, then the smaller id, of a row and row i. The id is not read of a row that finishes later.
-fn better(queue: &[u64; QUEUE_WORDS], a: Best, i: usize) -> Best
-    requires { ⌜ i < 256 ⌝ }
-    ensures { λ r. ⌜ r ≡ better a (bestOf (now (queue .entry)) i) ⌝ }
-{
-    let finish = load_finish(queue, i);
-    if finish < a.finish {
-        let id = load_active_id(queue, i);
-        return Best { id, at: i, finish };
-    }
-    if finish == a.finish {
-        let id = load_active_id(queue, i);
-        if id < a.id {
-            return Best { id, at: i, finish };
-        }
-    }
-    a
-}
-
-// The least of n rows.
-fn least(queue: &[u64; QUEUE_WORDS], n: usize) -> Best
-    requires { ⌜ (0 < n) × (n ≤ 256) ⌝ }
-    ensures { λ r. ⌜ r ≡ bestTo (now (queue .entry)) (n - 1) ⌝ }
-{
-    let mut best = best_of(queue, 0);
-    let mut i = 0;
-    while i + 1 < n {
-        best = better(queue, best, i + 1);
-        i += 1;
-    }
-    best
-}
-
 // What the scheduler would hand out from.
 pub enum Peeked {
     At(usize),
@@ -216,7 +133,7 @@ pub fn peek(queue: &[u64; QUEUE_WORDS]) -> Peeked
     if i < n {
         return Peeked::At(i);
     }
-    let best = least(queue, n);
+    let best = least_row(queue, n);
     Peeked::At(best.at)
 }
 

@@ -14,7 +14,7 @@ returns-3 : tie.Need-returns-3
 returns-3 c = peek-current _ _ (c .before .before .before .before .before .load-scheduler-state .ensures) (c .before .before .before .if1 .left) (c .before .before .if2 .left) _ (c .before .current-row .ensures) (c .if3 .taken)
 
 returns-4 : tie.Need-returns-4
-returns-4 c = peek-least _ _ (c .before .before .before .before .before .before .load-scheduler-state .ensures) (c .before .before .before .before .if1 .left) (c .before .before .before .if2 .left) _ (c .before .before .current-row .ensures) _ (c .before .if3 .left) (c .least .ensures)
+returns-4 c = peek-least _ _ (c .before .before .before .before .before .before .load-scheduler-state .ensures) (c .before .before .before .before .if1 .left) (c .before .before .before .if2 .left) _ (c .before .before .current-row .ensures) _ (c .before .if3 .left) (c .least-row .ensures)
 
 pub peek-spec : {M : Type 1} → statement M
 peek-spec =

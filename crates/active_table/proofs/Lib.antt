@@ -1,0 +1,4 @@
+-- What the proofs of several functions use. Assumes nothing.
+pub mod Laws
+pub mod Lent
+pub mod Parts
