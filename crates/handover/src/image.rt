@@ -4,7 +4,7 @@ ghost use Prim.Native.Nat.{_≤_};
 ghost use Rattle.queue_messages.specs.Add.{added, stored};
 ghost use Rattle.handover.specs.Restore.{restoreCode, allWaiting, restoredFrom, restore};
 use handover_records::Trailer;
-use handover_records::records::read_trailer;
+use image_reader::read_trailer;
 use image_rules::image_code;
 use queue_streams::Call;
 use queue_words::QUEUE_WORDS;

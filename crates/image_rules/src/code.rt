@@ -11,9 +11,9 @@ use crate::rules::messages_right;
 use crate::rules::streams_right;
 use crate::rules::trailer_right;
 use handover_records::records::Trailer;
-use handover_records::records::read_message;
-use handover_records::records::read_stream;
-use handover_records::records::read_trailer;
+use image_reader::read_message;
+use image_reader::read_stream;
+use image_reader::read_trailer;
 
 // The payload bytes of n message records from `start` on, which fill `size` bytes.
 fn payload_bytes(image: &[u8], start: usize, size: usize, n: usize) -> u64

@@ -9,8 +9,8 @@ ghost use Rattle.image_rules.specs.Messages.{numbersRight, lifetimeRight
 use handover_records::records::HandoverOutgoingStream;
 use handover_records::records::HandoverStreamMessage;
 use handover_records::records::Trailer;
-use handover_records::records::read_message;
-use handover_records::records::read_stream;
+use image_reader::read_message;
+use image_reader::read_stream;
 
 // "form 2 (= 1)"; "All must agree and fill the image."
 pub fn trailer_right(t: Trailer, size: usize) -> bool

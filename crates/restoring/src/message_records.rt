@@ -4,7 +4,7 @@ ghost use Prim.Native.Nat.{_+_, _≤_, _<_};
 ghost use lib.ListN.{length};
 ghost use Rattle.restoring.specs.Messages.{hasFlag, restoredItem, unsentOf, countedRestored, restored, hungAt, hung, hungWith, recordRestored, messageRestored, messagesRestored};
 use handover_records::records::HandoverStreamMessage;
-use handover_records::records::read_message;
+use image_reader::read_message;
 use message_chains::amounts::plus;
 use payload_store::put_payload;
 use queue_messages::adding::link_last;

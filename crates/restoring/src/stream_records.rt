@@ -3,7 +3,7 @@ ghost use mathlib.Core.Path.{_≡_};
 ghost use Prim.Native.Nat.{_≤_};
 ghost use Rattle.restoring.specs.Streams.{emptied, restoredStream, streamRestored, streamsRestored};
 use handover_records::records::HandoverOutgoingStream;
-use handover_records::records::read_stream;
+use image_reader::read_stream;
 use queue_messages::creation::free_all;
 use queue_streams::insert_stream;
 use queue_words::QUEUE_WORDS;
