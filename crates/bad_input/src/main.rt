@@ -16,7 +16,7 @@ use calls::answer_of;
 use calls::call;
 use parse::line_end;
 use parse::parse;
-use queue_words::QUEUE_WORDS;
+use send_queue::QUEUE_WORDS;
 use random::prepare;
 use settle::mark_events;
 use settle::mark_fragment;

@@ -23,7 +23,7 @@ use crate::state::THRESHOLD;
 use crate::state::TIME;
 use crate::state::TURN;
 use crate::state::wide;
-use queue_words::QUEUE_WORDS;
+use send_queue::QUEUE_WORDS;
 
 const OVER_TIME: u64 = 4611686018427387904;
 

@@ -9,7 +9,7 @@ use crate::state::STATE;
 use crate::state::STORE;
 use crate::state::both;
 use crate::state::low8;
-use queue_words::QUEUE_WORDS;
+use send_queue::QUEUE_WORDS;
 
 // The marks by which a write to a lent place shows.
 const EVENT_MARK: u64 = 7000000000000000007;

@@ -32,10 +32,10 @@ use crate::state::LETTER;
 use crate::state::STATE;
 use crate::state::STORE;
 use crate::state::low8;
-use queue_streams::Call;
-use queue_streams::enable_message_interleaving;
-use queue_words::QUEUE_WORDS;
-use saving::Saved;
+use send_queue::Call;
+use send_queue::enable_message_interleaving;
+use send_queue::QUEUE_WORDS;
+use send_queue::Saved;
 
 // The saved image becomes the current one. Answers how many bytes of the buffer the image may have changed.
 fn take_image(

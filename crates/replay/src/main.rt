@@ -22,7 +22,7 @@ use marks::mark_events;
 use output::flush;
 use output::put_broken;
 use parse::parse;
-use queue_words::QUEUE_WORDS;
+use send_queue::QUEUE_WORDS;
 use ranges::is_call;
 use state::BUFFER;
 use state::EVENT_WORDS;

@@ -6,7 +6,7 @@ ghost use lib.ListN.{length, getD};
 ghost use Rattle.replay.specs.Marks.{eventMark, byteMark};
 use crate::state::EVENT_WORDS;
 use crate::state::STORE;
-use queue_words::QUEUE_WORDS;
+use send_queue::QUEUE_WORDS;
 use queue_words::whole;
 
 fn event_mark(i: usize) -> u64

@@ -17,8 +17,8 @@ use crate::state::IMAGE;
 use crate::state::LENT_STORE;
 use crate::state::STATE;
 use crate::state::STORE;
-use queue_streams::Call;
-use queue_words::QUEUE_WORDS;
+use send_queue::Call;
+use send_queue::QUEUE_WORDS;
 
 // A refusal's number, which is above 0.
 pub fn refusal_number(r: u8) -> u64 {
