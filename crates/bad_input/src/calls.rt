@@ -15,21 +15,21 @@ use crate::state::STREAM;
 use crate::state::low8;
 use crate::state::low16;
 use crate::state::wide;
+use send_queue::Call;
+use send_queue::DataToSend;
+use send_queue::Flag;
+use send_queue::Number;
+use send_queue::Produced;
+use send_queue::QUEUE_WORDS;
 use send_queue::buffered_amount;
 use send_queue::buffered_amount_low_threshold;
 use send_queue::get_handover_readiness;
 use send_queue::get_priority;
+use send_queue::get_streams_ready_to_reset;
 use send_queue::has_data_to_send;
 use send_queue::has_streams_ready_to_be_reset;
 use send_queue::is_empty;
 use send_queue::total_buffered_amount;
-use send_queue::get_streams_ready_to_reset;
-use send_queue::DataToSend;
-use send_queue::Produced;
-use send_queue::Call;
-use send_queue::Flag;
-use send_queue::Number;
-use send_queue::QUEUE_WORDS;
 
 // A refusal's number. Document 01 has no refusal 0: it shows as 100.
 fn refusal_number(r: u8) -> u64 {

@@ -43,24 +43,24 @@ use crate::state::bit;
 use crate::state::low8;
 use crate::state::low16;
 use crate::state::wide16;
+use send_queue::Call;
+use send_queue::Data;
+use send_queue::DataToSend;
+use send_queue::Expiry;
+use send_queue::Flag;
+use send_queue::Number;
+use send_queue::Produced;
+use send_queue::QUEUE_WORDS;
+use send_queue::ReadyStreams;
 use send_queue::buffered_amount;
 use send_queue::buffered_amount_low_threshold;
 use send_queue::get_handover_readiness;
 use send_queue::get_priority;
+use send_queue::get_streams_ready_to_reset;
 use send_queue::has_data_to_send;
 use send_queue::has_streams_ready_to_be_reset;
 use send_queue::is_empty;
 use send_queue::total_buffered_amount;
-use send_queue::ReadyStreams;
-use send_queue::get_streams_ready_to_reset;
-use send_queue::Data;
-use send_queue::DataToSend;
-use send_queue::Expiry;
-use send_queue::Produced;
-use send_queue::Call;
-use send_queue::Flag;
-use send_queue::Number;
-use send_queue::QUEUE_WORDS;
 
 // "At each `n` they are 2305, 262144, 2100000 and the creation length." Interleaving is off.
 fn begin(state: &mut [u64; STATE]) {

@@ -33,9 +33,9 @@ use crate::state::STATE;
 use crate::state::STORE;
 use crate::state::low8;
 use send_queue::Call;
-use send_queue::enable_message_interleaving;
 use send_queue::QUEUE_WORDS;
 use send_queue::Saved;
+use send_queue::enable_message_interleaving;
 
 // The saved image becomes the current one. Answers how many bytes of the buffer the image may have changed.
 fn take_image(

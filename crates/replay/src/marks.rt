@@ -6,8 +6,8 @@ ghost use lib.ListN.{length, getD};
 ghost use Rattle.replay.specs.Marks.{eventMark, byteMark};
 use crate::state::EVENT_WORDS;
 use crate::state::STORE;
-use send_queue::QUEUE_WORDS;
 use queue_words::whole;
+use send_queue::QUEUE_WORDS;
 
 fn event_mark(i: usize) -> u64
     ensures { λ r. ⌜ r ≡ eventMark i ⌝ }
