@@ -1,1 +1,3 @@
 -- What the proofs of several functions use. Assumes nothing.
+pub mod Gives
+pub mod Ids

@@ -1,2 +1,3 @@
 -- Answers as numbers, for a host in C or Rust. Assumes nothing.
 pub mod Numbers
+pub mod Given

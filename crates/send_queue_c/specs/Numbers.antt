@@ -1,27 +1,37 @@
--- "If an answer is an enum, a definition states this paper's number and values for each case of the enum." Assumes nothing.
+-- "If an answer is an enum, a definition states this paper's number and values for each case of the enum." The number is what a call returns: 0 for accepted, else the
+-- refusal's. The values stand in an array of 16 places: 0 the value, 1 the number of events, the others what goes with a fragment. Assumes nothing.
 use Prim.Native.Nat.{ℕ}
-use mathlib.Core.Bool.{Bool, true, false}
-use mathlib.Core.List.{List}
-use lib.ListN.{set}
+use mathlib.Core.Bool.{Bool, true, false, not}
+use mathlib.Core.List.{List, _++_}
+use lib.Dec.{eqb}
+use lib.ListN.{set, take, drop}
 use Rattle.queue_words.specs.Flags.{bit}
 use Rattle.types.specs.Keys.{key-id, key-unordered}
 use Rattle.queue_streams.specs.declared.answers.Call.{Call}
 use Rattle.queue_streams.specs.declared.answers.Call.the-variants.{Accepted, Refused}
+use Rattle.queue_streams.specs.declared.answers.Flag.{Flag}
+use Rattle.queue_streams.specs.declared.answers.Flag.the-variants as flag
+use Rattle.queue_streams.specs.declared.answers.Number.{Number}
+use Rattle.queue_streams.specs.declared.answers.Number.the-variants as number
 use Rattle.queue_messages.specs.declared.message.Lifetime.{Lifetime}
 use Rattle.queue_messages.specs.declared.message.Lifetime.the-variants as life
 use Rattle.queue_messages.specs.declared.message.MaxRetransmissions.{MaxRetransmissions}
 use Rattle.queue_messages.specs.declared.message.MaxRetransmissions.the-variants as retr
 use Rattle.queue_messages.specs.declared.message.Message.{Message}
+use Rattle.queue_restarts.specs.declared.ready.ReadyStreams.{ReadyStreams}
 use Rattle.queue_sending.specs.declared.data.DataToSend.{DataToSend}
 use Rattle.queue_sending.specs.declared.data.Expiry.{Expiry}
 use Rattle.queue_sending.specs.declared.data.Expiry.the-variants as expiry
 use Rattle.queue_sending.specs.declared.data.Produced.{Produced}
 use Rattle.queue_sending.specs.declared.data.Produced.the-variants as produced
+use Rattle.saving.specs.declared.image.Saved.{Saved}
+use Rattle.saving.specs.declared.image.Saved.the-variants as saved
 
--- 0 for accepted, else the refusal's number
-abbrev pub callNumber : Call → ℕ
-callNumber (Accepted k) = 0
-callNumber (Refused n) = n
+-- ------------------------------------------------------------------ what is given
+
+-- A flag: 0 for no, anything else for yes.
+abbrev pub isYes : ℕ → Bool
+isYes n = not (eqb n 0)
 
 abbrev pub lifetimeOf : Bool → ℕ → Lifetime
 lifetimeOf true n = life.Limited n
@@ -32,17 +42,47 @@ retransmissionsOf true n = retr.Limited n
 retransmissionsOf false n = retr.Unlimited
 
 -- a message by its numbers
-abbrev pub messageOf : ℕ → ℕ → Bool → Bool → ℕ → Bool → ℕ → ℕ → Message
-messageOf stream ppid unordered l lifetime r limit lifecycle = record {
+abbrev pub messageOf : ℕ → ℕ → ℕ → ℕ → ℕ → ℕ → ℕ → ℕ → Message
+messageOf stream ppid unordered has-lifetime lifetime has-limit limit lifecycle = record {
   «stream_id» = record { 0 = stream };
   ppid = ppid;
-  unordered = unordered;
-  lifetime = lifetimeOf l lifetime;
-  «max_retransmissions» = retransmissionsOf r limit;
+  unordered = isYes unordered;
+  lifetime = lifetimeOf (isYes has-lifetime) lifetime;
+  «max_retransmissions» = retransmissionsOf (isYes has-limit) limit;
   «lifecycle_id» = lifecycle;
 }
 
--- "expiry time or never"
+-- ------------------------------------------------------------------ a call that changes the queue
+
+abbrev pub callNumber : Call → ℕ
+callNumber (Accepted k) = 0
+callNumber (Refused n) = n
+
+abbrev pub callOut : List ℕ → Call → List ℕ
+callOut out (Accepted k) = set out 1 k
+callOut out (Refused n) = out
+
+-- ------------------------------------------------------------------ the questions
+
+abbrev pub numberNumber : Number → ℕ
+numberNumber (number.Value v) = 0
+numberNumber (number.Refused n) = n
+
+abbrev pub numberOut : List ℕ → Number → List ℕ
+numberOut out (number.Value v) = set out 0 v
+numberOut out (number.Refused n) = out
+
+abbrev pub flagNumber : Flag → ℕ
+flagNumber (flag.Value b) = 0
+flagNumber (flag.Refused n) = n
+
+abbrev pub flagOut : List ℕ → Flag → List ℕ
+flagOut out (flag.Value b) = set out 0 (bit b)
+flagOut out (flag.Refused n) = out
+
+-- ------------------------------------------------------------------ the next fragment
+
+-- "expiry time or never": whether it expires, and when
 abbrev pub expiryNumber : Expiry → ℕ
 expiryNumber expiry.Never = 0
 expiryNumber (expiry.At t) = 1
@@ -68,3 +108,29 @@ abbrev pub producedOut : List ℕ → Produced → List ℕ
 producedOut out (produced.Nothing k) = set (set out 0 0) 1 k
 producedOut out (produced.Fragment k d) = shown out k d
 producedOut out (produced.Refused n) = out
+
+-- ------------------------------------------------------------------ ready ids
+
+abbrev pub readyNumber : ReadyStreams → ℕ
+readyNumber a = callNumber (a .answer)
+
+abbrev pub accepted : {A : Type 0} → Call → A → A → A
+accepted (Accepted k) a b = a
+accepted (Refused n) a b = b
+
+-- the first `count` places; the others stay
+abbrev pub readyIds : List ℕ → ReadyStreams → List ℕ
+readyIds ids a = accepted (a .answer) (take (a .count) (a .ids) ++ drop (a .count) ids) ids
+
+abbrev pub readyOut : List ℕ → ReadyStreams → List ℕ
+readyOut out a = accepted (a .answer) (set out 0 (a .count)) out
+
+-- ------------------------------------------------------------------ the image
+
+abbrev pub savedNumber : Saved → ℕ
+savedNumber (saved.Image n) = 0
+savedNumber (saved.Refused n) = n
+
+abbrev pub savedOut : List ℕ → Saved → List ℕ
+savedOut out (saved.Image n) = set out 0 n
+savedOut out (saved.Refused n) = out

@@ -1,0 +1,282 @@
+/* Hard use of the C interface: random calls on a queue, on words that somebody has damaged, and with images at random. Meant to run
+ * under valgrind (scripts/hard): every buffer is a block of exactly the length that is passed.
+ *
+ * usage: hard [CALLS] [SEED]
+ *
+ * Each answer must be one of those that the header lists behind the function; at one refusal in eight all that was lent is compared with
+ * what it was before the call. */
+#include "send_queue.h"
+
+#include <stdio.h>
+#include <stdlib.h>
+#include <string.h>
+
+#define STORE 6000
+#define BUFFER 1500
+#define IMAGE DSQ_MAX_IMAGE(STORE)
+#define QUEUE_BYTES (DSQ_QUEUE_WORDS * sizeof(uint64_t))
+#define EVENT_BYTES (DSQ_EVENT_WORDS * sizeof(uint64_t))
+
+static uint64_t seed = 1;
+
+static uint64_t next(void) {
+    seed ^= seed << 13;
+    seed ^= seed >> 7;
+    seed ^= seed << 17;
+    return seed;
+}
+
+static uint64_t below(uint64_t n) {
+    return next() % n;
+}
+
+static void *block(size_t bytes) {
+    void *p = calloc(bytes ? bytes : 1, 1);
+    if (!p) {
+        fprintf(stderr, "hard: no memory\n");
+        exit(2);
+    }
+    return p;
+}
+
+/* Numbers at which something may go wrong. */
+static uint64_t odd_number(void) {
+    static const uint64_t some[] = {0, 1, 2, 3, 20, 255, 256, 257, 1023, 1024, 1025, 1200, 4610, 5999, 6000, 6001, 20767, 20768, 65535, 65536, 262144, 262145,
+        UINT32_MAX, UINT64_C(4294967296), DSQ_MAX_TIME, DSQ_MAX_TIME + 1, UINT64_MAX >> 1, UINT64_MAX - 1, UINT64_MAX};
+    return below(4) ? some[below(sizeof some / sizeof *some)] : next();
+}
+
+/* All that is lent, and what it was before the call. */
+struct lent {
+    uint64_t *queue, *events, *out;
+    uint8_t *store, *buffer, *image;
+    uint16_t *ids;
+};
+
+static struct lent now, was;
+
+/* The length of the store with which the queue was created. */
+static size_t store_length = STORE;
+
+static size_t a_store(void) {
+    return below(32) ? store_length : (size_t)below(STORE);
+}
+
+static struct lent lend(void) {
+    struct lent l;
+    l.queue = block(QUEUE_BYTES);
+    l.events = block(EVENT_BYTES);
+    l.out = block(DSQ_OUT_WORDS * sizeof(uint64_t));
+    l.store = block(STORE);
+    l.buffer = block(BUFFER);
+    l.image = block(IMAGE);
+    l.ids = block(DSQ_MAX_STREAMS * sizeof(uint16_t));
+    return l;
+}
+
+static void keep(void) {
+    memcpy(was.queue, now.queue, QUEUE_BYTES);
+    memcpy(was.events, now.events, EVENT_BYTES);
+    memcpy(was.out, now.out, DSQ_OUT_WORDS * sizeof(uint64_t));
+    memcpy(was.store, now.store, STORE);
+    memcpy(was.buffer, now.buffer, BUFFER);
+    memcpy(was.image, now.image, IMAGE);
+    memcpy(was.ids, now.ids, DSQ_MAX_STREAMS * sizeof(uint16_t));
+}
+
+static int changed(void) {
+    return memcmp(was.queue, now.queue, QUEUE_BYTES) || memcmp(was.events, now.events, EVENT_BYTES) || memcmp(was.out, now.out, DSQ_OUT_WORDS * sizeof(uint64_t))
+        || memcmp(was.store, now.store, STORE) || memcmp(was.buffer, now.buffer, BUFFER) || memcmp(was.image, now.image, IMAGE)
+        || memcmp(was.ids, now.ids, DSQ_MAX_STREAMS * sizeof(uint16_t));
+}
+
+static size_t odd_length(size_t right) {
+    return below(16) ? right : (size_t)below(right + 1);
+}
+
+static uint64_t a_time(void) {
+    return below(16) ? below(40000000) : odd_number();
+}
+
+static uint16_t a_stream(void) {
+    return (uint16_t)(below(8) ? below(12) : next());
+}
+
+static uint8_t add(void) {
+    size_t length = below(16) ? 1 + (size_t)below(900) : (size_t)below(2) * (DSQ_MAX_PAYLOAD + 1);
+    uint8_t *payload = block(length);
+    uint8_t r = dsq_add(now.queue, now.store, a_store(), payload, length, a_time(), a_stream(), (uint32_t)next(), (uint8_t)below(3), (uint8_t)below(3),
+        below(8) ? below(20000000) : odd_number(), (uint8_t)below(2), (uint16_t)next(), below(3) ? 0 : next());
+    free(payload);
+    return r;
+}
+
+static uint8_t produce(void) {
+    /* a buffer of exactly the length that is passed */
+    size_t length = odd_length(BUFFER);
+    uint8_t *buffer = now.buffer + (BUFFER - length);
+    return dsq_produce(now.queue, now.store, a_store(), now.events, odd_length(DSQ_EVENT_WORDS), buffer, length, now.out, a_time(), below(8) ? 1 + below(BUFFER) : odd_number());
+}
+
+/* An image: bytes at random, or one that was saved with some bytes changed or cut off, or whole. */
+static uint8_t restore(void) {
+    static uint8_t saved[IMAGE];
+    size_t length = (size_t)below(200), i;
+    uint8_t *image, r;
+    if (below(8)) {
+        uint64_t out[DSQ_OUT_WORDS] = {0};
+        if (dsq_save(now.queue, now.store, store_length, saved, IMAGE, out, 1) == 0)
+            length = (size_t)out[DSQ_OUT_VALUE];
+    }
+    image = block(length);
+    for (i = 0; i < length; i++)
+        image[i] = saved[i];
+    if (below(2) && length > 0)
+        for (i = 1 + (size_t)below(4); i > 0; i--)
+            image[below(length)] = (uint8_t)next();
+    if (below(4) == 0)
+        length = (size_t)below(length + 1);
+    if (below(4)) { /* into a new queue, sometimes with less room */
+        store_length = below(4) ? STORE : 600;
+        dsq_create(now.queue, now.store, store_length, 1200, 256, 0, 0, 1);
+        if (below(4) == 0)
+            now.queue[below(DSQ_QUEUE_WORDS)] = odd_number();
+    }
+    keep();
+    r = dsq_restore(now.queue, now.store, a_store(), image, length, a_time());
+    free(image);
+    return r;
+}
+
+static uint8_t save(void) {
+    size_t length = odd_length(IMAGE);
+    return dsq_save(now.queue, now.store, a_store(), now.image + (IMAGE - length), length, now.out, a_time());
+}
+
+static uint8_t create(void) {
+    size_t length = below(8) ? STORE : (size_t)below(STORE);
+    uint8_t r = dsq_create(now.queue, now.store, length, below(4) ? 1200 : odd_number(), below(2) ? 256 : (uint16_t)next(), odd_number(), odd_number(), (uint8_t)next());
+    if (r == 0)
+        store_length = length;
+    return r;
+}
+
+enum kind { ADD, PRODUCE, DISCARD, CLOSE, READY, COMMIT, ROLLBACK, RESET, SWITCH, PRIORITY, THRESHOLD, ASK_PRIORITY, ASK_AMOUNT, ASK_THRESHOLD, ASK_DATA, ASK_READY, ASK_PLAIN, SAVE, RESTORE, CREATE, KINDS };
+
+#define N(k) (UINT32_C(1) << (k))
+
+/* The refusals that the header lists behind each function. */
+static const uint32_t listed[KINDS] = {
+    [ADD] = N(2) | N(4) | N(5) | N(6) | N(7) | N(8) | N(16),
+    [PRODUCE] = N(2) | N(3) | N(4) | N(9) | N(10) | N(16),
+    [DISCARD] = N(3) | N(16),
+    [CLOSE] = N(3) | N(6) | N(16),
+    [READY] = N(16),
+    [COMMIT] = N(16),
+    [ROLLBACK] = N(16),
+    [RESET] = N(16),
+    [SWITCH] = N(16),
+    [PRIORITY] = N(6) | N(16),
+    [THRESHOLD] = N(3) | N(6) | N(16),
+    [ASK_PRIORITY] = N(16),
+    [ASK_AMOUNT] = N(16),
+    [ASK_THRESHOLD] = N(16),
+    [ASK_DATA] = N(16),
+    [ASK_READY] = N(16),
+    [ASK_PLAIN] = 0,
+    [SAVE] = N(2) | N(4) | N(11) | N(16),
+    [RESTORE] = N(2) | N(4) | N(12) | N(13) | N(14) | N(15),
+    [CREATE] = N(1) | N(2),
+};
+
+static uint8_t ask_plain(void) {
+    if (dsq_is_empty(now.queue) != (dsq_total_buffered_amount(now.queue) == 0))
+        return 99;
+    return dsq_get_handover_readiness(now.queue) % 2 ? 99 : 0;
+}
+
+static uint8_t call(enum kind k) {
+    switch (k) {
+    case ADD: return add();
+    case PRODUCE: return produce();
+    case DISCARD: return dsq_discard(now.queue, now.events, odd_length(DSQ_EVENT_WORDS), now.out, a_stream(), (uint32_t)(below(2) ? now.out[DSQ_OUT_MESSAGE_ID] : next()));
+    case CLOSE: return dsq_prepare_reset_stream(now.queue, now.events, odd_length(DSQ_EVENT_WORDS), now.out, a_stream());
+    case READY: return dsq_get_streams_ready_to_reset(now.queue, now.ids, now.out);
+    case COMMIT: return dsq_commit_reset_streams(now.queue);
+    case ROLLBACK: return dsq_rollback_reset_streams(now.queue);
+    case RESET: return dsq_reset(now.queue);
+    case SWITCH: return dsq_enable_message_interleaving(now.queue, (uint8_t)below(3));
+    case PRIORITY: return dsq_set_priority(now.queue, a_stream(), (uint16_t)next());
+    case THRESHOLD: return dsq_set_buffered_amount_low_threshold(now.queue, now.events, odd_length(DSQ_EVENT_WORDS), now.out, a_stream(), odd_number());
+    case ASK_PRIORITY: return dsq_get_priority(now.queue, now.out, a_stream());
+    case ASK_AMOUNT: return dsq_buffered_amount(now.queue, now.out, a_stream());
+    case ASK_THRESHOLD: return dsq_buffered_amount_low_threshold(now.queue, now.out, a_stream());
+    case ASK_DATA: return dsq_has_data_to_send(now.queue, now.out);
+    case ASK_READY: return dsq_has_streams_ready_to_be_reset(now.queue, now.out);
+    case ASK_PLAIN: return ask_plain();
+    case SAVE: return save();
+    case RESTORE: return restore();
+    default: return create();
+    }
+}
+
+static enum kind a_kind(void) {
+    static const enum kind often[] = {ADD, ADD, ADD, ADD, PRODUCE, PRODUCE, PRODUCE, PRODUCE, PRODUCE, CLOSE, DISCARD};
+    return below(2) ? often[below(sizeof often / sizeof *often)] : (enum kind)below(KINDS - 1);
+}
+
+/* Some words become others, mostly among those that are used most. */
+static void damage(void) {
+    uint64_t i;
+    for (i = 1 + below(8); i > 0; i--) {
+        uint64_t at = below(3) ? below(400) : below(DSQ_QUEUE_WORDS);
+        now.queue[at] = below(2) ? odd_number() : now.queue[below(DSQ_QUEUE_WORDS)];
+    }
+}
+
+int main(int argc, char **argv) {
+    long calls = argc > 1 ? atol(argv[1]) : 1000000, n, left = 0, damaged = 0, accepted = 0, refused[17] = {0};
+    uint64_t *good = block(QUEUE_BYTES);
+    if (argc > 2)
+        seed = (uint64_t)atol(argv[2]) * 2 + 1;
+    now = lend();
+    was = lend();
+    if (dsq_create(now.queue, now.store, STORE, 1200, 256, 100, 500, 1) != 0)
+        return 1;
+    for (n = 0; n < calls; n++) {
+        enum kind k = a_kind();
+        int look = below(8) == 0;
+        uint8_t r;
+        if (left > 0) {
+            damaged++;
+            if (--left == 0) /* back to the words of a queue */
+                memcpy(now.queue, good, QUEUE_BYTES);
+        } else if (below(60) == 0) {
+            memcpy(good, now.queue, QUEUE_BYTES);
+            damage();
+            left = 40;
+        } else if (below(400) == 0) {
+            k = CREATE;
+        }
+        if (look)
+            keep();
+        r = call(k);
+        if (r != 0 && (r > 16 || !(listed[k] >> r & 1))) {
+            printf("hard: call %ld of kind %d answers %u, which is not listed\n", n, (int)k, r);
+            return 1;
+        }
+        if (r != 0 && (look || k == RESTORE) && changed()) {
+            printf("hard: call %ld of kind %d is refused with %u, and something has changed\n", n, (int)k, r);
+            return 1;
+        }
+        if (r == 0)
+            accepted++;
+        else
+            refused[r]++;
+    }
+    printf("hard: %ld calls, %ld of them on damaged words; %ld accepted; refused", calls, damaged, accepted);
+    for (n = 1; n <= 16; n++)
+        printf(" %ld:%ld", n, refused[n]);
+    printf("; every answer is listed, a refused call changed nothing\n");
+    return 0;
+}

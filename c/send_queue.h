@@ -1,0 +1,217 @@
+/* The send queue for a host in C99 or C++: link it with libsend_queue_c.a, which `rt staticlib send_queue_c` makes for x86-64. Of the
+ * C library it uses memcpy and memset. It allocates nothing and keeps nothing: all of a queue is in the words and the store that the
+ * host lends to each call.
+ *
+ * The functions are proved: on any words, any store and any buffers they return, they read and write inside what is lent to them
+ * only, and a refused call changes nothing, in no array. What a host must keep, since no proof of theirs can see it:
+ *
+ *   - Every pointer is valid for as many elements as the array or the length beside it says, and aligned for its type. None is null,
+ *     not even one to no bytes.
+ *   - What it points to has been written before (all zeroes will do; what is in it does not matter).
+ *   - No two arguments of a call overlap, and nobody else writes to them while it runs.
+ *   - The words of a queue, from creation on, and the bytes of its store are changed by these functions only, and each call gets both
+ *     as the last one left them. The words hold no pointer: between two calls words and store may be moved or copied.
+ *   - 512 KB of stack for dsq_produce, which may pass over 1,024 expired messages in one call and calls itself for each.
+ *
+ * A flag that is passed in is 0 for no and anything else for yes; one that is told is 0 or 1. Times are counts of nanoseconds. */
+#ifndef DSQ_SEND_QUEUE_H
+#define DSQ_SEND_QUEUE_H
+
+#include <stddef.h>
+#include <stdint.h>
+
+#ifdef __cplusplus
+extern "C" {
+#endif
+
+/* The words of a queue, and of the list of events: DSQ_MAX_EVENTS places of two words. */
+#define DSQ_QUEUE_WORDS 20768
+#define DSQ_EVENT_WORDS 4610
+
+/* The most that a queue takes. */
+#define DSQ_MAX_STREAMS 256
+#define DSQ_MAX_MESSAGES 1024
+#define DSQ_MAX_PAYLOAD 262144
+#define DSQ_MAX_STORE 2000000
+#define DSQ_MAX_PAYLOAD_LIMIT 65535
+#define DSQ_MAX_EVENTS 2305
+#define DSQ_MAX_TIME UINT64_C(4611686018427387903)
+
+/* So many bytes hold every image of a queue with a store of this length: 20 and, at most, 256 records of 14 bytes, 1,024 of 44, and
+ * the payloads. */
+#define DSQ_MAX_IMAGE(store_length) ((size_t)48660 + (store_length))
+
+/* What a function returns: 0 for accepted, else the refusal. Of several that apply the first is given. */
+enum dsq_refusal {
+    DSQ_ACCEPTED = 0,
+    /* At creation, the payload limit is outside 1 to 65,535. */
+    DSQ_PAYLOAD_LIMIT_WRONG = 1,
+    /* The store is outside 1 to 2,000,000 bytes at creation, or not of its creation length later. */
+    DSQ_STORE_WRONG = 2,
+    /* The event list has fewer than 2,305 places. */
+    DSQ_EVENT_LIST_SHORT = 3,
+    /* A time or lifetime is above 4,611,686,018,427,387,903. */
+    DSQ_TIME_LATE = 4,
+    /* The payload is empty or above 262,144 bytes. */
+    DSQ_PAYLOAD_WRONG = 5,
+    /* The call would make a 257th known stream. */
+    DSQ_STREAMS_FULL = 6,
+    /* The message would be the 1,025th waiting. */
+    DSQ_MESSAGES_FULL = 7,
+    /* The payload is longer than the free bytes. */
+    DSQ_STORE_FULL = 8,
+    /* The size asked for is outside 1 to 262,144. */
+    DSQ_SIZE_WRONG = 9,
+    /* The fragment buffer is shorter than the size asked for. */
+    DSQ_BUFFER_SHORT = 10,
+    /* The image buffer is shorter than the image. */
+    DSQ_IMAGE_BUFFER_SHORT = 11,
+    /* Restoring finds a queue that knows a stream, or whose next message id is not 0. */
+    DSQ_QUEUE_USED = 12,
+    /* The image breaks a rule. */
+    DSQ_IMAGE_WRONG = 13,
+    /* The image's default priority is not the queue's. */
+    DSQ_PRIORITY_OTHER = 14,
+    /* The image, with the streams that only messages name, passes 256 streams, 1,024 messages or the store. */
+    DSQ_IMAGE_LARGE = 15,
+    /* The words are not those of a queue: somebody else wrote into them. From creation on no call of these functions leads to it. */
+    DSQ_WORDS_BROKEN = 16
+};
+
+/* The places of an out-array. An accepted call writes those that are named at it; the others stay. */
+enum dsq_out {
+    DSQ_OUT_VALUE = 0,  /* a question's answer; 1 for a fragment, 0 for none; an image's length; the count of ready ids */
+    DSQ_OUT_EVENTS = 1, /* how many events the call wrote, from the list's start on */
+    /* What goes with a fragment. */
+    DSQ_OUT_LENGTH = 2,               /* its bytes, at the buffer's start */
+    DSQ_OUT_MESSAGE_ID = 3,           /* 32 bits: 0 for the first message accepted, then one more for each */
+    DSQ_OUT_STREAM_ID = 4,            /* 16 bits */
+    DSQ_OUT_UNORDERED = 5,            /* a flag */
+    DSQ_OUT_SSN = 6,                  /* stream sequence number, 16 bits; 0 for an unordered message */
+    DSQ_OUT_MID = 7,                  /* message identifier, 32 bits */
+    DSQ_OUT_FSN = 8,                  /* fragment number, 32 bits */
+    DSQ_OUT_PPID = 9,                 /* payload protocol id, 32 bits */
+    DSQ_OUT_FIRST = 10,               /* a flag: the message's first fragment */
+    DSQ_OUT_LAST = 11,                /* a flag: its last */
+    DSQ_OUT_MAX_RETRANSMISSIONS = 12, /* 16 bits; 65,535 where no limit was given */
+    DSQ_OUT_EXPIRES = 13,             /* a flag: whether the message expires */
+    DSQ_OUT_EXPIRES_AT = 14,          /* when; 0 where it never does */
+    DSQ_OUT_LIFECYCLE_ID = 15,        /* shown by a last fragment, else 0 */
+    DSQ_OUT_WORDS = 16
+};
+
+/* An event is kind and number: event k of a call is events[2 * k] and events[2 * k + 1]. */
+enum dsq_event {
+    DSQ_EVENT_STREAM_LOW = 1, /* a stream's amount fell to or below its threshold, or that was raised to it or past it; the stream's id */
+    DSQ_EVENT_TOTAL_LOW = 2,  /* the total fell to or below its threshold; 0 */
+    DSQ_EVENT_EXPIRED = 3,    /* a message with a lifecycle id was dropped; that id */
+    DSQ_EVENT_END = 4         /* follows each DSQ_EVENT_EXPIRED, with the same id */
+};
+
+/* What dsq_get_handover_readiness tells. */
+enum dsq_readiness {
+    DSQ_READY = 0,
+    DSQ_SEND_QUEUE_NOT_EMPTY = 2
+};
+
+/* ---------------------------------------------------------------- creation and messages
+ * Behind each function stand the refusals that it can give, in the order in which they are checked. */
+
+/* Makes the words those of a new queue without streams or messages; interleaving is off. Only the store's length is looked at.
+ * payload_limit: the most payload that goes into a packet, for the scheduler's costs. handover_with_data: see readiness. (1, 2) */
+uint8_t dsq_create(uint64_t queue[DSQ_QUEUE_WORDS], const uint8_t *store, size_t store_length, uint64_t payload_limit,
+                   uint16_t default_priority, uint64_t default_threshold, uint64_t total_threshold, uint8_t handover_with_data);
+
+/* Adds a message; its payload is copied to the store. With has_lifetime it expires lifetime nanoseconds and 1 ms after time, else
+ * never (and lifetime is not looked at). Without has_retransmissions no limit is given. Lifecycle id 0 means none. The first message
+ * to a stream makes it known. (2, 4, 5, 6, 7, 8, 16) */
+uint8_t dsq_add(uint64_t queue[DSQ_QUEUE_WORDS], uint8_t *store, size_t store_length, const uint8_t *payload, size_t payload_length,
+                uint64_t time, uint16_t stream_id, uint32_t ppid, uint8_t unordered, uint8_t has_lifetime, uint64_t lifetime,
+                uint8_t has_retransmissions, uint16_t max_retransmissions, uint64_t lifecycle_id);
+
+/* Drops the message, where it is the first that waits on its stream; else changes nothing. Tells EVENTS. (3, 16) */
+uint8_t dsq_discard(uint64_t queue[DSQ_QUEUE_WORDS], uint64_t *events, size_t events_length, uint64_t out[DSQ_OUT_WORDS],
+                    uint16_t stream_id, uint32_t message_id);
+
+/* ---------------------------------------------------------------- the next fragment */
+
+/* Takes at most size bytes of the message whose turn it is; they are copied to the buffer's start. Messages whose time is at or before
+ * `time` are dropped on the way. Tells VALUE (1 for a fragment, 0 if nothing waits) and EVENTS, and with a fragment all that goes with
+ * it. (2, 3, 4, 9, 10, 16) */
+uint8_t dsq_produce(uint64_t queue[DSQ_QUEUE_WORDS], const uint8_t *store, size_t store_length, uint64_t *events, size_t events_length,
+                    uint8_t *buffer, size_t buffer_length, uint64_t out[DSQ_OUT_WORDS], uint64_t time, uint64_t size);
+
+/* ---------------------------------------------------------------- closing and restarting streams */
+
+/* Closes a stream, known or not: drops every message that is not half-sent. Without a half-sent one the stream is then ready to be
+ * reset, else when that one ends. Tells EVENTS. (3, 6, 16) */
+uint8_t dsq_prepare_reset_stream(uint64_t queue[DSQ_QUEUE_WORDS], uint64_t *events, size_t events_length,
+                                 uint64_t out[DSQ_OUT_WORDS], uint16_t stream_id);
+
+/* The streams that are ready to be reset, in ascending order; they are resetting from then on. Tells VALUE, their count; so many
+ * places of ids are written, the others stay. (16) */
+uint8_t dsq_get_streams_ready_to_reset(uint64_t queue[DSQ_QUEUE_WORDS], uint16_t ids[DSQ_MAX_STREAMS], uint64_t out[DSQ_OUT_WORDS]);
+
+/* Opens every resetting stream, with its three counters at 0. (16) */
+uint8_t dsq_commit_reset_streams(uint64_t queue[DSQ_QUEUE_WORDS]);
+
+/* Opens every resetting stream. (16) */
+uint8_t dsq_rollback_reset_streams(uint64_t queue[DSQ_QUEUE_WORDS]);
+
+/* After a restart of the peer: opens all streams, sets their counters to 0 and puts half-sent messages back whole. (16) */
+uint8_t dsq_reset(uint64_t queue[DSQ_QUEUE_WORDS]);
+
+/* ---------------------------------------------------------------- settings */
+
+/* Switches message interleaving (RFC 8260). (16) */
+uint8_t dsq_enable_message_interleaving(uint64_t queue[DSQ_QUEUE_WORDS], uint8_t enabled);
+
+/* Sets a stream's priority, its weight with interleaving; it counts from the next time that the weight is read. (6, 16) */
+uint8_t dsq_set_priority(uint64_t queue[DSQ_QUEUE_WORDS], uint16_t stream_id, uint16_t priority);
+
+/* Sets the amount at which a stream is low. Tells EVENTS: 1 if a threshold below the amount is raised to or past it. (3, 6, 16) */
+uint8_t dsq_set_buffered_amount_low_threshold(uint64_t queue[DSQ_QUEUE_WORDS], uint64_t *events, size_t events_length,
+                                              uint64_t out[DSQ_OUT_WORDS], uint16_t stream_id, uint64_t threshold);
+
+/* ---------------------------------------------------------------- questions; they change nothing */
+
+/* VALUE: a stream's priority, the default where none was set. (16) */
+uint8_t dsq_get_priority(const uint64_t queue[DSQ_QUEUE_WORDS], uint64_t out[DSQ_OUT_WORDS], uint16_t stream_id);
+
+/* VALUE: the bytes that wait on a stream. (16) */
+uint8_t dsq_buffered_amount(const uint64_t queue[DSQ_QUEUE_WORDS], uint64_t out[DSQ_OUT_WORDS], uint16_t stream_id);
+
+/* VALUE: a stream's threshold, the default where none was set. (16) */
+uint8_t dsq_buffered_amount_low_threshold(const uint64_t queue[DSQ_QUEUE_WORDS], uint64_t out[DSQ_OUT_WORDS], uint16_t stream_id);
+
+/* VALUE: 1 if a stream waits to be sent from, else 0. (16) */
+uint8_t dsq_has_data_to_send(const uint64_t queue[DSQ_QUEUE_WORDS], uint64_t out[DSQ_OUT_WORDS]);
+
+/* VALUE: 1 if a stream is ready to be reset, else 0. (16) */
+uint8_t dsq_has_streams_ready_to_be_reset(const uint64_t queue[DSQ_QUEUE_WORDS], uint64_t out[DSQ_OUT_WORDS]);
+
+/* The answer itself, never a refusal: the bytes that wait in all; */
+uint64_t dsq_total_buffered_amount(const uint64_t queue[DSQ_QUEUE_WORDS]);
+
+/* 1 if no byte waits, else 0; */
+uint8_t dsq_is_empty(const uint64_t queue[DSQ_QUEUE_WORDS]);
+
+/* 2 if handover with waiting data is off and the total is above 0, else 0. */
+uint64_t dsq_get_handover_readiness(const uint64_t queue[DSQ_QUEUE_WORDS]);
+
+/* ---------------------------------------------------------------- the changeover image */
+
+/* Writes the image of the queue to the buffer's start. Tells VALUE, its length. (2, 4, 16, 11) */
+uint8_t dsq_save(const uint64_t queue[DSQ_QUEUE_WORDS], const uint8_t *store, size_t store_length, uint8_t *image, size_t image_length,
+                 uint64_t out[DSQ_OUT_WORDS], uint64_t time);
+
+/* Restores an image of exactly image_length bytes into a queue that knows no stream and has accepted no message.
+ * (2, 4, 12, 13, 14, 15) */
+uint8_t dsq_restore(uint64_t queue[DSQ_QUEUE_WORDS], uint8_t *store, size_t store_length, const uint8_t *image, size_t image_length,
+                    uint64_t time);
+
+#ifdef __cplusplus
+}
+#endif
+
+#endif

@@ -1,0 +1,898 @@
+/* Tests the send queue from C: a main path through all calls, document 01's examples as far as they show from outside, every refusal,
+ * and that a refused call leaves every array as it was. Ends with 1 and says what failed where something did.
+ *
+ * Every array is allocated with exactly its length, so that valgrind sees an access past its end. */
+#include "send_queue.h"
+
+#include <stdio.h>
+#include <stdlib.h>
+#include <string.h>
+
+static unsigned long passed, failed;
+
+static void check(int ok, int line, const char *text)
+{
+    if (ok) {
+        passed++;
+    } else {
+        failed++;
+        fprintf(stderr, "c/test.c:%d: failed: %s\n", line, text);
+    }
+}
+
+#define CHECK(condition) check((condition) ? 1 : 0, __LINE__, #condition)
+
+static void *allocate(size_t bytes, int mark)
+{
+    void *p = malloc(bytes ? bytes : 1);
+    if (!p) {
+        fprintf(stderr, "no memory\n");
+        exit(2);
+    }
+    memset(p, mark, bytes ? bytes : 1);
+    return p;
+}
+
+/* ---------------------------------------------------------------- a host: a queue with all that it lends to it */
+
+enum { ARRAYS = 7, BUFFER = 3000, SMALL_STORE = 10000 };
+
+struct array {
+    void *at;
+    size_t bytes;
+    void *copy;
+};
+
+struct host {
+    uint64_t *queue;
+    uint8_t *store;
+    size_t store_length;
+    uint64_t *events;
+    size_t events_length;
+    uint8_t *buffer;
+    size_t buffer_length;
+    uint8_t *image;
+    size_t image_length;
+    uint16_t *ids;
+    uint64_t *out;
+    uint64_t time;
+    struct array all[ARRAYS];
+};
+
+/* Arrays full of marks; no queue is in the words yet. */
+static struct host *lend(size_t store_length, size_t buffer_length, size_t image_length)
+{
+    struct host *h = allocate(sizeof *h, 0);
+    int i;
+    h->queue = allocate(DSQ_QUEUE_WORDS * sizeof *h->queue, 0xA5);
+    h->store = allocate(store_length, 0x53);
+    h->store_length = store_length;
+    h->events_length = DSQ_EVENT_WORDS;
+    h->events = allocate(h->events_length * sizeof *h->events, 0xEE);
+    h->buffer = allocate(buffer_length, 0xBB);
+    h->buffer_length = buffer_length;
+    h->image = allocate(image_length, 0x11);
+    h->image_length = image_length;
+    h->ids = allocate(DSQ_MAX_STREAMS * sizeof *h->ids, 0x1D);
+    h->out = allocate(DSQ_OUT_WORDS * sizeof *h->out, 0x0A);
+    h->all[0] = (struct array){h->queue, DSQ_QUEUE_WORDS * sizeof *h->queue, NULL};
+    h->all[1] = (struct array){h->store, store_length, NULL};
+    h->all[2] = (struct array){h->events, h->events_length * sizeof *h->events, NULL};
+    h->all[3] = (struct array){h->buffer, buffer_length, NULL};
+    h->all[4] = (struct array){h->image, image_length, NULL};
+    h->all[5] = (struct array){h->ids, DSQ_MAX_STREAMS * sizeof *h->ids, NULL};
+    h->all[6] = (struct array){h->out, DSQ_OUT_WORDS * sizeof *h->out, NULL};
+    for (i = 0; i < ARRAYS; i++)
+        h->all[i].copy = allocate(h->all[i].bytes, 0);
+    return h;
+}
+
+static void give_back(struct host *h)
+{
+    int i;
+    for (i = 0; i < ARRAYS; i++) {
+        free(h->all[i].at);
+        free(h->all[i].copy);
+    }
+    free(h);
+}
+
+static void remember(struct host *h)
+{
+    int i;
+    for (i = 0; i < ARRAYS; i++)
+        memcpy(h->all[i].copy, h->all[i].at, h->all[i].bytes);
+}
+
+static int as_remembered(const struct host *h)
+{
+    int i;
+    for (i = 0; i < ARRAYS; i++)
+        if (memcmp(h->all[i].copy, h->all[i].at, h->all[i].bytes) != 0)
+            return 0;
+    return 1;
+}
+
+/* The call is refused with this number, and every array stays as it was. */
+#define REFUSED(h, number, call)            \
+    do {                                    \
+        remember(h);                        \
+        CHECK((call) == (number));          \
+        CHECK(as_remembered(h) && (number)); \
+    } while (0)
+
+static uint8_t create(struct host *h, uint64_t payload_limit, uint16_t priority, uint64_t threshold, uint64_t total, uint8_t with_data)
+{
+    return dsq_create(h->queue, h->store, h->store_length, payload_limit, priority, threshold, total, with_data);
+}
+
+/* A queue with payload limit 1,000, default priority 256 and thresholds of 0. */
+static struct host *new_queue(size_t store_length)
+{
+    struct host *h = lend(store_length, BUFFER, DSQ_MAX_IMAGE(store_length));
+    CHECK(create(h, 1000, 256, 0, 0, 1) == DSQ_ACCEPTED);
+    return h;
+}
+
+/* A payload whose bytes tell their places. */
+static uint8_t byte_at(size_t i)
+{
+    return (uint8_t)(i * 7 + i / 256);
+}
+
+static uint8_t *payload_of(size_t length)
+{
+    uint8_t *p = allocate(length, 0);
+    size_t i;
+    for (i = 0; i < length; i++)
+        p[i] = byte_at(i);
+    return p;
+}
+
+/* A message with a lifecycle id (0 for none) that expires (lifetime) or not (NEVER). */
+#define NEVER UINT64_MAX
+
+static uint8_t add(struct host *h, uint16_t stream, size_t length, uint8_t unordered, uint64_t lifetime, uint64_t lifecycle_id)
+{
+    uint8_t *payload = payload_of(length);
+    uint8_t r = dsq_add(h->queue, h->store, h->store_length, payload, length, h->time, stream, 53, unordered, lifetime != NEVER,
+                        lifetime, 0, 9, lifecycle_id);
+    free(payload);
+    return r;
+}
+
+static uint8_t plain(struct host *h, uint16_t stream, size_t length)
+{
+    return add(h, stream, length, 0, NEVER, 0);
+}
+
+static uint8_t produce(struct host *h, uint64_t size)
+{
+    return dsq_produce(h->queue, h->store, h->store_length, h->events, h->events_length, h->buffer, h->buffer_length, h->out, h->time,
+                       size);
+}
+
+static uint8_t discard(struct host *h, uint16_t stream, uint32_t message)
+{
+    return dsq_discard(h->queue, h->events, h->events_length, h->out, stream, message);
+}
+
+static uint8_t close_stream(struct host *h, uint16_t stream)
+{
+    return dsq_prepare_reset_stream(h->queue, h->events, h->events_length, h->out, stream);
+}
+
+static uint8_t set_threshold(struct host *h, uint16_t stream, uint64_t threshold)
+{
+    return dsq_set_buffered_amount_low_threshold(h->queue, h->events, h->events_length, h->out, stream, threshold);
+}
+
+static uint8_t ready(struct host *h)
+{
+    return dsq_get_streams_ready_to_reset(h->queue, h->ids, h->out);
+}
+
+static uint8_t save(struct host *h)
+{
+    return dsq_save(h->queue, h->store, h->store_length, h->image, h->image_length, h->out, h->time);
+}
+
+static uint8_t restore(struct host *h, const uint8_t *image, size_t length)
+{
+    return dsq_restore(h->queue, h->store, h->store_length, image, length, h->time);
+}
+
+/* The answers of questions; a refused one would not be 0. */
+static uint64_t amount(struct host *h, uint16_t stream)
+{
+    CHECK(dsq_buffered_amount(h->queue, h->out, stream) == DSQ_ACCEPTED);
+    return h->out[DSQ_OUT_VALUE];
+}
+
+static uint64_t threshold(struct host *h, uint16_t stream)
+{
+    CHECK(dsq_buffered_amount_low_threshold(h->queue, h->out, stream) == DSQ_ACCEPTED);
+    return h->out[DSQ_OUT_VALUE];
+}
+
+static uint64_t priority(struct host *h, uint16_t stream)
+{
+    CHECK(dsq_get_priority(h->queue, h->out, stream) == DSQ_ACCEPTED);
+    return h->out[DSQ_OUT_VALUE];
+}
+
+static uint64_t has_data(struct host *h)
+{
+    CHECK(dsq_has_data_to_send(h->queue, h->out) == DSQ_ACCEPTED);
+    return h->out[DSQ_OUT_VALUE];
+}
+
+static uint64_t has_ready(struct host *h)
+{
+    CHECK(dsq_has_streams_ready_to_be_reset(h->queue, h->out) == DSQ_ACCEPTED);
+    return h->out[DSQ_OUT_VALUE];
+}
+
+/* The next fragment is of this stream, so long, and has these marks; its bytes are the payload's from `offset` on. */
+static int sends(struct host *h, uint64_t size, uint16_t stream, uint64_t length, uint64_t offset, int first, int last)
+{
+    uint64_t i;
+    if (produce(h, size) != DSQ_ACCEPTED || h->out[DSQ_OUT_VALUE] != 1)
+        return 0;
+    if (h->out[DSQ_OUT_STREAM_ID] != stream || h->out[DSQ_OUT_LENGTH] != length)
+        return 0;
+    if (h->out[DSQ_OUT_FIRST] != (uint64_t)first || h->out[DSQ_OUT_LAST] != (uint64_t)last)
+        return 0;
+    for (i = 0; i < length; i++)
+        if (h->buffer[i] != byte_at((size_t)(offset + i)))
+            return 0;
+    return 1;
+}
+
+/* The fragment's counters. */
+static int counts(const struct host *h, uint64_t ssn, uint64_t mid, uint64_t fsn)
+{
+    return h->out[DSQ_OUT_SSN] == ssn && h->out[DSQ_OUT_MID] == mid && h->out[DSQ_OUT_FSN] == fsn;
+}
+
+/* Nothing waits. */
+static int sends_nothing(struct host *h)
+{
+    return produce(h, 1000) == DSQ_ACCEPTED && h->out[DSQ_OUT_VALUE] == 0;
+}
+
+static int event(const struct host *h, size_t k, uint64_t kind, uint64_t number)
+{
+    return h->events[2 * k] == kind && h->events[2 * k + 1] == number;
+}
+
+/* ---------------------------------------------------------------- images by hand */
+
+struct draft {
+    uint8_t *bytes;
+    size_t length;
+    size_t streams_size;
+    size_t streams, messages;
+};
+
+static void put(struct draft *d, uint64_t value, int width)
+{
+    int i;
+    for (i = width - 1; i >= 0; i--)
+        d->bytes[d->length++] = (uint8_t)(value >> (8 * i));
+}
+
+static struct draft draft(size_t room)
+{
+    struct draft d = {NULL, 0, 0, 0, 0};
+    d.bytes = allocate(room, 0);
+    return d;
+}
+
+static void put_stream(struct draft *d, uint16_t id, uint16_t ssn, uint32_t unordered_mid, uint32_t ordered_mid, uint16_t priority_)
+{
+    put(d, id, 2);
+    put(d, ssn, 2);
+    put(d, unordered_mid, 4);
+    put(d, ordered_mid, 4);
+    put(d, priority_, 2);
+    d->streams++;
+    d->streams_size = d->length;
+}
+
+static void put_message(struct draft *d, uint16_t id, uint8_t flags, uint16_t ssn, uint32_t mid, uint32_t fsn, uint32_t message_id,
+                        uint32_t offset, uint32_t length)
+{
+    uint32_t i;
+    put(d, id, 2);
+    put(d, flags, 1);
+    put(d, 0, 1);
+    put(d, 53, 4);
+    put(d, 0, 4);
+    put(d, 65535, 2);
+    put(d, ssn, 2);
+    put(d, mid, 4);
+    put(d, fsn, 4);
+    put(d, 0, 8);
+    put(d, message_id, 4);
+    put(d, offset, 4);
+    put(d, length, 4);
+    for (i = 0; i < length; i++)
+        put(d, byte_at(i), 1);
+    d->messages++;
+}
+
+static void put_trailer(struct draft *d, uint32_t next_message_id, uint16_t default_priority)
+{
+    size_t messages_size = d->length - d->streams_size;
+    put(d, next_message_id, 4);
+    put(d, default_priority, 2);
+    put(d, d->streams, 2);
+    put(d, d->messages, 2);
+    put(d, 1, 2);
+    put(d, messages_size, 4);
+    put(d, d->streams_size, 4);
+}
+
+/* ---------------------------------------------------------------- the main path, with all calls */
+
+static void main_path(void)
+{
+    struct host *h = lend(SMALL_STORE, BUFFER, DSQ_MAX_IMAGE(SMALL_STORE));
+    struct host *g = lend(SMALL_STORE, BUFFER, DSQ_MAX_IMAGE(SMALL_STORE));
+    uint8_t *payload = payload_of(1500);
+    uint64_t i;
+
+    /* a new queue, on words that held anything */
+    CHECK(create(h, 1000, 256, 20, 30, 0) == DSQ_ACCEPTED);
+    CHECK(dsq_is_empty(h->queue) == 1);
+    CHECK(dsq_total_buffered_amount(h->queue) == 0);
+    CHECK(dsq_get_handover_readiness(h->queue) == DSQ_READY);
+    CHECK(has_data(h) == 0);
+    CHECK(has_ready(h) == 0);
+    CHECK(sends_nothing(h) && h->out[DSQ_OUT_EVENTS] == 0);
+    for (i = DSQ_OUT_LENGTH; i < DSQ_OUT_WORDS; i++)
+        CHECK(h->out[i] == UINT64_C(0x0A0A0A0A0A0A0A0A));
+
+    /* settings */
+    CHECK(dsq_set_priority(h->queue, 5, 512) == DSQ_ACCEPTED);
+    CHECK(priority(h, 5) == 512 && priority(h, 6) == 256);
+    CHECK(set_threshold(h, 5, 700) == DSQ_ACCEPTED && h->out[DSQ_OUT_EVENTS] == 0);
+    CHECK(threshold(h, 5) == 700 && threshold(h, 6) == 20);
+
+    /* a message with all its options, and one behind it */
+    CHECK(dsq_add(h->queue, h->store, h->store_length, payload, 1500, 7, 5, 51, 255, 1, 2000000, 2, 3, 99) == DSQ_ACCEPTED);
+    CHECK(plain(h, 5, 30) == DSQ_ACCEPTED);
+    CHECK(amount(h, 5) == 1530 && amount(h, 6) == 0);
+    CHECK(dsq_total_buffered_amount(h->queue) == 1530);
+    CHECK(dsq_is_empty(h->queue) == 0);
+    CHECK(dsq_get_handover_readiness(h->queue) == DSQ_SEND_QUEUE_NOT_EMPTY);
+    CHECK(has_data(h) == 1);
+
+    /* its first fragment, with all that goes with it; what lies behind in the buffer stays */
+    h->time = 8;
+    CHECK(sends(h, 1000, 5, 1000, 0, 1, 0));
+    CHECK(h->buffer[1000] == 0xBB);
+    CHECK(h->out[DSQ_OUT_EVENTS] == 1 && event(h, 0, DSQ_EVENT_STREAM_LOW, 5));
+    CHECK(h->events[2] == UINT64_C(0xEEEEEEEEEEEEEEEE));
+    CHECK(h->out[DSQ_OUT_MESSAGE_ID] == 0);
+    CHECK(h->out[DSQ_OUT_UNORDERED] == 1);
+    CHECK(counts(h, 0, 0, 0));
+    CHECK(h->out[DSQ_OUT_PPID] == 51);
+    CHECK(h->out[DSQ_OUT_MAX_RETRANSMISSIONS] == 3);
+    CHECK(h->out[DSQ_OUT_EXPIRES] == 1 && h->out[DSQ_OUT_EXPIRES_AT] == 7 + 2000000 + 1000000);
+    CHECK(h->out[DSQ_OUT_LIFECYCLE_ID] == 0);
+    /* its last */
+    CHECK(sends(h, 1000, 5, 500, 1000, 0, 1));
+    CHECK(counts(h, 0, 0, 1));
+    CHECK(h->out[DSQ_OUT_EVENTS] == 1 && event(h, 0, DSQ_EVENT_TOTAL_LOW, 0));
+    CHECK(h->out[DSQ_OUT_LIFECYCLE_ID] == 99);
+    /* the message behind it */
+    CHECK(sends(h, 1000, 5, 30, 0, 1, 1));
+    CHECK(h->out[DSQ_OUT_MESSAGE_ID] == 1 && h->out[DSQ_OUT_UNORDERED] == 0 && counts(h, 0, 0, 0));
+    CHECK(h->out[DSQ_OUT_PPID] == 53 && h->out[DSQ_OUT_MAX_RETRANSMISSIONS] == 65535);
+    CHECK(h->out[DSQ_OUT_EXPIRES] == 0 && h->out[DSQ_OUT_EXPIRES_AT] == 0);
+    CHECK(h->out[DSQ_OUT_EVENTS] == 0);
+    CHECK(dsq_is_empty(h->queue) == 1);
+
+    /* counters of ordered and unordered messages */
+    CHECK(plain(h, 5, 10) == DSQ_ACCEPTED && add(h, 5, 10, 1, NEVER, 0) == DSQ_ACCEPTED);
+    CHECK(sends(h, 1000, 5, 10, 0, 1, 1) && counts(h, 1, 1, 0));
+    CHECK(sends(h, 1000, 5, 10, 0, 1, 1) && counts(h, 0, 1, 0) && h->out[DSQ_OUT_UNORDERED] == 1);
+
+    /* discard: only a head with that id */
+    CHECK(add(h, 7, 40, 0, NEVER, 70) == DSQ_ACCEPTED && add(h, 7, 25, 0, NEVER, 71) == DSQ_ACCEPTED);
+    CHECK(discard(h, 7, 5) == DSQ_ACCEPTED && h->out[DSQ_OUT_EVENTS] == 0 && amount(h, 7) == 65);
+    CHECK(discard(h, 8, 4) == DSQ_ACCEPTED && h->out[DSQ_OUT_EVENTS] == 0);
+    CHECK(discard(h, 7, 4) == DSQ_ACCEPTED && amount(h, 7) == 25);
+    CHECK(h->out[DSQ_OUT_EVENTS] == 3);
+    CHECK(event(h, 0, DSQ_EVENT_TOTAL_LOW, 0) && event(h, 1, DSQ_EVENT_EXPIRED, 70) && event(h, 2, DSQ_EVENT_END, 70));
+    CHECK(discard(h, 7, 5) == DSQ_ACCEPTED && h->out[DSQ_OUT_EVENTS] == 3);
+    CHECK(event(h, 0, DSQ_EVENT_STREAM_LOW, 7) && event(h, 1, DSQ_EVENT_EXPIRED, 71) && event(h, 2, DSQ_EVENT_END, 71));
+    CHECK(amount(h, 7) == 0 && dsq_is_empty(h->queue) == 1);
+
+    /* closing a stream with nothing half-sent drops all; stream before total */
+    CHECK(add(h, 7, 40, 0, NEVER, 72) == DSQ_ACCEPTED);
+    CHECK(close_stream(h, 7) == DSQ_ACCEPTED && h->out[DSQ_OUT_EVENTS] == 4);
+    CHECK(event(h, 0, DSQ_EVENT_STREAM_LOW, 7) && event(h, 1, DSQ_EVENT_TOTAL_LOW, 0));
+    CHECK(event(h, 2, DSQ_EVENT_EXPIRED, 72) && event(h, 3, DSQ_EVENT_END, 72));
+    CHECK(has_ready(h) == 1);
+    /* one with a half-sent message keeps it, and is ready when it ends */
+    CHECK(plain(h, 5, 100) == DSQ_ACCEPTED && plain(h, 5, 9) == DSQ_ACCEPTED);
+    CHECK(sends(h, 60, 5, 60, 0, 1, 0));
+    CHECK(close_stream(h, 5) == DSQ_ACCEPTED && amount(h, 5) == 40);
+    CHECK(ready(h) == DSQ_ACCEPTED && h->out[DSQ_OUT_VALUE] == 1);
+    CHECK(h->ids[0] == 7 && h->ids[1] == 0x1D1D);
+    CHECK(has_ready(h) == 0);
+    CHECK(sends(h, 60, 5, 40, 60, 0, 1));
+    CHECK(has_ready(h) == 1);
+    /* a stream that nobody knew, and both in ascending order; rolled back, the counters stay */
+    CHECK(dsq_rollback_reset_streams(h->queue) == DSQ_ACCEPTED);
+    CHECK(close_stream(h, 2) == DSQ_ACCEPTED && h->out[DSQ_OUT_EVENTS] == 0);
+    CHECK(ready(h) == DSQ_ACCEPTED && h->out[DSQ_OUT_VALUE] == 2 && h->ids[0] == 2 && h->ids[1] == 5 && h->ids[2] == 0x1D1D);
+    CHECK(plain(h, 5, 9) == DSQ_ACCEPTED && has_data(h) == 0);
+    CHECK(dsq_rollback_reset_streams(h->queue) == DSQ_ACCEPTED && has_data(h) == 1);
+    CHECK(sends(h, 60, 5, 9, 0, 1, 1) && counts(h, 3, 3, 0));
+    /* committed, they are 0 */
+    CHECK(close_stream(h, 5) == DSQ_ACCEPTED && ready(h) == DSQ_ACCEPTED && h->out[DSQ_OUT_VALUE] == 1);
+    CHECK(dsq_commit_reset_streams(h->queue) == DSQ_ACCEPTED);
+    CHECK(plain(h, 5, 9) == DSQ_ACCEPTED && sends(h, 60, 5, 9, 0, 1, 1) && counts(h, 0, 0, 0));
+    CHECK(ready(h) == DSQ_ACCEPTED && h->out[DSQ_OUT_VALUE] == 0);
+
+    /* the image, restored by another host: the same bytes again, and what is left of the messages */
+    CHECK(plain(h, 5, 1500) == DSQ_ACCEPTED && add(h, 6, 1200, 1, 5000000, 66) == DSQ_ACCEPTED && plain(h, 5, 10) == DSQ_ACCEPTED);
+    CHECK(dsq_enable_message_interleaving(h->queue, 1) == DSQ_ACCEPTED);
+    CHECK(sends(h, 1000, 5, 1000, 0, 1, 0));
+    CHECK(save(h) == DSQ_ACCEPTED);
+    i = h->out[DSQ_OUT_VALUE];
+    CHECK(i == 14 + 3 * 44 + 1500 + 1200 + 10 + 20 && h->image[i] == 0x11);
+    CHECK(create(g, 1000, 256, 20, 30, 0) == DSQ_ACCEPTED);
+    CHECK(dsq_enable_message_interleaving(g->queue, 3) == DSQ_ACCEPTED);
+    g->time = h->time;
+    CHECK(restore(g, h->image, (size_t)i) == DSQ_ACCEPTED);
+    CHECK(save(g) == DSQ_ACCEPTED && g->out[DSQ_OUT_VALUE] == i && memcmp(g->image, h->image, (size_t)i) == 0);
+    CHECK(amount(g, 5) == 510 && amount(g, 6) == 1200 && priority(g, 5) == 512 && threshold(g, 5) == 20);
+    CHECK(sends(g, 1000, 5, 500, 1000, 0, 1) && counts(g, 1, 1, 1));
+    CHECK(sends(g, 1000, 5, 10, 0, 1, 1) && counts(g, 2, 2, 0));
+    CHECK(sends(g, 1000, 6, 1000, 0, 1, 0) && g->out[DSQ_OUT_UNORDERED] == 1);
+    CHECK(sends(g, 1000, 6, 200, 1000, 0, 1) && g->out[DSQ_OUT_LIFECYCLE_ID] == 66);
+    CHECK(sends_nothing(g));
+
+    /* whole-queue reset */
+    CHECK(dsq_reset(h->queue) == DSQ_ACCEPTED && amount(h, 5) == 1510 && dsq_total_buffered_amount(h->queue) == 2710);
+
+    free(payload);
+    give_back(h);
+    give_back(g);
+}
+
+/* ---------------------------------------------------------------- document 01's examples */
+
+static void examples(void)
+{
+    static const uint8_t new_image[20] = {0, 0, 0, 0, 1, 0, 0, 0, 0, 0, 0, 1, 0, 0, 0, 0, 0, 0, 0, 0};
+    struct host *h = new_queue(SMALL_STORE);
+    struct draft d;
+
+    /* "New queue, default 256, image in hexadecimal: .." */
+    CHECK(save(h) == DSQ_ACCEPTED && h->out[DSQ_OUT_VALUE] == 20 && memcmp(h->image, new_image, 20) == 0 && h->image[20] == 0x11);
+
+    /* "Payload limit and size asked 1,000, two 1,500-byte messages, on 5 then 3: without interleaving sent 3, 3, 5, 5 as 1,000 and
+     * 500." */
+    CHECK(plain(h, 5, 1500) == DSQ_ACCEPTED && plain(h, 3, 1500) == DSQ_ACCEPTED);
+    CHECK(sends(h, 1000, 3, 1000, 0, 1, 0) && sends(h, 1000, 3, 500, 1000, 0, 1));
+    CHECK(sends(h, 1000, 5, 1000, 0, 1, 0) && sends(h, 1000, 5, 500, 1000, 0, 1) && sends_nothing(h));
+    give_back(h);
+
+    /* "With it, weights 512 on 5 and 256 on 3: 5, 5, 3, 3". */
+    h = new_queue(SMALL_STORE);
+    CHECK(dsq_enable_message_interleaving(h->queue, 1) == DSQ_ACCEPTED);
+    CHECK(dsq_set_priority(h->queue, 5, 512) == DSQ_ACCEPTED && dsq_set_priority(h->queue, 3, 256) == DSQ_ACCEPTED);
+    CHECK(plain(h, 5, 1500) == DSQ_ACCEPTED && plain(h, 3, 1500) == DSQ_ACCEPTED);
+    CHECK(sends(h, 1000, 5, 1000, 0, 1, 0) && sends(h, 1000, 5, 500, 1000, 0, 1));
+    CHECK(sends(h, 1000, 3, 1000, 0, 1, 0) && sends(h, 1000, 3, 500, 1000, 0, 1) && sends_nothing(h));
+    give_back(h);
+
+    /* "weight 0 counting as 1": 7 bytes cost the same with both, so the smaller id is sent first. */
+    h = new_queue(SMALL_STORE);
+    CHECK(dsq_enable_message_interleaving(h->queue, 1) == DSQ_ACCEPTED);
+    CHECK(dsq_set_priority(h->queue, 4, 0) == DSQ_ACCEPTED && dsq_set_priority(h->queue, 2, 1) == DSQ_ACCEPTED);
+    CHECK(plain(h, 4, 7) == DSQ_ACCEPTED && plain(h, 2, 7) == DSQ_ACCEPTED);
+    CHECK(sends(h, 7, 2, 7, 0, 1, 1) && sends(h, 7, 4, 7, 0, 1, 1));
+    CHECK(dsq_set_priority(h->queue, 4, 1) == DSQ_ACCEPTED && dsq_set_priority(h->queue, 2, 0) == DSQ_ACCEPTED);
+    CHECK(plain(h, 4, 7) == DSQ_ACCEPTED && plain(h, 2, 7) == DSQ_ACCEPTED);
+    CHECK(sends(h, 7, 2, 7, 0, 1, 1) && sends(h, 7, 4, 7, 0, 1, 1));
+    give_back(h);
+
+    /* "Lifetime 0 at 5,000,000 ns: sent at 5,999,999, expired at 6,000,000." "Left at 5,500,000: 0 ms." */
+    h = new_queue(SMALL_STORE);
+    h->time = 5000000;
+    CHECK(add(h, 1, 10, 0, 0, 0) == DSQ_ACCEPTED && add(h, 1, 20, 0, 0, 8) == DSQ_ACCEPTED);
+    h->time = 5500000;
+    CHECK(save(h) == DSQ_ACCEPTED && h->image[2] == 4 && memcmp(h->image + 8, "\0\0\0\0", 4) == 0);
+    h->time = 4999999;
+    CHECK(save(h) == DSQ_ACCEPTED && h->image[2] == 4 && memcmp(h->image + 8, "\0\0\0\1", 4) == 0);
+    h->time = 5999999;
+    CHECK(sends(h, 100, 1, 10, 0, 1, 1) && h->out[DSQ_OUT_EXPIRES_AT] == 6000000);
+    h->time = 6000000;
+    CHECK(sends_nothing(h) && h->out[DSQ_OUT_EVENTS] == 4);
+    CHECK(event(h, 0, DSQ_EVENT_TOTAL_LOW, 0) && event(h, 1, DSQ_EVENT_STREAM_LOW, 1));
+    CHECK(event(h, 2, DSQ_EVENT_EXPIRED, 8) && event(h, 3, DSQ_EVENT_END, 8));
+    give_back(h);
+
+    /* "Amount 10, threshold 4, 6 sent: fires." "Threshold 4 raised to 10 at amount 10: fires; 10 to 12: silent." */
+    h = new_queue(SMALL_STORE);
+    CHECK(plain(h, 1, 10) == DSQ_ACCEPTED && set_threshold(h, 1, 4) == DSQ_ACCEPTED && h->out[DSQ_OUT_EVENTS] == 0);
+    CHECK(sends(h, 6, 1, 6, 0, 1, 0) && h->out[DSQ_OUT_EVENTS] == 1 && event(h, 0, DSQ_EVENT_STREAM_LOW, 1));
+    CHECK(plain(h, 2, 10) == DSQ_ACCEPTED && set_threshold(h, 2, 4) == DSQ_ACCEPTED && h->out[DSQ_OUT_EVENTS] == 0);
+    CHECK(set_threshold(h, 2, 10) == DSQ_ACCEPTED && h->out[DSQ_OUT_EVENTS] == 1 && event(h, 0, DSQ_EVENT_STREAM_LOW, 2));
+    CHECK(set_threshold(h, 2, 12) == DSQ_ACCEPTED && h->out[DSQ_OUT_EVENTS] == 0);
+    give_back(h);
+
+    /* "After MID 4,294,967,295 comes 0." "After SSN 65,535 comes 0." The FSN and the message id wrap too. */
+    d = draft(1000);
+    put_stream(&d, 1, 65535, UINT32_MAX, UINT32_MAX, 256);
+    put_stream(&d, 2, 1, 0, 1, 256);
+    put_message(&d, 2, 2, 0, 0, UINT32_MAX, 5, 10, 30);
+    put_trailer(&d, UINT32_MAX, 256);
+    h = new_queue(SMALL_STORE);
+    CHECK(restore(h, d.bytes, d.length) == DSQ_ACCEPTED);
+    CHECK(sends(h, 10, 2, 10, 10, 0, 0) && counts(h, 0, 0, UINT32_MAX) && h->out[DSQ_OUT_MESSAGE_ID] == 5);
+    CHECK(sends(h, 10, 2, 10, 20, 0, 1) && counts(h, 0, 0, 0));
+    CHECK(plain(h, 1, 10) == DSQ_ACCEPTED && plain(h, 1, 10) == DSQ_ACCEPTED);
+    CHECK(add(h, 1, 10, 1, NEVER, 0) == DSQ_ACCEPTED && add(h, 1, 10, 1, NEVER, 0) == DSQ_ACCEPTED);
+    CHECK(sends(h, 10, 1, 10, 0, 1, 1) && counts(h, 65535, UINT32_MAX, 0) && h->out[DSQ_OUT_MESSAGE_ID] == UINT32_MAX);
+    CHECK(sends(h, 10, 1, 10, 0, 1, 1) && counts(h, 0, 0, 0) && h->out[DSQ_OUT_MESSAGE_ID] == 0);
+    CHECK(sends(h, 10, 1, 10, 0, 1, 1) && counts(h, 0, UINT32_MAX, 0));
+    CHECK(sends(h, 10, 1, 10, 0, 1, 1) && counts(h, 0, 0, 0));
+    free(d.bytes);
+    give_back(h);
+
+    /* "First message of a stream, 1,500 bytes, 1,000 sent, reset: amount 1,500, next fragment first, FSN 1." */
+    h = new_queue(SMALL_STORE);
+    CHECK(plain(h, 1, 1500) == DSQ_ACCEPTED && sends(h, 1000, 1, 1000, 0, 1, 0) && amount(h, 1) == 500);
+    CHECK(dsq_reset(h->queue) == DSQ_ACCEPTED && amount(h, 1) == 1500);
+    CHECK(sends(h, 1000, 1, 1000, 0, 1, 0) && counts(h, 0, 0, 1));
+    give_back(h);
+}
+
+/* ---------------------------------------------------------------- the ends of the domain */
+
+static void limits(void)
+{
+    struct host *h = lend(DSQ_MAX_STORE, DSQ_MAX_PAYLOAD, DSQ_MAX_IMAGE(DSQ_MAX_STORE));
+    unsigned i;
+
+    /* "Payload 262,144 passes, 262,145 gets 5" */
+    CHECK(create(h, 1, 0, UINT64_MAX, UINT64_MAX, 1) == DSQ_ACCEPTED);
+    CHECK(create(h, DSQ_MAX_PAYLOAD_LIMIT, 65535, 0, 0, 1) == DSQ_ACCEPTED);
+    CHECK(plain(h, 65535, DSQ_MAX_PAYLOAD) == DSQ_ACCEPTED);
+    REFUSED(h, DSQ_PAYLOAD_WRONG, plain(h, 65535, DSQ_MAX_PAYLOAD + 1));
+    CHECK(sends(h, DSQ_MAX_PAYLOAD, 65535, DSQ_MAX_PAYLOAD, 0, 1, 1));
+
+    /* "free bytes count together, however scattered": the store is filled, every other message dropped, and the gaps taken by one */
+    CHECK(create(h, 1000, 256, 0, 0, 1) == DSQ_ACCEPTED);
+    for (i = 0; i < 200; i++)
+        if (plain(h, (uint16_t)i, 10000) != DSQ_ACCEPTED)
+            break;
+    CHECK(i == 200);
+    REFUSED(h, DSQ_STORE_FULL, plain(h, 0, 1));
+    for (i = 0; i < 200; i += 8)
+        if (discard(h, (uint16_t)i, i) != DSQ_ACCEPTED)
+            break;
+    CHECK(i == 200 && dsq_total_buffered_amount(h->queue) == 1750000);
+    REFUSED(h, DSQ_STORE_FULL, plain(h, 0, 250001));
+    CHECK(plain(h, 0, 250000) == DSQ_ACCEPTED);
+    for (i = 0; i < 200; i++)
+        if (i % 8 != 0 ? !sends(h, 10000, (uint16_t)i, 10000, 0, 1, 1) : i == 0 && !sends(h, 250000, 0, 250000, 0, 1, 1))
+            break;
+    CHECK(i == 200 && dsq_is_empty(h->queue) == 1);
+
+    /* "stream 256 passes, 257th gets 6"; 1,024 messages and a full store pass; the longest image */
+    CHECK(create(h, 1000, 256, 0, 0, 1) == DSQ_ACCEPTED);
+    for (i = 0; i < DSQ_MAX_STREAMS; i++)
+        if (dsq_set_priority(h->queue, (uint16_t)(255 - i), 1) != DSQ_ACCEPTED)
+            break;
+    CHECK(i == DSQ_MAX_STREAMS);
+    REFUSED(h, DSQ_STREAMS_FULL, plain(h, 256, 10));
+    REFUSED(h, DSQ_STREAMS_FULL, close_stream(h, 256));
+    REFUSED(h, DSQ_STREAMS_FULL, set_threshold(h, 256, 1));
+    REFUSED(h, DSQ_STREAMS_FULL, dsq_set_priority(h->queue, 256, 1));
+    for (i = 0; i < DSQ_MAX_MESSAGES; i++)
+        if (add(h, (uint16_t)(i % 256), i == DSQ_MAX_MESSAGES - 1 ? 2081 : 1953, 0, 0, i + 1) != DSQ_ACCEPTED)
+            break;
+    CHECK(i == DSQ_MAX_MESSAGES && dsq_total_buffered_amount(h->queue) == DSQ_MAX_STORE);
+    REFUSED(h, DSQ_MESSAGES_FULL, plain(h, 0, 1));
+    CHECK(save(h) == DSQ_ACCEPTED && h->out[DSQ_OUT_VALUE] == DSQ_MAX_IMAGE(DSQ_MAX_STORE));
+
+    /* all of them expired in one call: two events for each, a low one for each stream, one for the total */
+    h->time = 1000000;
+    CHECK(sends_nothing(h) && h->out[DSQ_OUT_EVENTS] == DSQ_MAX_EVENTS);
+    CHECK(dsq_is_empty(h->queue) == 1);
+
+    /* all 256 ids */
+    for (i = 0; i < DSQ_MAX_STREAMS; i++)
+        if (close_stream(h, (uint16_t)(255 - i)) != DSQ_ACCEPTED)
+            break;
+    CHECK(i == DSQ_MAX_STREAMS && ready(h) == DSQ_ACCEPTED && h->out[DSQ_OUT_VALUE] == DSQ_MAX_STREAMS);
+    for (i = 0; i < DSQ_MAX_STREAMS && h->ids[i] == i; i++)
+        ;
+    CHECK(i == DSQ_MAX_STREAMS);
+
+    /* the latest time */
+    CHECK(create(h, 1000, 256, 0, 0, 1) == DSQ_ACCEPTED);
+    h->time = DSQ_MAX_TIME;
+    CHECK(add(h, 1, 10, 0, DSQ_MAX_TIME, 0) == DSQ_ACCEPTED);
+    CHECK(sends(h, 10, 1, 10, 0, 1, 1) && h->out[DSQ_OUT_EXPIRES_AT] == 2 * DSQ_MAX_TIME + 1000000);
+    give_back(h);
+}
+
+/* ---------------------------------------------------------------- refusals; each leaves every array as it was */
+
+static void refusals(void)
+{
+    struct host *h = lend(SMALL_STORE, BUFFER, DSQ_MAX_IMAGE(SMALL_STORE));
+    struct host *g;
+    struct draft d;
+    size_t i, n;
+
+    /* 1 and 2 at creation */
+    REFUSED(h, DSQ_PAYLOAD_LIMIT_WRONG, create(h, 0, 256, 0, 0, 1));
+    REFUSED(h, DSQ_PAYLOAD_LIMIT_WRONG, create(h, DSQ_MAX_PAYLOAD_LIMIT + 1, 256, 0, 0, 1));
+    REFUSED(h, DSQ_PAYLOAD_LIMIT_WRONG, create(h, UINT64_MAX, 256, 0, 0, 1));
+    REFUSED(h, DSQ_STORE_WRONG, dsq_create(h->queue, h->store, 0, 1000, 256, 0, 0, 1));
+    REFUSED(h, DSQ_PAYLOAD_LIMIT_WRONG, dsq_create(h->queue, h->store, 0, 0, 256, 0, 0, 1));
+    g = lend(DSQ_MAX_STORE + 1, BUFFER, 100);
+    REFUSED(g, DSQ_STORE_WRONG, create(g, 1000, 256, 0, 0, 1));
+    give_back(g);
+
+    CHECK(create(h, 1000, 256, 0, 0, 1) == DSQ_ACCEPTED);
+    CHECK(plain(h, 1, 100) == DSQ_ACCEPTED);
+
+    /* 2 later */
+    h->store_length = SMALL_STORE - 1;
+    REFUSED(h, DSQ_STORE_WRONG, plain(h, 1, 100));
+    REFUSED(h, DSQ_STORE_WRONG, produce(h, 1000));
+    REFUSED(h, DSQ_STORE_WRONG, save(h));
+    REFUSED(h, DSQ_STORE_WRONG, restore(h, h->image, 20));
+    h->store_length = SMALL_STORE;
+
+    /* 3 */
+    h->events_length = DSQ_EVENT_WORDS - 1;
+    REFUSED(h, DSQ_EVENT_LIST_SHORT, produce(h, 1000));
+    REFUSED(h, DSQ_EVENT_LIST_SHORT, discard(h, 1, 0));
+    REFUSED(h, DSQ_EVENT_LIST_SHORT, close_stream(h, 1));
+    REFUSED(h, DSQ_EVENT_LIST_SHORT, set_threshold(h, 1, 200));
+    h->events_length = 0;
+    REFUSED(h, DSQ_EVENT_LIST_SHORT, produce(h, 0));
+    h->events_length = DSQ_EVENT_WORDS;
+
+    /* 4 */
+    h->time = DSQ_MAX_TIME + 1;
+    REFUSED(h, DSQ_TIME_LATE, plain(h, 1, 100));
+    REFUSED(h, DSQ_TIME_LATE, plain(h, 1, 0));
+    REFUSED(h, DSQ_TIME_LATE, produce(h, 1000));
+    REFUSED(h, DSQ_TIME_LATE, produce(h, 0));
+    REFUSED(h, DSQ_TIME_LATE, save(h));
+    REFUSED(h, DSQ_TIME_LATE, restore(h, h->image, 20));
+    h->time = 0;
+    REFUSED(h, DSQ_TIME_LATE, add(h, 1, 100, 0, DSQ_MAX_TIME + 1, 0));
+
+    /* 5 (6 and 7: limits) */
+    REFUSED(h, DSQ_PAYLOAD_WRONG, plain(h, 1, 0));
+
+    /* 8 */
+    REFUSED(h, DSQ_STORE_FULL, plain(h, 1, SMALL_STORE - 99));
+
+    /* 9 and 10 */
+    REFUSED(h, DSQ_SIZE_WRONG, produce(h, 0));
+    REFUSED(h, DSQ_SIZE_WRONG, produce(h, DSQ_MAX_PAYLOAD + 1));
+    REFUSED(h, DSQ_SIZE_WRONG, produce(h, UINT64_MAX));
+    REFUSED(h, DSQ_BUFFER_SHORT, produce(h, BUFFER + 1));
+    h->buffer_length = 0;
+    REFUSED(h, DSQ_BUFFER_SHORT, produce(h, 1));
+    h->buffer_length = BUFFER;
+
+    /* 11 */
+    CHECK(save(h) == DSQ_ACCEPTED);
+    n = (size_t)h->out[DSQ_OUT_VALUE];
+    h->image_length = n - 1;
+    REFUSED(h, DSQ_IMAGE_BUFFER_SHORT, save(h));
+    h->image_length = 0;
+    REFUSED(h, DSQ_IMAGE_BUFFER_SHORT, save(h));
+    h->image_length = n;
+    CHECK(save(h) == DSQ_ACCEPTED && h->out[DSQ_OUT_VALUE] == n);
+
+    /* 12: a queue that knows a stream; one whose next message id is not 0 */
+    REFUSED(h, DSQ_QUEUE_USED, restore(h, h->image, n));
+    g = new_queue(SMALL_STORE);
+    d = draft(100);
+    put_trailer(&d, 7, 256);
+    CHECK(restore(g, d.bytes, d.length) == DSQ_ACCEPTED);
+    REFUSED(g, DSQ_QUEUE_USED, restore(g, d.bytes, d.length));
+    free(d.bytes);
+    give_back(g);
+
+    /* 13: a length that is not the image's; a rule of the stream, of the message, of the trailer broken */
+    g = new_queue(SMALL_STORE);
+    for (i = 0; i < n; i++)
+        if (restore(g, h->image, i) != DSQ_IMAGE_WRONG)
+            break;
+    CHECK(i == n);
+    REFUSED(g, DSQ_IMAGE_WRONG, restore(g, h->image, 0));
+    REFUSED(g, DSQ_IMAGE_WRONG, restore(g, h->image, n - 1));
+    h->image[n - 9] ^= 2; /* form */
+    REFUSED(g, DSQ_IMAGE_WRONG, restore(g, h->image, n));
+    h->image[n - 9] ^= 2;
+    h->image[2] ^= 8; /* the first message's flags */
+    REFUSED(g, DSQ_IMAGE_WRONG, restore(g, h->image, n));
+    h->image[2] ^= 8;
+    d = draft(100);
+    put_stream(&d, 1, 0, 0, 0, 256); /* a stream that needs no record */
+    put_trailer(&d, 0, 256);
+    REFUSED(g, DSQ_IMAGE_WRONG, restore(g, d.bytes, d.length));
+    free(d.bytes);
+    d = draft(100);
+    put_stream(&d, 2, 1, 0, 0, 256); /* ids that do not rise */
+    put_stream(&d, 1, 1, 0, 0, 256);
+    put_trailer(&d, 0, 256);
+    REFUSED(g, DSQ_IMAGE_WRONG, restore(g, d.bytes, d.length));
+    free(d.bytes);
+
+    /* 14, after 13 */
+    d = draft(100);
+    put_stream(&d, 1, 1, 0, 0, 256);
+    put_trailer(&d, 0, 255);
+    REFUSED(g, DSQ_PRIORITY_OTHER, restore(g, d.bytes, d.length));
+    d.bytes[d.length - 9] = 2;
+    REFUSED(g, DSQ_IMAGE_WRONG, restore(g, d.bytes, d.length));
+    free(d.bytes);
+    CHECK(restore(g, h->image, n) == DSQ_ACCEPTED);
+    give_back(g);
+
+    /* 15: streams, streams that only messages name, messages, store */
+    g = new_queue(SMALL_STORE);
+    d = draft(14 * 257 + 20);
+    for (i = 0; i < 257; i++)
+        put_stream(&d, (uint16_t)i, 1, 0, 0, 256);
+    put_trailer(&d, 0, 256);
+    REFUSED(g, DSQ_IMAGE_LARGE, restore(g, d.bytes, d.length));
+    free(d.bytes);
+    d = draft(14 * 256 + 45 + 20);
+    for (i = 0; i < 256; i++)
+        put_stream(&d, (uint16_t)i, 1, 0, 0, 256);
+    put_message(&d, 256, 0, 0, 0, 0, 0, 0, 1);
+    put_trailer(&d, 1, 256);
+    REFUSED(g, DSQ_IMAGE_LARGE, restore(g, d.bytes, d.length));
+    free(d.bytes);
+    d = draft(45 * 1025 + 20);
+    for (i = 0; i < 1025; i++)
+        put_message(&d, 1, 0, 0, 0, 0, (uint32_t)i, 0, 1);
+    put_trailer(&d, 1025, 256);
+    REFUSED(g, DSQ_IMAGE_LARGE, restore(g, d.bytes, d.length));
+    free(d.bytes);
+    d = draft(44 + SMALL_STORE + 1 + 20);
+    put_message(&d, 1, 0, 0, 0, 0, 0, 0, SMALL_STORE + 1);
+    put_trailer(&d, 1, 256);
+    REFUSED(g, DSQ_IMAGE_LARGE, restore(g, d.bytes, d.length));
+    free(d.bytes);
+    give_back(g);
+
+    /* after all those the message is still there */
+    CHECK(sends(h, 1000, 1, 100, 0, 1, 1) && sends_nothing(h));
+    give_back(h);
+}
+
+/* ---------------------------------------------------------------- words that no queue has */
+
+static uint64_t seed = 88172645463325252u;
+
+static uint64_t any(void)
+{
+    seed ^= seed << 13;
+    seed ^= seed >> 7;
+    seed ^= seed << 17;
+    return seed;
+}
+
+/* The options (words 0 to 5), the count of messages and the occupied bytes (10 and 12) are kept, since refusals of a smaller number are
+ * judged by them; all else is as large as can be. */
+static void broken_words(void)
+{
+    struct host *h = new_queue(SMALL_STORE);
+    size_t i;
+    CHECK(plain(h, 1, 100) == DSQ_ACCEPTED);
+    for (i = 6; i < DSQ_QUEUE_WORDS; i++)
+        if (i != 10 && i != 12)
+            h->queue[i] = UINT64_MAX;
+    REFUSED(h, DSQ_WORDS_BROKEN, plain(h, 1, 100));
+    REFUSED(h, DSQ_WORDS_BROKEN, produce(h, 1000));
+    REFUSED(h, DSQ_WORDS_BROKEN, discard(h, 1, 0));
+    REFUSED(h, DSQ_WORDS_BROKEN, close_stream(h, 1));
+    REFUSED(h, DSQ_WORDS_BROKEN, set_threshold(h, 1, 1));
+    REFUSED(h, DSQ_WORDS_BROKEN, dsq_set_priority(h->queue, 1, 1));
+    REFUSED(h, DSQ_WORDS_BROKEN, ready(h));
+    REFUSED(h, DSQ_WORDS_BROKEN, dsq_commit_reset_streams(h->queue));
+    REFUSED(h, DSQ_WORDS_BROKEN, dsq_rollback_reset_streams(h->queue));
+    REFUSED(h, DSQ_WORDS_BROKEN, dsq_reset(h->queue));
+    REFUSED(h, DSQ_WORDS_BROKEN, dsq_enable_message_interleaving(h->queue, 1));
+    REFUSED(h, DSQ_WORDS_BROKEN, dsq_get_priority(h->queue, h->out, 1));
+    REFUSED(h, DSQ_WORDS_BROKEN, dsq_buffered_amount(h->queue, h->out, 1));
+    REFUSED(h, DSQ_WORDS_BROKEN, dsq_buffered_amount_low_threshold(h->queue, h->out, 1));
+    REFUSED(h, DSQ_WORDS_BROKEN, dsq_has_data_to_send(h->queue, h->out));
+    REFUSED(h, DSQ_WORDS_BROKEN, dsq_has_streams_ready_to_be_reset(h->queue, h->out));
+    REFUSED(h, DSQ_WORDS_BROKEN, save(h));
+    REFUSED(h, DSQ_QUEUE_USED, restore(h, h->image, 20));
+    CHECK(dsq_is_empty(h->queue) == 0);
+    CHECK(create(h, 1000, 256, 0, 0, 1) == DSQ_ACCEPTED && plain(h, 1, 100) == DSQ_ACCEPTED && sends(h, 1000, 1, 100, 0, 1, 1));
+    give_back(h);
+}
+
+/* One of all calls that can be refused. */
+static uint8_t some_call(struct host *h, unsigned which)
+{
+    uint16_t stream = (uint16_t)(any() % 5);
+    switch (which) {
+    case 0: return plain(h, stream, 1 + (size_t)(any() % 200));
+    case 1: return produce(h, 1 + any() % 200);
+    case 2: return discard(h, stream, (uint32_t)(any() % 20));
+    case 3: return close_stream(h, stream);
+    case 4: return set_threshold(h, stream, any() % 300);
+    case 5: return dsq_set_priority(h->queue, stream, (uint16_t)any());
+    case 6: return ready(h);
+    case 7: return dsq_commit_reset_streams(h->queue);
+    case 8: return dsq_rollback_reset_streams(h->queue);
+    case 9: return dsq_reset(h->queue);
+    case 10: return dsq_enable_message_interleaving(h->queue, (uint8_t)(any() % 2));
+    case 11: return dsq_get_priority(h->queue, h->out, stream);
+    case 12: return dsq_buffered_amount(h->queue, h->out, stream);
+    case 13: return dsq_buffered_amount_low_threshold(h->queue, h->out, stream);
+    case 14: return dsq_has_data_to_send(h->queue, h->out);
+    case 15: return dsq_has_streams_ready_to_be_reset(h->queue, h->out);
+    case 16: return save(h);
+    default: return restore(h, h->image, 20 + (size_t)(any() % 50));
+    }
+}
+
+/* A queue in use, some of its words damaged: every call returns, and where it refuses leaves every array as it was. */
+static void damaged_words(void)
+{
+    struct host *h = new_queue(SMALL_STORE);
+    unsigned round, i, refused = 0, right = 1;
+    for (round = 0; round < 60; round++) {
+        if (create(h, 1000, 256, 0, 0, 1) != DSQ_ACCEPTED)
+            right = 0;
+        for (i = 0; i < 12; i++)
+            (void)some_call(h, (unsigned)(any() % 6));
+        for (i = 0; i < 1 + round % 5; i++)
+            h->queue[6 + any() % (i % 2 ? DSQ_QUEUE_WORDS - 6 : 600)] = any() % 2 ? any() : any() % 2000;
+        for (i = 0; i < 18; i++) {
+            uint8_t r;
+            remember(h);
+            r = some_call(h, i);
+            if (r > DSQ_WORDS_BROKEN || (r != DSQ_ACCEPTED && !as_remembered(h)))
+                right = 0;
+            if (r == DSQ_WORDS_BROKEN)
+                refused++;
+        }
+    }
+    CHECK(right);
+    CHECK(refused > 0);
+    give_back(h);
+}
+
+int main(void)
+{
+    main_path();
+    examples();
+    limits();
+    refusals();
+    broken_words();
+    damaged_words();
+    if (failed) {
+        fprintf(stderr, "c: %lu checks failed\n", failed);
+        return 1;
+    }
+    printf("c: %lu checks passed\n", passed);
+    return 0;
+}

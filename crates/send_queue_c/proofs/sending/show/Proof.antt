@@ -1,0 +1,51 @@
+-- `send_queue_c::sending::show` meets its contract: each return is what its definition says, by what the calls ensure and the tests taken. Assumes nothing.
+use borrow.Author.Needs.{needs}
+use Rattle.send_queue_c.specs.Numbers.{shown}
+use Rattle.send_queue_c.proofs.sending.show.Statement.{statement}
+use Rattle.send_queue_c.proofs.sending.show.Tie as tie
+
+returns : tie.Need-returns
+unfolding shown
+returns c =
+    rw (
+      ← (c .before .before .before .before .before .before .before .before .before .before .before .before .before .expiry-number .ensures),
+      ← (c .before .before .before .before .before .before .before .before .before .before .before .before .expiry-time .ensures),
+      ← (c .before .before .before .before .before .before .before .before .before .before .id .ensures),
+      ← (c .before .before .before .before .before .before .before .before .before .is-unordered .ensures),
+    )
+
+pub show-spec : {M : Type 1} → statement M
+show-spec =
+    tie.close
+    (tie.spec
+    (λ c. search needs)
+    (λ c. search needs)
+    (λ c. search needs)
+    (λ c. search needs)
+    (λ c. search needs)
+    (λ c. search needs)
+    (λ c. search needs)
+    (λ c. search needs)
+    (λ c. search needs)
+    (λ c. search needs)
+    (λ c. search needs)
+    (λ c. search needs)
+    (λ c. search needs)
+    (λ c. search needs)
+    (λ c. search needs)
+    (λ c. search needs)
+    (λ c. search needs)
+    (λ c. search needs)
+    (λ c. search needs)
+    (λ c. search needs)
+    (λ c. search needs)
+    (λ c. search needs)
+    (λ c. search needs)
+    (λ c. search needs)
+    (λ c. search needs)
+    (λ c. search needs)
+    (λ c. search needs)
+    (λ c. search needs)
+    (λ c. search needs)
+    (λ c. search needs)
+    returns)

@@ -1,0 +1,16 @@
+-- `send_queue_c::streams::dsq_reset` meets its contract: each return is what its definition says, by what the calls ensure and the tests taken. Assumes nothing.
+use borrow.Author.Needs.{needs}
+use Rattle.send_queue_c.proofs.Gives.{gives}
+use Rattle.send_queue_c.proofs.streams.dsq_reset.Statement.{statement}
+use Rattle.send_queue_c.proofs.streams.dsq_reset.Tie as tie
+
+returns : tie.Need-returns
+returns c = gives _ _ _ _ (c .before .reset .ensures .words) (c .call-number .ensures)
+
+pub dsq-reset-spec : {M : Type 1} → statement M
+dsq-reset-spec =
+    tie.close
+    (tie.spec
+    (λ c. search needs)
+    (λ c. search needs)
+    returns)

@@ -1,0 +1,32 @@
+-- `send_queue_c::streams::tell_ready` meets its contract, by what the calls ensure and the arms matched. Assumes nothing.
+use borrow.Author.Needs.{needs}
+use mathlib.Core.Path.{refl}
+use native.Mathlib.Omega.{arith}
+use Rattle.send_queue_c.proofs.streams.tell_ready.Statement.{statement}
+use Rattle.send_queue_c.proofs.streams.tell_ready.Tie as tie
+
+copy-ids-requires : tie.Need-copy-ids-requires
+copy-ids-requires c κs =
+    let few = c .before .before .before .before .before .before .before .before .before .pre in
+    (omega (arith, few, c .before .before .before .before .whole .ensures), omega (arith, few, c .before .before .whole2 .ensures))
+
+returns : tie.Need-returns
+returns c =
+    rw (
+      c .before .before .before .before .before .before .before .before .enum-told .given .1,
+      ← (c .copy-ids .ensures),
+    ) (refl, refl, refl)
+
+pub tell-ready-spec : {M : Type 1} → statement M
+tell-ready-spec =
+    tie.close
+    (tie.spec
+    (λ c. search needs)
+    (λ c κs. search needs)
+    (λ c κs. search needs)
+    (λ c. search needs)
+    copy-ids-requires
+    (λ c. search needs)
+    (λ c. search needs)
+    returns
+    (λ c. search needs))

@@ -1,0 +1,60 @@
+-- What a call gives: the number r, and what is left in each array, by the definition on the words. `out` is the array before the call. Assumes nothing.
+use Prim.Native.Nat.{ℕ}
+use mathlib.Core.Path.{_≡_}
+use mathlib.Core.List.{List}
+use Rattle.queue_streams.specs.Settings.{Called, CalledWith}
+use Rattle.queue_streams.specs.declared.answers.Flag.{Flag}
+use Rattle.queue_streams.specs.declared.answers.Number.{Number}
+use Rattle.queue_messages.specs.Add.{Added}
+use Rattle.queue_restarts.specs.Ready.{Readied}
+use Rattle.queue_sending.specs.Data.{ProducedWith}
+use Rattle.saving.specs.Save.{SavedAs}
+use Rattle.send_queue_c.specs.Numbers.{callNumber, callOut, numberNumber, numberOut, flagNumber, flagOut, producedNumber, producedOut, readyNumber, readyIds, readyOut, savedNumber, savedOut}
+
+-- A call that changes the words alone.
+pub record Gives (d : Called) (r : ℕ) (ws′ : List ℕ) : Type 0 where
+  pub number : r ≡ callNumber (d .answer)
+  pub queue : ws′ ≡ d .next
+
+-- A call that writes events.
+pub record GivesEvents (d : CalledWith) (out : List ℕ) (r : ℕ) (ws′ es′ out′ : List ℕ) : Type 0 where
+  pub number : r ≡ callNumber (d .answer)
+  pub queue : ws′ ≡ d .next
+  pub events : es′ ≡ d .events
+  pub places : out′ ≡ callOut out (d .answer)
+
+-- A call that writes payloads to the store.
+pub record GivesStore (d : Added) (r : ℕ) (ws′ st′ : List ℕ) : Type 0 where
+  pub number : r ≡ callNumber (d .answer)
+  pub queue : ws′ ≡ d .words
+  pub store : st′ ≡ d .store
+
+-- The next fragment.
+pub record GivesFragment (d : ProducedWith) (out : List ℕ) (r : ℕ) (ws′ es′ bs′ out′ : List ℕ) : Type 0 where
+  pub number : r ≡ producedNumber (d .answer)
+  pub queue : ws′ ≡ d .words
+  pub events : es′ ≡ d .events
+  pub buffer : bs′ ≡ d .buffer
+  pub places : out′ ≡ producedOut out (d .answer)
+
+-- Ready ids.
+pub record GivesIds (d : Readied) (ids out : List ℕ) (r : ℕ) (ws′ ids′ out′ : List ℕ) : Type 0 where
+  pub number : r ≡ readyNumber (d .answer)
+  pub queue : ws′ ≡ d .next
+  pub ready : ids′ ≡ readyIds ids (d .answer)
+  pub places : out′ ≡ readyOut out (d .answer)
+
+-- A question for a number, and one for yes or no.
+pub record GivesNumber (d : Number) (out : List ℕ) (r : ℕ) (out′ : List ℕ) : Type 0 where
+  pub number : r ≡ numberNumber d
+  pub places : out′ ≡ numberOut out d
+
+pub record GivesFlag (d : Flag) (out : List ℕ) (r : ℕ) (out′ : List ℕ) : Type 0 where
+  pub number : r ≡ flagNumber d
+  pub places : out′ ≡ flagOut out d
+
+-- Saving.
+pub record GivesImage (d : SavedAs) (out : List ℕ) (r : ℕ) (b′ out′ : List ℕ) : Type 0 where
+  pub number : r ≡ savedNumber (d .answer)
+  pub image : b′ ≡ d .image
+  pub places : out′ ≡ savedOut out (d .answer)

@@ -1,0 +1,116 @@
+// Creating a queue, adding a message, discarding one.
+ghost use mathlib.Core.Path.{_≡_};
+ghost use lib.ListN.{length};
+ghost use Rattle.queue_messages.specs.Add.{add};
+ghost use Rattle.queue_messages.specs.Create.{create};
+ghost use Rattle.queue_messages.specs.Discard.{discard};
+ghost use Rattle.send_queue_c.specs.Numbers.{isYes, lifetimeOf, retransmissionsOf, messageOf};
+ghost use Rattle.send_queue_c.specs.Given.{Gives, GivesEvents, GivesStore};
+use crate::numbers::OUT_WORDS;
+use crate::numbers::call_number;
+use crate::numbers::is_yes;
+use crate::numbers::tell_call;
+use send_queue::Lifetime;
+use send_queue::MaxRetransmissions;
+use send_queue::Message;
+use send_queue::QUEUE_WORDS;
+use send_queue::StreamId;
+use send_queue::add;
+use send_queue::create;
+use send_queue::discard;
+
+#[no_mangle]
+pub extern "C" fn dsq_create(
+    queue: &mut [u64; QUEUE_WORDS],
+    store: &[u8],
+    payload_limit: u64,
+    default_priority: u16,
+    default_threshold: u64,
+    total_threshold: u64,
+    handover_with_data: u8,
+) -> u8
+    ensures { λ r. ⌜ Gives (create (now (queue .entry)) (length (now (store .entry))) «payload_limit» «default_priority» «default_threshold» «total_threshold» (isYes «handover_with_data»)) r (now (queue .exit)) ⌝ }
+{
+    let with_data = is_yes(handover_with_data);
+    let c = create(
+        queue,
+        store,
+        payload_limit,
+        default_priority,
+        default_threshold,
+        total_threshold,
+        with_data,
+    );
+    call_number(c)
+}
+
+fn lifetime_of(given: u8, nanoseconds: u64) -> Lifetime
+    ensures { λ r. ⌜ r ≡ lifetimeOf (isYes given) nanoseconds ⌝ }
+{
+    let yes = is_yes(given);
+    if yes {
+        return Lifetime::Limited(nanoseconds);
+    }
+    Lifetime::Unlimited
+}
+
+fn retransmissions_of(given: u8, limit: u16) -> MaxRetransmissions
+    ensures { λ r. ⌜ r ≡ retransmissionsOf (isYes given) limit ⌝ }
+{
+    let yes = is_yes(given);
+    if yes {
+        return MaxRetransmissions::Limited(limit);
+    }
+    MaxRetransmissions::Unlimited
+}
+
+#[no_mangle]
+pub extern "C" fn dsq_add(
+    queue: &mut [u64; QUEUE_WORDS],
+    store: &mut [u8],
+    payload: &[u8],
+    time: u64,
+    stream_id: u16,
+    ppid: u32,
+    unordered: u8,
+    has_lifetime: u8,
+    lifetime: u64,
+    has_retransmissions: u8,
+    max_retransmissions: u16,
+    lifecycle_id: u64,
+) -> u8
+    ensures { λ r. ⌜ GivesStore (add (now (queue .entry)) (now (store .entry)) time (messageOf «stream_id» ppid unordered «has_lifetime» lifetime «has_retransmissions» «max_retransmissions» «lifecycle_id») (now (payload .entry))) r (now (queue .exit)) (now (store .exit)) ⌝ }
+{
+    let u = is_yes(unordered);
+    let l = lifetime_of(has_lifetime, lifetime);
+    let m = retransmissions_of(has_retransmissions, max_retransmissions);
+    let c = add(
+        queue,
+        store,
+        time,
+        Message {
+            stream_id: StreamId(stream_id),
+            ppid: ppid,
+            unordered: u,
+            lifetime: l,
+            max_retransmissions: m,
+            lifecycle_id: lifecycle_id,
+        },
+        payload,
+    );
+    call_number(c)
+}
+
+#[no_mangle]
+pub extern "C" fn dsq_discard(
+    queue: &mut [u64; QUEUE_WORDS],
+    events: &mut [u64],
+    out: &mut [u64; OUT_WORDS],
+    stream_id: u16,
+    message_id: u32,
+) -> u8
+    ensures { λ r. ⌜ GivesEvents (discard (now (queue .entry)) (now (events .entry)) «stream_id» «message_id») (now (out .entry)) r (now (queue .exit)) (now (events .exit)) (now (out .exit)) ⌝ }
+{
+    let c = discard(queue, events, stream_id, message_id);
+    tell_call(out, c)
+}

@@ -1,0 +1,108 @@
+// The next fragment.
+ghost use mathlib.Core.Path.{_≡_};
+ghost use Rattle.queue_sending.specs.Produce.{produceNext};
+ghost use Rattle.send_queue_c.specs.Numbers.{expiryNumber, expiryTime, shown, producedNumber, producedOut};
+ghost use Rattle.send_queue_c.specs.Given.{GivesFragment};
+use crate::numbers::EVENTS;
+use crate::numbers::EXPIRES;
+use crate::numbers::EXPIRES_AT;
+use crate::numbers::FIRST;
+use crate::numbers::FSN;
+use crate::numbers::LAST;
+use crate::numbers::LENGTH;
+use crate::numbers::LIFECYCLE_ID;
+use crate::numbers::MAX_RETRANSMISSIONS;
+use crate::numbers::MESSAGE_ID;
+use crate::numbers::MID;
+use crate::numbers::OUT_WORDS;
+use crate::numbers::PPID;
+use crate::numbers::SSN;
+use crate::numbers::STREAM_ID;
+use crate::numbers::UNORDERED;
+use crate::numbers::VALUE;
+use send_queue::DataToSend;
+use send_queue::Expiry;
+use send_queue::Produced;
+use send_queue::QUEUE_WORDS;
+use send_queue::produce;
+
+fn expiry_number(e: Expiry) -> u64
+    ensures { λ r. ⌜ r ≡ expiryNumber e ⌝ }
+{
+    match e {
+        Expiry::Never => 0,
+        Expiry::At(_) => 1,
+    }
+}
+
+fn expiry_time(e: Expiry) -> u64
+    ensures { λ r. ⌜ r ≡ expiryTime e ⌝ }
+{
+    match e {
+        Expiry::Never => 0,
+        Expiry::At(t) => t,
+    }
+}
+
+// What goes with a fragment.
+fn show(out: &mut [u64; OUT_WORDS], k: usize, d: DataToSend)
+    ensures { λ _. ⌜ now (out .exit) ≡ shown (now (out .entry)) k d ⌝ }
+{
+    let e = d.expires_at;
+    let expires = expiry_number(e);
+    let at = expiry_time(e);
+    let data = d.data;
+    let key = data.stream_key;
+    let id = key.id();
+    let unordered = key.is_unordered();
+    out[VALUE] = 1;
+    out[EVENTS] = k as u64;
+    out[LENGTH] = data.length;
+    out[MESSAGE_ID] = d.message_id.0 as u64;
+    out[STREAM_ID] = id.0 as u64;
+    out[UNORDERED] = unordered as u64;
+    out[SSN] = data.ssn.0 as u64;
+    out[MID] = data.mid.0 as u64;
+    out[FSN] = data.fsn.0 as u64;
+    out[PPID] = data.ppid as u64;
+    out[FIRST] = data.is_beginning as u64;
+    out[LAST] = data.is_end as u64;
+    out[MAX_RETRANSMISSIONS] = d.max_retransmissions as u64;
+    out[EXPIRES] = expires;
+    out[EXPIRES_AT] = at;
+    out[LIFECYCLE_ID] = d.lifecycle_id;
+}
+
+// Where nothing waits the value is 0, and what goes with a fragment stays as it was.
+fn tell_produced(out: &mut [u64; OUT_WORDS], p: Produced) -> u8
+    ensures { λ r. ⌜ (r ≡ producedNumber p) × (now (out .exit) ≡ producedOut (now (out .entry)) p) ⌝ }
+{
+    match p {
+        Produced::Nothing(k) => {
+            out[VALUE] = 0;
+            out[EVENTS] = k as u64;
+            0
+        }
+        Produced::Fragment(k, d) => {
+            show(out, k, d);
+            0
+        }
+        Produced::Refused(n) => n,
+    }
+}
+
+#[no_mangle]
+pub extern "C" fn dsq_produce(
+    queue: &mut [u64; QUEUE_WORDS],
+    store: &[u8],
+    events: &mut [u64],
+    buffer: &mut [u8],
+    out: &mut [u64; OUT_WORDS],
+    time: u64,
+    size: u64,
+) -> u8
+    ensures { λ r. ⌜ GivesFragment (produceNext (now (queue .entry)) (now (store .entry)) (now (events .entry)) (now (buffer .entry)) time size) (now (out .entry)) r (now (queue .exit)) (now (events .exit)) (now (buffer .exit)) (now (out .exit)) ⌝ }
+{
+    let p = produce(queue, store, events, buffer, time, size);
+    tell_produced(out, p)
+}

@@ -1,0 +1,216 @@
+//! A small job of a card feeder: profiles go to eight writing heads, one stream a head, through the send queue.
+//!
+//! The heads' backlogs run low, a head's job is closed in the middle of a profile, and half-way the queue is carried to a second host as
+//! an image. At the end every profile is compared byte for byte with what was queued.
+
+use desqariy::*;
+use std::collections::BTreeMap;
+use std::error::Error;
+use std::time::Duration;
+
+const HEADS: std::ops::RangeInclusive<u16> = 1..=8;
+const PACKET: usize = 1_200;
+const MARK: usize = 3_000;
+/// So many packets are shown.
+const SHOWN: u64 = 10;
+const CLOSED: StreamId = StreamId(5);
+
+type Outcome<T> = Result<T, Box<dyn Error>>;
+
+/// The bytes of a profile: each has its own.
+fn profile(number: u64) -> Vec<u8> {
+    let length = 1_500 + (number * 7_919 % 6_000) as usize;
+    (0..length as u64).map(|i| (i * 31 + number * 17 + i / 251) as u8).collect()
+}
+
+/// The profiles of a head are numbered 101, 102, .. for head 1 and so on.
+fn number(head: u16, place: u64) -> u64 {
+    u64::from(head) * 100 + place
+}
+
+/// The other end: puts fragments together again.
+#[derive(Default)]
+struct Receiver {
+    open: BTreeMap<(StreamKey, u32), (Fsn, Vec<u8>)>,
+    whole: Vec<(StreamId, Vec<u8>)>,
+}
+
+impl Receiver {
+    fn take(&mut self, d: &DataToSend) -> Outcome<()> {
+        let key = (d.data.stream_key, d.data.mid.0);
+        if d.data.is_beginning && self.open.insert(key, (d.data.fsn, Vec::new())).is_some() {
+            return Err(format!("head {}: message {} begins twice", key.0.id(), key.1).into());
+        }
+        let (next, bytes) = self.open.get_mut(&key).ok_or("a fragment without a beginning")?;
+        if *next != d.data.fsn {
+            return Err(format!("head {}: fragment {} comes where {next} should", key.0.id(), d.data.fsn).into());
+        }
+        *next = next.add_to(1);
+        bytes.extend_from_slice(d.data.payload);
+        if d.data.is_end {
+            let (_, bytes) = self.open.remove(&key).expect("it was just there");
+            self.whole.push((key.0.id(), bytes));
+        }
+        Ok(())
+    }
+}
+
+/// The feeder: a queue, the link to the heads, and what became of the profiles.
+struct Feeder {
+    queue: SendQueue,
+    link: Receiver,
+    now: SocketTime,
+    fragments: u64,
+    dropped: Vec<u64>,
+}
+
+impl Feeder {
+    /// Sends packets, at most so many; how many there were.
+    fn send(&mut self, packets: usize) -> Outcome<usize> {
+        let mut packet = [0; PACKET];
+        for sent in 0..packets {
+            self.now = self.now + Duration::from_micros(100);
+            let fragment = self.queue.produce_into(self.now, &mut packet)?;
+            if let Some(d) = &fragment {
+                self.link.take(d)?;
+                self.fragments += 1;
+                if self.fragments <= SHOWN {
+                    let (head, data) = (d.data.stream_key.id(), &d.data);
+                    println!(
+                        "  packet {}: head {head}, fragment {}, {} bytes",
+                        self.fragments,
+                        data.fsn,
+                        data.payload.len()
+                    );
+                }
+            }
+            let nothing = fragment.is_none();
+            self.tell();
+            if nothing {
+                return Ok(sent);
+            }
+        }
+        Ok(packets)
+    }
+
+    /// Tells what the last call reported.
+    fn tell(&mut self) {
+        for event in self.queue.events() {
+            match event {
+                Event::StreamLow(head) => {
+                    println!("  head {head}: backlog low, {} bytes left", self.queue.buffered_amount(head));
+                }
+                Event::TotalLow => println!("  feeder: all backlogs together low"),
+                Event::Expired(profile) => println!("  profile {profile}: dropped"),
+                Event::End(profile) => self.dropped.push(profile.value()),
+            }
+        }
+    }
+}
+
+fn options() -> Options {
+    Options {
+        default_stream_buffered_amount_low_threshold: MARK,
+        total_buffered_amount_low_threshold: 20_000,
+        enable_handover_with_outstanding_data: true,
+        ..Options::default()
+    }
+}
+
+fn new_queue() -> Result<SendQueue, Refusal> {
+    let mut queue = SendQueue::new(PACKET, &options())?;
+    queue.enable_message_interleaving(true);
+    Ok(queue)
+}
+
+fn main() -> Outcome<()> {
+    println!("first host: profiles for eight heads, interleaved; head 1 has double weight; the mark is {MARK} bytes");
+    let mut feeder = Feeder {
+        queue: new_queue()?,
+        link: Receiver::default(),
+        now: SocketTime::zero(),
+        fragments: 0,
+        dropped: Vec::new(),
+    };
+    feeder.queue.set_priority(StreamId(1), 512)?;
+    let mut queued = Vec::new();
+    for head in HEADS {
+        for place in 1..=3 {
+            let id = number(head, place);
+            let lifetime = (id == 803).then_some(Duration::from_millis(2));
+            let options = SendOptions { lifecycle_id: LifecycleId::new(id), lifetime, ..Default::default() };
+            feeder.queue.add(feeder.now, Message::new(StreamId(head), PpId(53), &profile(id)), &options)?;
+            queued.push(id);
+        }
+        println!("  head {head}: 3 profiles, {} bytes", feeder.queue.buffered_amount(StreamId(head)));
+    }
+    println!("  profile 803 is of use for 2 ms only");
+    println!("  in all {} bytes", feeder.queue.total_buffered_amount());
+
+    println!("packets of at most {PACKET} bytes go out; the first {SHOWN} of them:");
+    feeder.send(45)?;
+
+    println!("head {CLOSED}: its job is closed, {} bytes left", feeder.queue.buffered_amount(CLOSED));
+    feeder.queue.prepare_reset_stream(CLOSED)?;
+    feeder.tell();
+    let rest = feeder.queue.buffered_amount(CLOSED);
+    if rest == 0 || feeder.queue.has_streams_ready_to_be_reset() {
+        return Err("head 5 was not in the middle of a profile".into());
+    }
+    println!("  its half-sent profile goes on: {rest} bytes");
+    while !feeder.queue.has_streams_ready_to_be_reset() {
+        feeder.send(1)?;
+    }
+    let ready = feeder.queue.get_streams_ready_to_reset();
+    println!("  it is sent; ready to be reset: {ready:?}");
+    feeder.queue.commit_reset_streams();
+
+    let image = feeder.queue.save(feeder.now)?;
+    println!(
+        "changeover: an image of {} bytes, {} of them still to be sent",
+        image.len(),
+        feeder.queue.total_buffered_amount()
+    );
+    let mut second = new_queue()?;
+    // The second host has a clock of its own.
+    let clock = SocketTime(77_000_000_000);
+    second.restore(clock, &image)?;
+    if second.save(clock)? != image || second.total_buffered_amount() != feeder.queue.total_buffered_amount() {
+        return Err("the second host has another queue than the first".into());
+    }
+    println!("second host: restored, {} bytes to be sent; its own image is the same", second.total_buffered_amount());
+    feeder.queue = second;
+    feeder.now = clock;
+    // Head 5 counts from 0 again; a new job for it.
+    let new = number(CLOSED.0, 4);
+    feeder.queue.add(clock, Message::new(CLOSED, PpId(53), &profile(new)), &SendOptions::default())?;
+    queued.push(new);
+    feeder.send(usize::MAX)?;
+    println!("second host: nothing waits; {} packets in all", feeder.fragments);
+
+    check(&feeder, &queued)
+}
+
+/// Every profile came whole, to its head and in order, but for the dropped ones.
+fn check(feeder: &Feeder, queued: &[u64]) -> Outcome<()> {
+    if !feeder.queue.is_empty() || !feeder.link.open.is_empty() {
+        return Err("something was left over".into());
+    }
+    let mut dropped = feeder.dropped.clone();
+    dropped.sort();
+    for head in HEADS {
+        let mut want = queued.iter().filter(|id| **id / 100 == u64::from(head) && !dropped.contains(id));
+        for (_, bytes) in feeder.link.whole.iter().filter(|(to, _)| to.0 == head) {
+            let id = want.next().ok_or_else(|| format!("head {head}: a profile too many"))?;
+            if *bytes != profile(*id) {
+                return Err(format!("profile {id} arrived changed").into());
+            }
+        }
+        if let Some(id) = want.next() {
+            return Err(format!("profile {id} did not arrive").into());
+        }
+    }
+    println!("{} profiles compared byte for byte; dropped: {dropped:?}", feeder.link.whole.len());
+    println!("every profile arrived whole");
+    Ok(())
+}

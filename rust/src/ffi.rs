@@ -1,0 +1,330 @@
+//! The proved queue's C functions, each behind a safe function. All unsafe code of the crate is here.
+//!
+//! Why the calls are safe. The C functions ask for pointers that are valid for the lengths given, that do not overlap where one is written,
+//! and that are aligned. Here every pointer is made from a reference of a fixed or given length, which lives through the call; Rust's rules
+//! for `&mut` say that it overlaps nothing. Words and bytes have no forbidden values. The library reads and writes inside its buffers only
+//! (that is proved), keeps no pointer and has no state of its own. It never unwinds.
+
+use crate::limits::EVENT_WORDS;
+use crate::limits::MAX_STREAMS;
+use crate::limits::OUT_WORDS;
+use crate::limits::QUEUE_WORDS;
+
+/// A queue's state.
+pub(crate) type Words = [u64; QUEUE_WORDS];
+/// An event list.
+pub(crate) type EventWords = [u64; EVENT_WORDS];
+/// What a call tells: 0 its value, 1 the number of events, 2 to 15 what goes with a fragment.
+pub(crate) type Out = [u64; OUT_WORDS];
+/// Room for all ready ids.
+pub(crate) type ReadyIds = [u16; MAX_STREAMS];
+
+mod c {
+    unsafe extern "C" {
+        pub fn dsq_create(
+            queue: *mut u64,
+            store: *const u8,
+            store_length: usize,
+            payload_limit: u64,
+            default_priority: u16,
+            default_threshold: u64,
+            total_threshold: u64,
+            handover_with_data: u8,
+        ) -> u8;
+        pub fn dsq_add(
+            queue: *mut u64,
+            store: *mut u8,
+            store_length: usize,
+            payload: *const u8,
+            payload_length: usize,
+            time: u64,
+            stream_id: u16,
+            ppid: u32,
+            unordered: u8,
+            has_lifetime: u8,
+            lifetime: u64,
+            has_retransmissions: u8,
+            max_retransmissions: u16,
+            lifecycle_id: u64,
+        ) -> u8;
+        pub fn dsq_produce(
+            queue: *mut u64,
+            store: *const u8,
+            store_length: usize,
+            events: *mut u64,
+            events_length: usize,
+            buffer: *mut u8,
+            buffer_length: usize,
+            out: *mut u64,
+            time: u64,
+            size: u64,
+        ) -> u8;
+        pub fn dsq_discard(
+            queue: *mut u64,
+            events: *mut u64,
+            events_length: usize,
+            out: *mut u64,
+            stream_id: u16,
+            message_id: u32,
+        ) -> u8;
+        pub fn dsq_prepare_reset_stream(
+            queue: *mut u64,
+            events: *mut u64,
+            events_length: usize,
+            out: *mut u64,
+            stream_id: u16,
+        ) -> u8;
+        pub fn dsq_set_buffered_amount_low_threshold(
+            queue: *mut u64,
+            events: *mut u64,
+            events_length: usize,
+            out: *mut u64,
+            stream_id: u16,
+            threshold: u64,
+        ) -> u8;
+        pub fn dsq_set_priority(queue: *mut u64, stream_id: u16, priority: u16) -> u8;
+        pub fn dsq_enable_message_interleaving(queue: *mut u64, enabled: u8) -> u8;
+        pub fn dsq_get_streams_ready_to_reset(queue: *mut u64, ids: *mut u16, out: *mut u64) -> u8;
+        pub fn dsq_commit_reset_streams(queue: *mut u64) -> u8;
+        pub fn dsq_rollback_reset_streams(queue: *mut u64) -> u8;
+        pub fn dsq_reset(queue: *mut u64) -> u8;
+        pub fn dsq_get_priority(queue: *const u64, out: *mut u64, stream_id: u16) -> u8;
+        pub fn dsq_buffered_amount(queue: *const u64, out: *mut u64, stream_id: u16) -> u8;
+        pub fn dsq_buffered_amount_low_threshold(queue: *const u64, out: *mut u64, stream_id: u16) -> u8;
+        pub fn dsq_has_data_to_send(queue: *const u64, out: *mut u64) -> u8;
+        pub fn dsq_has_streams_ready_to_be_reset(queue: *const u64, out: *mut u64) -> u8;
+        pub fn dsq_total_buffered_amount(queue: *const u64) -> u64;
+        pub fn dsq_is_empty(queue: *const u64) -> u8;
+        pub fn dsq_get_handover_readiness(queue: *const u64) -> u64;
+        pub fn dsq_save(
+            queue: *const u64,
+            store: *const u8,
+            store_length: usize,
+            image: *mut u8,
+            image_length: usize,
+            out: *mut u64,
+            time: u64,
+        ) -> u8;
+        pub fn dsq_restore(
+            queue: *mut u64,
+            store: *mut u8,
+            store_length: usize,
+            image: *const u8,
+            image_length: usize,
+            time: u64,
+        ) -> u8;
+    }
+}
+
+pub(crate) fn create(
+    queue: &mut Words,
+    store: &[u8],
+    payload_limit: u64,
+    default_priority: u16,
+    default_threshold: u64,
+    total_threshold: u64,
+    handover_with_data: bool,
+) -> u8 {
+    // SAFETY: queue and store are references, the store's length is its own.
+    unsafe {
+        c::dsq_create(
+            queue.as_mut_ptr(),
+            store.as_ptr(),
+            store.len(),
+            payload_limit,
+            default_priority,
+            default_threshold,
+            total_threshold,
+            u8::from(handover_with_data),
+        )
+    }
+}
+
+/// What is given with a message, in the C functions' terms.
+pub(crate) struct Given {
+    pub time: u64,
+    pub stream_id: u16,
+    pub ppid: u32,
+    pub unordered: bool,
+    pub lifetime: Option<u64>,
+    pub max_retransmissions: Option<u16>,
+    pub lifecycle_id: u64,
+}
+
+pub(crate) fn add(queue: &mut Words, store: &mut [u8], payload: &[u8], given: &Given) -> u8 {
+    // SAFETY: queue, store and payload are references, the lengths are their own; the payload overlaps neither, since those are `&mut`.
+    unsafe {
+        c::dsq_add(
+            queue.as_mut_ptr(),
+            store.as_mut_ptr(),
+            store.len(),
+            payload.as_ptr(),
+            payload.len(),
+            given.time,
+            given.stream_id,
+            given.ppid,
+            u8::from(given.unordered),
+            u8::from(given.lifetime.is_some()),
+            given.lifetime.unwrap_or(0),
+            u8::from(given.max_retransmissions.is_some()),
+            given.max_retransmissions.unwrap_or(0),
+            given.lifecycle_id,
+        )
+    }
+}
+
+pub(crate) fn produce(
+    queue: &mut Words,
+    store: &[u8],
+    events: &mut EventWords,
+    buffer: &mut [u8],
+    out: &mut Out,
+    time: u64,
+    size: u64,
+) -> u8 {
+    // SAFETY: all five are references, the lengths are their own.
+    unsafe {
+        c::dsq_produce(
+            queue.as_mut_ptr(),
+            store.as_ptr(),
+            store.len(),
+            events.as_mut_ptr(),
+            events.len(),
+            buffer.as_mut_ptr(),
+            buffer.len(),
+            out.as_mut_ptr(),
+            time,
+            size,
+        )
+    }
+}
+
+pub(crate) fn discard(
+    queue: &mut Words,
+    events: &mut EventWords,
+    out: &mut Out,
+    stream_id: u16,
+    message_id: u32,
+) -> u8 {
+    // SAFETY: all three are references, the list's length is its own.
+    unsafe {
+        c::dsq_discard(queue.as_mut_ptr(), events.as_mut_ptr(), events.len(), out.as_mut_ptr(), stream_id, message_id)
+    }
+}
+
+pub(crate) fn prepare_reset_stream(queue: &mut Words, events: &mut EventWords, out: &mut Out, stream_id: u16) -> u8 {
+    // SAFETY: all three are references, the list's length is its own.
+    unsafe {
+        c::dsq_prepare_reset_stream(queue.as_mut_ptr(), events.as_mut_ptr(), events.len(), out.as_mut_ptr(), stream_id)
+    }
+}
+
+pub(crate) fn set_buffered_amount_low_threshold(
+    queue: &mut Words,
+    events: &mut EventWords,
+    out: &mut Out,
+    stream_id: u16,
+    threshold: u64,
+) -> u8 {
+    // SAFETY: all three are references, the list's length is its own.
+    unsafe {
+        c::dsq_set_buffered_amount_low_threshold(
+            queue.as_mut_ptr(),
+            events.as_mut_ptr(),
+            events.len(),
+            out.as_mut_ptr(),
+            stream_id,
+            threshold,
+        )
+    }
+}
+
+pub(crate) fn set_priority(queue: &mut Words, stream_id: u16, priority: u16) -> u8 {
+    // SAFETY: queue is a reference.
+    unsafe { c::dsq_set_priority(queue.as_mut_ptr(), stream_id, priority) }
+}
+
+pub(crate) fn enable_message_interleaving(queue: &mut Words, enabled: bool) -> u8 {
+    // SAFETY: queue is a reference.
+    unsafe { c::dsq_enable_message_interleaving(queue.as_mut_ptr(), u8::from(enabled)) }
+}
+
+pub(crate) fn get_streams_ready_to_reset(queue: &mut Words, ids: &mut ReadyIds, out: &mut Out) -> u8 {
+    // SAFETY: all three are references; the ids have room for every stream that a queue can know.
+    unsafe { c::dsq_get_streams_ready_to_reset(queue.as_mut_ptr(), ids.as_mut_ptr(), out.as_mut_ptr()) }
+}
+
+pub(crate) fn commit_reset_streams(queue: &mut Words) -> u8 {
+    // SAFETY: queue is a reference.
+    unsafe { c::dsq_commit_reset_streams(queue.as_mut_ptr()) }
+}
+
+pub(crate) fn rollback_reset_streams(queue: &mut Words) -> u8 {
+    // SAFETY: queue is a reference.
+    unsafe { c::dsq_rollback_reset_streams(queue.as_mut_ptr()) }
+}
+
+pub(crate) fn reset(queue: &mut Words) -> u8 {
+    // SAFETY: queue is a reference.
+    unsafe { c::dsq_reset(queue.as_mut_ptr()) }
+}
+
+pub(crate) fn get_priority(queue: &Words, out: &mut Out, stream_id: u16) -> u8 {
+    // SAFETY: both are references; a question reads the queue only.
+    unsafe { c::dsq_get_priority(queue.as_ptr(), out.as_mut_ptr(), stream_id) }
+}
+
+pub(crate) fn buffered_amount(queue: &Words, out: &mut Out, stream_id: u16) -> u8 {
+    // SAFETY: both are references; a question reads the queue only.
+    unsafe { c::dsq_buffered_amount(queue.as_ptr(), out.as_mut_ptr(), stream_id) }
+}
+
+pub(crate) fn buffered_amount_low_threshold(queue: &Words, out: &mut Out, stream_id: u16) -> u8 {
+    // SAFETY: both are references; a question reads the queue only.
+    unsafe { c::dsq_buffered_amount_low_threshold(queue.as_ptr(), out.as_mut_ptr(), stream_id) }
+}
+
+pub(crate) fn has_data_to_send(queue: &Words, out: &mut Out) -> u8 {
+    // SAFETY: both are references; a question reads the queue only.
+    unsafe { c::dsq_has_data_to_send(queue.as_ptr(), out.as_mut_ptr()) }
+}
+
+pub(crate) fn has_streams_ready_to_be_reset(queue: &Words, out: &mut Out) -> u8 {
+    // SAFETY: both are references; a question reads the queue only.
+    unsafe { c::dsq_has_streams_ready_to_be_reset(queue.as_ptr(), out.as_mut_ptr()) }
+}
+
+pub(crate) fn total_buffered_amount(queue: &Words) -> u64 {
+    // SAFETY: queue is a reference; a question reads it only.
+    unsafe { c::dsq_total_buffered_amount(queue.as_ptr()) }
+}
+
+pub(crate) fn is_empty(queue: &Words) -> bool {
+    // SAFETY: queue is a reference; a question reads it only.
+    unsafe { c::dsq_is_empty(queue.as_ptr()) != 0 }
+}
+
+pub(crate) fn get_handover_readiness(queue: &Words) -> u64 {
+    // SAFETY: queue is a reference; a question reads it only.
+    unsafe { c::dsq_get_handover_readiness(queue.as_ptr()) }
+}
+
+pub(crate) fn save(queue: &Words, store: &[u8], image: &mut [u8], out: &mut Out, time: u64) -> u8 {
+    // SAFETY: all four are references, the lengths are their own; saving reads queue and store only.
+    unsafe {
+        c::dsq_save(
+            queue.as_ptr(),
+            store.as_ptr(),
+            store.len(),
+            image.as_mut_ptr(),
+            image.len(),
+            out.as_mut_ptr(),
+            time,
+        )
+    }
+}
+
+pub(crate) fn restore(queue: &mut Words, store: &mut [u8], image: &[u8], time: u64) -> u8 {
+    // SAFETY: all three are references, the lengths are their own; the image overlaps neither, since those are `&mut`.
+    unsafe { c::dsq_restore(queue.as_mut_ptr(), store.as_mut_ptr(), store.len(), image.as_ptr(), image.len(), time) }
+}

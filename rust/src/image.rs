@@ -1,0 +1,41 @@
+//! The changeover image: a queue as bytes, to be carried to another host.
+
+use crate::ffi;
+use crate::limits::MAX_IMAGE_RECORDS;
+use crate::limits::OUT_WORDS;
+use crate::queue::SendQueue;
+use crate::refusal::Refusal;
+use crate::time::SocketTime;
+
+impl SendQueue {
+    /// The queue's image: counters, priorities and waiting messages, with the time that each has left. dcSCTP's `add_to_handover_state` has
+    /// the same in a record.
+    ///
+    /// Refused: [`Refusal::TimeLate`].
+    pub fn save(&self, now: SocketTime) -> Result<Vec<u8>, Refusal> {
+        let mut image = vec![0; self.store.len() + MAX_IMAGE_RECORDS];
+        let length = self.save_into(now, &mut image)?;
+        image.truncate(length);
+        image.shrink_to_fit();
+        Ok(image)
+    }
+
+    /// Writes the queue's image to the buffer's start, and says how long it is; the rest of the buffer stays as it was.
+    ///
+    /// Refused: [`Refusal::TimeLate`], [`Refusal::ImageBufferShort`].
+    pub fn save_into(&self, now: SocketTime, image: &mut [u8]) -> Result<usize, Refusal> {
+        let mut out = [0; OUT_WORDS];
+        Refusal::judge(ffi::save(&self.words, &self.store, image, &mut out, now.0))?;
+        Ok(out[0] as usize)
+    }
+
+    /// Makes a new queue the one of the image. Its streams are open, with the default thresholds. dcSCTP's `restore_from_state` does it from
+    /// a record.
+    ///
+    /// Refused: [`Refusal::TimeLate`], [`Refusal::QueueUsed`], [`Refusal::ImageWrong`], [`Refusal::PriorityOther`],
+    /// [`Refusal::ImageLarge`].
+    pub fn restore(&mut self, now: SocketTime, image: &[u8]) -> Result<(), Refusal> {
+        self.event_count = 0;
+        Refusal::judge(ffi::restore(&mut self.words, &mut self.store, image, now.0))
+    }
+}

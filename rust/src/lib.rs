@@ -1,0 +1,45 @@
+#![doc = include_str!("../README.md")]
+#![deny(unsafe_code)]
+#![deny(missing_docs)]
+
+mod event;
+#[allow(unsafe_code)]
+mod ffi;
+mod fragment;
+mod ids;
+mod image;
+mod limits;
+mod message;
+mod options;
+mod questions;
+mod queue;
+mod readiness;
+mod refusal;
+mod streams;
+mod time;
+
+pub use event::Event;
+pub use event::Events;
+pub use fragment::Data;
+pub use fragment::DataToSend;
+pub use ids::Fsn;
+pub use ids::Mid;
+pub use ids::OutgoingMessageId;
+pub use ids::PpId;
+pub use ids::Ssn;
+pub use ids::StreamId;
+pub use ids::StreamKey;
+pub use limits::MAX_MESSAGES;
+pub use limits::MAX_PAYLOAD;
+pub use limits::MAX_PAYLOAD_LIMIT;
+pub use limits::MAX_STORE;
+pub use limits::MAX_STREAMS;
+pub use limits::MAX_TIME;
+pub use message::LifecycleId;
+pub use message::Message;
+pub use message::SendOptions;
+pub use options::Options;
+pub use queue::SendQueue;
+pub use readiness::HandoverReadiness;
+pub use refusal::Refusal;
+pub use time::SocketTime;

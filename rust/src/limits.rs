@@ -1,0 +1,23 @@
+//! What a queue takes.
+
+/// The largest payload limit; the smallest is 1.
+pub const MAX_PAYLOAD_LIMIT: usize = 65_535;
+/// The largest store in bytes; the smallest is 1.
+pub const MAX_STORE: usize = 2_000_000;
+/// The longest payload of a message, and the largest size that a fragment can be asked with; the smallest of both is 1.
+pub const MAX_PAYLOAD: usize = 262_144;
+/// A queue knows at most so many streams.
+pub const MAX_STREAMS: usize = 256;
+/// At most so many messages wait.
+pub const MAX_MESSAGES: usize = 1_024;
+/// The latest time, and the longest lifetime, in nanoseconds.
+pub const MAX_TIME: u64 = 4_611_686_018_427_387_903;
+
+/// Words of a queue's state.
+pub(crate) const QUEUE_WORDS: usize = 20_768;
+/// Words of the event list: 2,305 places of kind and number.
+pub(crate) const EVENT_WORDS: usize = 2 * 2_305;
+/// Places of what a call tells beside its number.
+pub(crate) const OUT_WORDS: usize = 16;
+/// An image's bytes beside its payloads, at most: records of all streams and messages, and the trailer.
+pub(crate) const MAX_IMAGE_RECORDS: usize = 14 * MAX_STREAMS + 44 * MAX_MESSAGES + 20;

@@ -1,0 +1,58 @@
+//! The questions: they change nothing.
+
+use crate::ffi;
+use crate::ffi::Out;
+use crate::ids::StreamId;
+use crate::limits::OUT_WORDS;
+use crate::queue::SendQueue;
+use crate::queue::accepted;
+use crate::readiness::HandoverReadiness;
+
+/// The value that a question tells.
+fn told(ask: impl FnOnce(&mut Out) -> u8) -> u64 {
+    let mut out = [0; OUT_WORDS];
+    accepted(ask(&mut out));
+    out[0]
+}
+
+impl SendQueue {
+    /// The bytes of this stream that are still to be sent.
+    pub fn buffered_amount(&self, stream_id: StreamId) -> usize {
+        told(|out| ffi::buffered_amount(&self.words, out, stream_id.0)) as usize
+    }
+
+    /// The bytes of all streams that are still to be sent.
+    pub fn total_buffered_amount(&self) -> usize {
+        ffi::total_buffered_amount(&self.words) as usize
+    }
+
+    /// Whether no byte is to be sent.
+    pub fn is_empty(&self) -> bool {
+        ffi::is_empty(&self.words)
+    }
+
+    /// The amount at or below which this stream's backlog counts as low.
+    pub fn buffered_amount_low_threshold(&self, stream_id: StreamId) -> usize {
+        told(|out| ffi::buffered_amount_low_threshold(&self.words, out, stream_id.0)) as usize
+    }
+
+    /// The stream's priority: the one last set or restored, or else the default.
+    pub fn get_priority(&self, stream_id: StreamId) -> u16 {
+        told(|out| ffi::get_priority(&self.words, out, stream_id.0)) as u16
+    }
+
+    /// Whether a stream waits to be sent from. (It may be that all that waits has expired.)
+    pub fn has_data_to_send(&self) -> bool {
+        told(|out| ffi::has_data_to_send(&self.words, out)) != 0
+    }
+
+    /// Whether [`get_streams_ready_to_reset`](SendQueue::get_streams_ready_to_reset) would name a stream.
+    pub fn has_streams_ready_to_be_reset(&self) -> bool {
+        told(|out| ffi::has_streams_ready_to_be_reset(&self.words, out)) != 0
+    }
+
+    /// Whether the queue may be carried to another host.
+    pub fn get_handover_readiness(&self) -> HandoverReadiness {
+        HandoverReadiness(ffi::get_handover_readiness(&self.words) as u32)
+    }
+}

@@ -1,0 +1,163 @@
+//! The queue with its buffers; messages in, fragments out.
+
+use crate::event::Events;
+use crate::ffi;
+use crate::ffi::EventWords;
+use crate::ffi::Given;
+use crate::ffi::Out;
+use crate::ffi::Words;
+use crate::fragment;
+use crate::fragment::DataToSend;
+use crate::ids::OutgoingMessageId;
+use crate::ids::StreamId;
+use crate::limits::EVENT_WORDS;
+use crate::limits::MAX_PAYLOAD;
+use crate::limits::MAX_STORE;
+use crate::limits::OUT_WORDS;
+use crate::limits::QUEUE_WORDS;
+use crate::message::Message;
+use crate::message::SendOptions;
+use crate::options::Options;
+use crate::refusal::Refusal;
+use crate::time::SocketTime;
+use crate::time::nanoseconds;
+use std::fmt;
+
+/// The send queue: messages go in whole, fragments come out, stream by stream as the scheduler chooses.
+///
+/// It has the methods of dcSCTP's `SendQueue`, and they mean the same. What differs: its memory is settled at creation, so a call can be
+/// refused ([`Refusal`]); and events are not called back but listed, by [`events`](SendQueue::events), after the call.
+///
+/// Some methods answer without a `Result`, as dcSCTP's do. The one refusal that they could get is [`Refusal::WordsBroken`], and it is
+/// proved that no queue gets there; they would panic, where dcSCTP's code panics.
+pub struct SendQueue {
+    pub(crate) words: Box<Words>,
+    pub(crate) store: Box<[u8]>,
+    pub(crate) events: Box<EventWords>,
+    pub(crate) event_count: usize,
+    fragment: Vec<u8>,
+}
+
+/// A boxed array of zeros, made on the heap.
+fn zeros<const N: usize>() -> Box<[u64; N]> {
+    vec![0; N].into_boxed_slice().try_into().expect("the length is the array's")
+}
+
+/// The number of a call that is never refused.
+pub(crate) fn accepted(number: u8) {
+    assert!(number == 0, "refusal {number} of a call that is proved never to be refused");
+}
+
+impl SendQueue {
+    /// A new queue. Fragments of up to `max_payload_bytes` are meant to be sent: the scheduler reckons with that size.
+    ///
+    /// Refused: [`Refusal::PayloadLimitWrong`], [`Refusal::StoreWrong`].
+    pub fn new(max_payload_bytes: usize, options: &Options) -> Result<Self, Refusal> {
+        let mut queue = Self {
+            words: zeros::<QUEUE_WORDS>(),
+            // A longer store than any queue takes need not be had for it to be refused.
+            store: vec![0; options.max_send_buffer_size.min(MAX_STORE + 1)].into_boxed_slice(),
+            events: zeros::<EVENT_WORDS>(),
+            event_count: 0,
+            fragment: Vec::new(),
+        };
+        Refusal::judge(ffi::create(
+            &mut queue.words,
+            &queue.store,
+            max_payload_bytes as u64,
+            options.default_stream_priority,
+            options.default_stream_buffered_amount_low_threshold as u64,
+            options.total_buffered_amount_low_threshold as u64,
+            options.enable_handover_with_outstanding_data,
+        ))?;
+        Ok(queue)
+    }
+
+    /// Adds a message behind the others of its stream. The payload is copied.
+    ///
+    /// Refused: [`Refusal::TimeLate`], [`Refusal::PayloadWrong`], [`Refusal::StreamsFull`], [`Refusal::MessagesFull`],
+    /// [`Refusal::StoreFull`].
+    pub fn add(&mut self, now: SocketTime, message: Message<'_>, send_options: &SendOptions) -> Result<(), Refusal> {
+        self.event_count = 0;
+        let given = Given {
+            time: now.0,
+            stream_id: message.stream_id.0,
+            ppid: message.ppid.0,
+            unordered: send_options.unordered,
+            lifetime: send_options.lifetime.map(nanoseconds),
+            max_retransmissions: send_options.max_retransmissions,
+            lifecycle_id: send_options.lifecycle_id.map_or(0, |id| id.value()),
+        };
+        Refusal::judge(ffi::add(&mut self.words, &mut self.store, message.payload, &given))
+    }
+
+    /// The next fragment, of at most `max_size` bytes, or `None` if nothing waits. Messages whose time is over are dropped on the way.
+    ///
+    /// Its bytes are lent until the next call; [`produce_into`](SendQueue::produce_into) writes them straight to the caller's buffer. To drop
+    /// 1,024 messages in one call it takes up to 512 KB of stack.
+    ///
+    /// Refused: [`Refusal::TimeLate`], [`Refusal::SizeWrong`].
+    pub fn produce(&mut self, now: SocketTime, max_size: usize) -> Result<Option<DataToSend<'_>>, Refusal> {
+        if self.fragment.len() < max_size.min(MAX_PAYLOAD) {
+            self.fragment.resize(max_size.min(MAX_PAYLOAD), 0);
+        }
+        let mut buffer = std::mem::take(&mut self.fragment);
+        let answer = self.next(now, max_size as u64, &mut buffer);
+        self.fragment = buffer;
+        let Some(out) = answer? else { return Ok(None) };
+        Ok(Some(fragment::told(&out, &self.fragment[..fragment::length(&out)])))
+    }
+
+    /// The next fragment, of at most the buffer's length, or `None` if nothing waits. Messages whose time is over are dropped on the way.
+    ///
+    /// The fragment's bytes are written to the buffer's start and lent from there; the rest of the buffer stays as it was.
+    ///
+    /// Refused: [`Refusal::TimeLate`], [`Refusal::SizeWrong`] (a buffer outside 1 to 262,144 bytes).
+    pub fn produce_into<'a>(
+        &mut self,
+        now: SocketTime,
+        buffer: &'a mut [u8],
+    ) -> Result<Option<DataToSend<'a>>, Refusal> {
+        let size = buffer.len() as u64;
+        let Some(out) = self.next(now, size, buffer)? else { return Ok(None) };
+        Ok(Some(fragment::told(&out, &buffer[..fragment::length(&out)])))
+    }
+
+    /// What the call tells of the next fragment, whose bytes it has put into the buffer.
+    #[inline]
+    fn next(&mut self, now: SocketTime, size: u64, buffer: &mut [u8]) -> Result<Option<Out>, Refusal> {
+        let mut out = [0; OUT_WORDS];
+        let number = ffi::produce(&mut self.words, &self.store, &mut self.events, buffer, &mut out, now.0, size);
+        self.reported(&out);
+        Refusal::judge(number)?;
+        Ok((out[0] != 0).then_some(out))
+    }
+
+    /// Drops the stream's first message if it is the one with this id.
+    pub fn discard(&mut self, stream_id: StreamId, message_id: OutgoingMessageId) {
+        let mut out = [0; OUT_WORDS];
+        let number = ffi::discard(&mut self.words, &mut self.events, &mut out, stream_id.0, message_id.0);
+        self.reported(&out);
+        accepted(number);
+    }
+
+    /// What the last call reported, in order. A call that was refused has reported nothing. Asking does not count as a call. (A fragment
+    /// lent by [`produce`](SendQueue::produce) must be let go of first.)
+    pub fn events(&self) -> Events<'_> {
+        Events::new(&self.events[..2 * self.event_count])
+    }
+
+    /// Keeps the number of events that a call wrote; a refused one leaves its place at 0.
+    pub(crate) fn reported(&mut self, out: &Out) {
+        self.event_count = out[1] as usize;
+    }
+}
+
+impl fmt::Debug for SendQueue {
+    fn fmt(&self, f: &mut fmt::Formatter<'_>) -> fmt::Result {
+        f.debug_struct("SendQueue")
+            .field("store", &self.store.len())
+            .field("total_buffered_amount", &self.total_buffered_amount())
+            .finish_non_exhaustive()
+    }
+}

@@ -1,0 +1,22 @@
+//! Whether a queue may be carried to another host.
+
+/// Whether a queue may be carried to another host, as bits; 0 for yes. The numbers are dcSCTP's.
+#[derive(Clone, Copy, Debug, Default, Eq, PartialEq)]
+pub struct HandoverReadiness(pub u32);
+
+impl HandoverReadiness {
+    /// Nothing stands against it.
+    pub const READY: Self = Self(0);
+    /// Messages wait, and the queue was created without handover with waiting messages.
+    pub const SEND_QUEUE_NOT_EMPTY: Self = Self(2);
+
+    /// Whether nothing stands against it.
+    pub fn is_ready(&self) -> bool {
+        *self == Self::READY
+    }
+
+    /// Whether this reason stands against it.
+    pub fn contains(&self, reason: Self) -> bool {
+        self.0 & reason.0 != 0
+    }
+}

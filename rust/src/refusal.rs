@@ -1,0 +1,106 @@
+//! Why a call was refused.
+
+use std::error::Error;
+use std::fmt;
+
+/// Why a call was refused. Of several reasons the one with the lowest number is given. A refused call has changed nothing.
+#[derive(Clone, Copy, Debug, Eq, Hash, PartialEq)]
+#[non_exhaustive]
+#[repr(u8)]
+pub enum Refusal {
+    /// The payload limit is outside 1 to 65,535.
+    PayloadLimitWrong = 1,
+    /// The store is outside 1 to 2,000,000 bytes.
+    StoreWrong = 2,
+    /// The event list has fewer than 2,305 places. (A [`SendQueue`](crate::SendQueue) has a list of its own, so it never gives this.)
+    EventListShort = 3,
+    /// A time or lifetime is above 4,611,686,018,427,387,903 nanoseconds.
+    TimeLate = 4,
+    /// The payload is empty or above 262,144 bytes.
+    PayloadWrong = 5,
+    /// The call would make a 257th known stream.
+    StreamsFull = 6,
+    /// The message would be the 1,025th waiting.
+    MessagesFull = 7,
+    /// The payload is longer than the free bytes.
+    StoreFull = 8,
+    /// The size asked for is outside 1 to 262,144.
+    SizeWrong = 9,
+    /// The fragment buffer is shorter than the size asked for. (A [`SendQueue`](crate::SendQueue) takes the buffer's length for the size, so it
+    /// never gives this.)
+    BufferShort = 10,
+    /// The image buffer is shorter than the image.
+    ImageBufferShort = 11,
+    /// Restoring into a queue that knows a stream, or whose next message id is not 0.
+    QueueUsed = 12,
+    /// The image breaks a rule of its form.
+    ImageWrong = 13,
+    /// The image's default priority is not the queue's.
+    PriorityOther = 14,
+    /// The image passes 256 streams, 1,024 messages or the store.
+    ImageLarge = 15,
+    /// The queue's words are not those of a queue. Proved never to happen to one that only its own calls have changed.
+    WordsBroken = 16,
+}
+
+impl Refusal {
+    const ALL: [Self; 16] = [
+        Self::PayloadLimitWrong,
+        Self::StoreWrong,
+        Self::EventListShort,
+        Self::TimeLate,
+        Self::PayloadWrong,
+        Self::StreamsFull,
+        Self::MessagesFull,
+        Self::StoreFull,
+        Self::SizeWrong,
+        Self::BufferShort,
+        Self::ImageBufferShort,
+        Self::QueueUsed,
+        Self::ImageWrong,
+        Self::PriorityOther,
+        Self::ImageLarge,
+        Self::WordsBroken,
+    ];
+
+    /// Its number, 1 to 16.
+    pub fn number(self) -> u8 {
+        self as u8
+    }
+
+    /// The refusal of this number.
+    pub fn from_number(number: u8) -> Option<Self> {
+        let place = usize::from(number).checked_sub(1)?;
+        Self::ALL.get(place).copied()
+    }
+
+    /// What a call's number says: 0 is accepted.
+    pub(crate) fn judge(number: u8) -> Result<(), Self> {
+        if number == 0 { Ok(()) } else { Err(Self::from_number(number).expect("a refusal's number is from 1 to 16")) }
+    }
+}
+
+impl fmt::Display for Refusal {
+    fn fmt(&self, f: &mut fmt::Formatter<'_>) -> fmt::Result {
+        f.write_str(match self {
+            Self::PayloadLimitWrong => "the payload limit is outside 1 to 65,535",
+            Self::StoreWrong => "the store is outside 1 to 2,000,000 bytes, or not of its creation length",
+            Self::EventListShort => "the event list has fewer than 2,305 places",
+            Self::TimeLate => "a time or lifetime is above 4,611,686,018,427,387,903",
+            Self::PayloadWrong => "the payload is empty or above 262,144 bytes",
+            Self::StreamsFull => "the call would make a 257th known stream",
+            Self::MessagesFull => "the message would be the 1,025th waiting",
+            Self::StoreFull => "the payload is longer than the free bytes",
+            Self::SizeWrong => "the size asked for is outside 1 to 262,144",
+            Self::BufferShort => "the fragment buffer is shorter than the size asked for",
+            Self::ImageBufferShort => "the image buffer is shorter than the image",
+            Self::QueueUsed => "the queue knows a stream, or its next message id is not 0",
+            Self::ImageWrong => "the image breaks a rule",
+            Self::PriorityOther => "the image's default priority is not the queue's",
+            Self::ImageLarge => "the image passes 256 streams, 1,024 messages or the store",
+            Self::WordsBroken => "the words are not those of a queue",
+        })
+    }
+}
+
+impl Error for Refusal {}

@@ -1,0 +1,79 @@
+//! Closing and restarting streams, and their settings.
+
+use crate::ffi;
+use crate::ids::StreamId;
+use crate::limits::MAX_STREAMS;
+use crate::limits::OUT_WORDS;
+use crate::queue::SendQueue;
+use crate::queue::accepted;
+use crate::refusal::Refusal;
+
+impl SendQueue {
+    /// Closes a stream, so that it can be reset: its waiting messages are dropped, but for one that is half-sent, which is sent to its end.
+    ///
+    /// Refused: [`Refusal::StreamsFull`].
+    pub fn prepare_reset_stream(&mut self, stream_id: StreamId) -> Result<(), Refusal> {
+        let mut out = [0; OUT_WORDS];
+        let number = ffi::prepare_reset_stream(&mut self.words, &mut self.events, &mut out, stream_id.0);
+        self.reported(&out);
+        Refusal::judge(number)
+    }
+
+    /// The closed streams that have nothing half-sent, in ascending order. From now on they count as being reset, until
+    /// [`commit_reset_streams`](SendQueue::commit_reset_streams) or [`rollback_reset_streams`](SendQueue::rollback_reset_streams).
+    pub fn get_streams_ready_to_reset(&mut self) -> Vec<StreamId> {
+        self.event_count = 0;
+        let mut ids = [0; MAX_STREAMS];
+        let mut out = [0; OUT_WORDS];
+        accepted(ffi::get_streams_ready_to_reset(&mut self.words, &mut ids, &mut out));
+        ids[..out[0] as usize].iter().copied().map(StreamId).collect()
+    }
+
+    /// The peer has accepted the reset: the streams being reset count from 0 again and are open.
+    pub fn commit_reset_streams(&mut self) {
+        self.event_count = 0;
+        accepted(ffi::commit_reset_streams(&mut self.words));
+    }
+
+    /// The peer has not accepted the reset: the streams being reset are open again, and count on.
+    pub fn rollback_reset_streams(&mut self) {
+        self.event_count = 0;
+        accepted(ffi::rollback_reset_streams(&mut self.words));
+    }
+
+    /// The peer has restarted: all streams are open and count from 0, and a half-sent message is sent whole again.
+    pub fn reset(&mut self) {
+        self.event_count = 0;
+        accepted(ffi::reset(&mut self.words));
+    }
+
+    /// Sets the amount at or below which a stream's backlog counts as low.
+    ///
+    /// Refused: [`Refusal::StreamsFull`].
+    pub fn set_buffered_amount_low_threshold(&mut self, stream_id: StreamId, threshold: usize) -> Result<(), Refusal> {
+        let mut out = [0; OUT_WORDS];
+        let number = ffi::set_buffered_amount_low_threshold(
+            &mut self.words,
+            &mut self.events,
+            &mut out,
+            stream_id.0,
+            threshold as u64,
+        );
+        self.reported(&out);
+        Refusal::judge(number)
+    }
+
+    /// Sets a stream's priority, its weight when messages are interleaved. The scheduler reads it when the stream next begins to wait.
+    ///
+    /// Refused: [`Refusal::StreamsFull`].
+    pub fn set_priority(&mut self, stream_id: StreamId, priority: u16) -> Result<(), Refusal> {
+        self.event_count = 0;
+        Refusal::judge(ffi::set_priority(&mut self.words, stream_id.0, priority))
+    }
+
+    /// Chooses whether fragments of several messages may alternate (RFC 8260). Off at creation.
+    pub fn enable_message_interleaving(&mut self, enable: bool) {
+        self.event_count = 0;
+        accepted(ffi::enable_message_interleaving(&mut self.words, enable));
+    }
+}

@@ -1,0 +1,108 @@
+//! The crate's view of the C functions is the header's: same functions, same parameters. No linker would notice a difference.
+
+use desqariy::Refusal;
+use std::collections::BTreeMap;
+use std::fs;
+use std::path::Path;
+
+fn text(path: &str) -> String {
+    let path = Path::new(env!("CARGO_MANIFEST_DIR")).join(path);
+    fs::read_to_string(&path).unwrap_or_else(|e| panic!("{}: {e}", path.display()))
+}
+
+/// A function's parameters as `name: type`, then its answer's type.
+type Functions = BTreeMap<String, Vec<String>>;
+
+fn without_comments(c: &str) -> String {
+    let mut out = String::new();
+    for (i, part) in c.split("/*").enumerate() {
+        out.push_str(if i == 0 { part } else { part.split_once("*/").expect("a comment ends").1 });
+    }
+    out
+}
+
+/// A C type in Rust's words.
+fn rust_type(c: &str, pointer: bool) -> String {
+    let constant = c.starts_with("const ");
+    let number = match c.trim_start_matches("const ") {
+        "uint8_t" => "u8",
+        "uint16_t" => "u16",
+        "uint32_t" => "u32",
+        "uint64_t" => "u64",
+        "size_t" => "usize",
+        other => panic!("unknown type {other}"),
+    };
+    match (pointer, constant) {
+        (false, _) => number.into(),
+        (true, true) => format!("*const {number}"),
+        (true, false) => format!("*mut {number}"),
+    }
+}
+
+fn of_header(header: &str) -> Functions {
+    let mut functions = Functions::new();
+    let code: Vec<String> =
+        without_comments(header).lines().filter(|l| !l.starts_with('#')).map(String::from).collect();
+    for statement in code.join(" ").split(';') {
+        let one_line = statement.split_whitespace().collect::<Vec<_>>().join(" ");
+        let Some((head, parameters)) = one_line.split_once('(') else { continue };
+        let mut words = head.rsplit(' ');
+        let (name, answer) = (words.next().unwrap(), words.next().unwrap());
+        let mut list: Vec<String> = Vec::new();
+        for parameter in parameters.trim_end_matches(')').split(", ") {
+            let plain = parameter.split('[').next().unwrap();
+            let (kind, name) = plain.rsplit_once(' ').unwrap();
+            let pointer = parameter.contains('[') || name.starts_with('*');
+            list.push(format!("{}: {}", name.trim_start_matches('*'), rust_type(kind, pointer)));
+        }
+        list.push(rust_type(answer, false));
+        functions.insert(name.into(), list);
+    }
+    functions
+}
+
+fn of_crate(ffi: &str) -> Functions {
+    let mut functions = Functions::new();
+    for statement in ffi.split("pub fn ").skip(1) {
+        let Some((head, _)) = statement.split_once(';').filter(|_| statement.starts_with("dsq_")) else { continue };
+        let one_line = head.split_whitespace().collect::<Vec<_>>().join(" ");
+        let (name, rest) = one_line.split_once('(').unwrap();
+        let (parameters, answer) = rest.split_once(") -> ").unwrap();
+        let mut list: Vec<String> =
+            parameters.split(',').map(str::trim).filter(|p| !p.is_empty()).map(String::from).collect();
+        list.push(answer.into());
+        functions.insert(name.into(), list);
+    }
+    functions
+}
+
+#[test]
+fn the_functions_are_the_header_s() {
+    let (header, ours) = (of_header(&text("../c/send_queue.h")), of_crate(&text("src/ffi.rs")));
+    assert!(header.len() > 20, "the header was not understood");
+    for (name, parameters) in &header {
+        assert_eq!(ours.get(name), Some(parameters), "{name}");
+    }
+    assert_eq!(ours.len(), header.len());
+}
+
+/// `DSQ_STORE_FULL` is `StoreFull`.
+fn camel(name: &str) -> String {
+    let part = |p: &str| format!("{}{}", &p[..1], p[1..].to_lowercase());
+    name.trim_start_matches("DSQ_").split('_').map(part).collect()
+}
+
+#[test]
+fn the_refusals_are_the_header_s() {
+    let header = without_comments(&text("../c/send_queue.h"));
+    let list = header.split_once("enum dsq_refusal {").unwrap().1.split_once('}').unwrap().0;
+    for (number, entry) in list.split(',').enumerate() {
+        let (name, given) = entry.trim().split_once(" = ").unwrap();
+        assert_eq!(given, number.to_string());
+        match Refusal::from_number(number as u8) {
+            None => assert_eq!((number, name), (0, "DSQ_ACCEPTED")),
+            Some(refusal) => assert_eq!(format!("{refusal:?}"), camel(name)),
+        }
+    }
+    assert_eq!(list.split(',').count(), 17);
+}

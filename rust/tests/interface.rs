@@ -1,0 +1,218 @@
+//! The crate's own part: refusals, events, buffers.
+
+use desqariy::*;
+use std::time::Duration;
+
+const NOW: SocketTime = SocketTime::zero();
+
+fn message(stream: u16, payload: &[u8]) -> Message<'_> {
+    Message::new(StreamId(stream), PpId(53), payload)
+}
+
+fn queue() -> SendQueue {
+    SendQueue::new(1_000, &Options::default()).unwrap()
+}
+
+#[test]
+fn a_queue_can_go_to_another_thread() {
+    fn check<T: Send + Sync + 'static>() {}
+    check::<SendQueue>();
+    check::<Refusal>();
+}
+
+#[test]
+fn refusals_have_the_numbers_1_to_16_and_a_text() {
+    assert_eq!(Refusal::from_number(0), None);
+    assert_eq!(Refusal::from_number(17), None);
+    for n in 1..=16 {
+        let refusal = Refusal::from_number(n).unwrap();
+        assert_eq!(refusal.number(), n);
+        let error: &dyn std::error::Error = &refusal;
+        assert!(error.to_string().len() > 20);
+    }
+}
+
+#[test]
+fn creation_is_refused_with_1_before_2() {
+    let store = |n| Options { max_send_buffer_size: n, ..Options::default() };
+    let new = |limit, bytes| SendQueue::new(limit, &store(bytes)).map(|_| ()).map_err(Refusal::number);
+    assert_eq!(new(0, 1), Err(1));
+    assert_eq!(new(65_536, 0), Err(1));
+    assert_eq!(new(1, 0), Err(2));
+    assert_eq!(new(1, 2_000_001), Err(2));
+    assert_eq!(new(1, usize::MAX), Err(2));
+    assert_eq!(new(1, 1), Ok(()));
+    assert_eq!(new(65_535, 2_000_000), Ok(()));
+}
+
+#[test]
+fn what_a_message_can_be_refused_for() {
+    let mut q = SendQueue::new(1_000, &Options { max_send_buffer_size: 2_000, ..Options::default() }).unwrap();
+    let none = SendOptions::default();
+    let late = SendOptions { lifetime: Some(Duration::MAX), ..Default::default() };
+    assert_eq!(q.add(SocketTime(MAX_TIME + 1), message(1, b"m"), &none), Err(Refusal::TimeLate));
+    assert_eq!(q.add(NOW, message(1, b"m"), &late), Err(Refusal::TimeLate));
+    assert_eq!(q.add(SocketTime::infinite_future(), message(1, b""), &none), Err(Refusal::TimeLate));
+    assert_eq!(q.add(NOW, message(1, b""), &none), Err(Refusal::PayloadWrong));
+    assert_eq!(q.add(NOW, message(1, &[0; 2_001]), &none), Err(Refusal::StoreFull));
+    for _ in 0..1_024 {
+        q.add(NOW, message(1, b"m"), &none).unwrap();
+    }
+    assert_eq!(q.add(NOW, message(1, b"m"), &none), Err(Refusal::MessagesFull));
+    assert_eq!(q.total_buffered_amount(), 1_024);
+}
+
+#[test]
+fn a_refused_fragment_leaves_the_buffer_and_has_no_events() {
+    let mut q = queue();
+    q.set_buffered_amount_low_threshold(StreamId(1), 0).unwrap();
+    q.add(NOW, message(1, b"12345"), &SendOptions::default()).unwrap();
+    let mut buffer = [9; 4];
+    assert_eq!(q.produce_into(SocketTime(MAX_TIME + 1), &mut buffer), Err(Refusal::TimeLate));
+    assert_eq!((buffer, q.events().len()), ([9; 4], 0));
+    assert_eq!(q.produce_into(NOW, &mut []), Err(Refusal::SizeWrong));
+    assert_eq!(q.produce(NOW, 0), Err(Refusal::SizeWrong));
+    assert_eq!(q.produce(NOW, usize::MAX), Err(Refusal::SizeWrong));
+    assert_eq!(q.produce(NOW, MAX_PAYLOAD + 1), Err(Refusal::SizeWrong));
+    assert_eq!(q.produce_into(NOW, &mut buffer).unwrap().unwrap().data.payload, b"1234");
+    assert_eq!(q.produce_into(NOW, &mut buffer).unwrap().unwrap().data.payload, b"5");
+    assert_eq!(&buffer, b"5234");
+    assert_eq!(q.events().collect::<Vec<_>>(), [Event::StreamLow(StreamId(1))]);
+    assert_eq!(q.produce(NOW, MAX_PAYLOAD), Ok(None));
+}
+
+#[test]
+fn events_are_those_of_the_last_call() {
+    let mut q = queue();
+    let id = LifecycleId::new(9);
+    let options = SendOptions { lifecycle_id: id, ..Default::default() };
+    q.add(NOW, message(1, b"12345"), &options).unwrap();
+    q.discard(StreamId(1), OutgoingMessageId(0));
+    let id = id.unwrap();
+    let want = [Event::StreamLow(StreamId(1)), Event::Expired(id), Event::End(id)];
+    assert_eq!(q.events().collect::<Vec<_>>(), want);
+    assert_eq!(q.events().len(), 3, "asking again, or for something else, changes nothing");
+    assert!(q.is_empty() && q.events().len() == 3);
+    q.discard(StreamId(1), OutgoingMessageId(0));
+    assert_eq!(q.events().len(), 0);
+}
+
+#[test]
+fn what_goes_with_a_fragment() {
+    let mut q = queue();
+    let options = SendOptions {
+        unordered: true,
+        lifetime: Some(Duration::from_millis(2)),
+        max_retransmissions: Some(3),
+        lifecycle_id: LifecycleId::new(8),
+    };
+    q.add(SocketTime(5), Message::new(StreamId(65_535), PpId(u32::MAX), b"abc"), &options).unwrap();
+    let first = q.produce(SocketTime(5), 2).unwrap().unwrap();
+    let data = Data {
+        stream_key: StreamKey::Unordered(StreamId(65_535)),
+        ssn: Ssn(0),
+        mid: Mid(0),
+        fsn: Fsn(0),
+        ppid: PpId(u32::MAX),
+        payload: b"ab",
+        is_beginning: true,
+        is_end: false,
+    };
+    let expires_at = SocketTime(5) + Duration::from_millis(3);
+    let message_id = OutgoingMessageId(0);
+    assert_eq!(first, DataToSend { message_id, data, max_retransmissions: 3, expires_at, lifecycle_id: None });
+    let last = q.produce(SocketTime(5), 2).unwrap().unwrap();
+    let data = Data { fsn: Fsn(1), payload: b"c", is_beginning: false, is_end: true, ..data };
+    let lifecycle_id = LifecycleId::new(8);
+    assert_eq!(last, DataToSend { message_id, data, max_retransmissions: 3, expires_at, lifecycle_id });
+    q.add(NOW, message(1, b"m"), &SendOptions::default()).unwrap();
+    let plain = q.produce(NOW, 2).unwrap().unwrap();
+    assert_eq!(plain.expires_at, SocketTime::infinite_future());
+    assert_eq!((plain.max_retransmissions, plain.lifecycle_id), (65_535, None));
+    assert_eq!(plain.data.stream_key, StreamKey::Ordered(StreamId(1)));
+}
+
+#[test]
+fn closing_ready_and_commit() {
+    let mut q = queue();
+    for stream in [7, 3, 5] {
+        for _ in 0..2 {
+            q.add(NOW, message(stream, &[0; 1_500]), &SendOptions::default()).unwrap();
+        }
+    }
+    assert_eq!(q.produce(NOW, 1_000).unwrap().unwrap().data.stream_key.id(), StreamId(3));
+    for stream in [3, 7] {
+        q.prepare_reset_stream(StreamId(stream)).unwrap();
+    }
+    assert_eq!(q.buffered_amount(StreamId(3)), 500, "the half-sent message stays");
+    assert!(q.has_streams_ready_to_be_reset());
+    assert_eq!(q.get_streams_ready_to_reset(), [StreamId(7)]);
+    assert!(q.produce(NOW, 1_000).unwrap().unwrap().data.is_end);
+    assert_eq!(q.get_streams_ready_to_reset(), [StreamId(3)]);
+    q.commit_reset_streams();
+    assert!(!q.has_streams_ready_to_be_reset());
+    q.add(NOW, message(3, b"m"), &SendOptions::default()).unwrap();
+    assert_eq!(q.produce(NOW, 1_000).unwrap().unwrap().data.mid, Mid(0));
+    q.rollback_reset_streams();
+    assert!(q.has_data_to_send());
+}
+
+#[test]
+fn an_image_is_restored_once() {
+    let mut q = queue();
+    q.set_priority(StreamId(2), 7).unwrap();
+    q.add(NOW, message(1, &[5; 1_500]), &SendOptions::default()).unwrap();
+    assert!(q.produce(NOW, 1_000).unwrap().is_some());
+    let image = q.save(NOW).unwrap();
+    let mut short = vec![0; image.len() - 1];
+    assert_eq!(q.save_into(NOW, &mut short), Err(Refusal::ImageBufferShort));
+    assert!(short.iter().all(|b| *b == 0));
+    assert_eq!(q.save(SocketTime(MAX_TIME + 1)), Err(Refusal::TimeLate));
+
+    let mut other = queue();
+    assert_eq!(other.restore(NOW, &image[1..]), Err(Refusal::ImageWrong));
+    assert_eq!(other.restore(NOW, &[]), Err(Refusal::ImageWrong));
+    other.restore(NOW, &image).unwrap();
+    assert_eq!(other.restore(NOW, &image), Err(Refusal::QueueUsed));
+    assert_eq!(other.get_priority(StreamId(2)), 7);
+    assert_eq!(other.save(NOW).unwrap(), image);
+    assert_eq!(other.produce(NOW, 1_000).unwrap().unwrap().data.payload, [5; 500]);
+
+    let new = |options: Options| SendQueue::new(1_000, &options).unwrap().restore(NOW, &image);
+    assert_eq!(new(Options { default_stream_priority: 1, ..Options::default() }), Err(Refusal::PriorityOther));
+    assert_eq!(new(Options { max_send_buffer_size: 1_499, ..Options::default() }), Err(Refusal::ImageLarge));
+}
+
+#[test]
+fn readiness_is_the_choice_at_creation() {
+    for (choice, ready) in [(false, HandoverReadiness::SEND_QUEUE_NOT_EMPTY), (true, HandoverReadiness::READY)] {
+        let options = Options { enable_handover_with_outstanding_data: choice, ..Options::default() };
+        let mut q = SendQueue::new(1_000, &options).unwrap();
+        assert!(q.get_handover_readiness().is_ready());
+        q.add(NOW, message(1, b"m"), &SendOptions::default()).unwrap();
+        assert_eq!(q.get_handover_readiness(), ready);
+        assert_eq!(q.get_handover_readiness().contains(HandoverReadiness::SEND_QUEUE_NOT_EMPTY), !choice);
+    }
+}
+
+#[test]
+fn questions_about_an_unknown_stream_get_the_defaults() {
+    let options = Options { default_stream_buffered_amount_low_threshold: 77, ..Options::default() };
+    let q = SendQueue::new(1_000, &options).unwrap();
+    let stream = StreamId(12);
+    assert_eq!(
+        (q.buffered_amount(stream), q.buffered_amount_low_threshold(stream), q.get_priority(stream)),
+        (0, 77, 256)
+    );
+    assert!(!q.has_data_to_send() && q.is_empty());
+    assert_eq!(format!("{q:?}"), "SendQueue { store: 2000000, total_buffered_amount: 0, .. }");
+}
+
+#[test]
+fn times_stop_at_their_ends() {
+    assert_eq!(SocketTime(5) + Duration::from_nanos(7), SocketTime(12));
+    assert_eq!(SocketTime(5) + Duration::MAX, SocketTime::infinite_future());
+    assert_eq!(SocketTime(5) - Duration::MAX, SocketTime::zero());
+    assert_eq!(SocketTime(5) - SocketTime(3), Duration::from_nanos(2));
+    assert_eq!(SocketTime(3) - SocketTime(5), Duration::ZERO);
+}

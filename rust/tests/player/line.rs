@@ -1,0 +1,42 @@
+//! A line of a trace: a letter and numbers.
+
+pub struct Line<'a> {
+    pub letter: &'a str,
+    numbers: Vec<u64>,
+    taken: usize,
+}
+
+impl<'a> Line<'a> {
+    pub fn new(text: &'a str) -> Self {
+        let mut words = text.split(' ');
+        let letter = words.next().unwrap();
+        let numbers = words.map(|w| w.parse().expect("a number")).collect();
+        Line { letter, numbers, taken: 0 }
+    }
+
+    /// The next number.
+    pub fn take<T: TryFrom<u64>>(&mut self) -> T {
+        let number = self.numbers[self.taken];
+        self.taken += 1;
+        T::try_from(number).unwrap_or_else(|_| panic!("{number} is too large for its place"))
+    }
+
+    pub fn flag(&mut self) -> bool {
+        self.take::<u64>() == 1
+    }
+}
+
+/// The payload that a line stands for.
+pub fn payload(length: usize, seed: u64) -> Vec<u8> {
+    let mut x = seed % (1 << 31);
+    let mut next = || {
+        x = (x * 1_103_515_245 + 12_345) % (1 << 31);
+        (x / 65_536) as u8
+    };
+    (0..length).map(|_| next()).collect()
+}
+
+/// The sum by which bytes are shown.
+pub fn sum(bytes: &[u8]) -> u32 {
+    bytes.iter().fold(17, |s: u32, b| s.wrapping_mul(31).wrapping_add(u32::from(*b)))
+}

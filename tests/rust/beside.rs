@@ -1,0 +1,44 @@
+//! The original queue and the proved one in one process: the same random calls on both, every answer compared.
+//!
+//! usage: beside [CALLS] [SEED]
+//!
+//! Compared are refusals, fragments with all that goes with them, events, ready ids, images byte for byte, and after each call the answers
+//! to all questions. At the first difference the calls since the last start are shown, in the format of the reference's trace tool.
+
+#![allow(dead_code, unused_imports)]
+
+include!("original.rs");
+
+mod calls;
+mod dice;
+#[path = "@ORACLE@/image.rs"]
+mod image;
+mod makes;
+mod ours;
+mod pair;
+mod profiles;
+mod tamper;
+mod theirs;
+
+fn thousands(n: u64) -> String {
+    let digits = n.to_string();
+    let groups: Vec<&str> = digits.as_bytes().rchunks(3).rev().map(|g| std::str::from_utf8(g).unwrap()).collect();
+    groups.join(",")
+}
+
+fn main() {
+    let arguments: Vec<u64> =
+        std::env::args().skip(1).map(|a| a.parse().expect("usage: beside [CALLS] [SEED]")).collect();
+    let calls = *arguments.first().unwrap_or(&1_000_000);
+    let seed = *arguments.get(1).unwrap_or(&1);
+    let mut pair = pair::Pair::default();
+    let mut starts = 0;
+    while pair.tally.calls < calls {
+        let profile = &profiles::PROFILES[starts as usize % profiles::PROFILES.len()];
+        pair.start(format!("profile {}, seed {seed}, start {starts}", profile.name));
+        makes::Maker::new(profile, seed, starts, &mut pair).run();
+        starts += 1;
+    }
+    println!("{}", pair.tally);
+    println!("{} calls, 0 differ", thousands(pair.tally.calls));
+}

@@ -1,0 +1,70 @@
+//! Timing: both queues in turn, the best of several parts.
+
+use std::time::Duration;
+use std::time::Instant;
+
+const PARTS: usize = 41;
+const PART: Duration = Duration::from_millis(20);
+
+/// Time spent in one kind of call.
+#[derive(Clone, Copy, Default)]
+pub struct Lap {
+    time: Duration,
+    calls: u64,
+}
+
+impl Lap {
+    /// Times what the function does, which says how many calls it made.
+    pub fn run(&mut self, f: impl FnOnce() -> u64) {
+        let start = Instant::now();
+        let calls = f();
+        self.time += start.elapsed();
+        self.calls += calls;
+    }
+}
+
+/// A round of calls on one queue, which times its kinds of calls.
+pub type Round<'a, const KINDS: usize> = &'a mut dyn FnMut(&mut [Lap; KINDS]);
+
+/// Nanoseconds of a call, of the proved queue and of the original.
+#[derive(Clone, Copy)]
+pub struct Times {
+    pub ours: f64,
+    pub theirs: f64,
+}
+
+impl Times {
+    pub fn ratio(&self) -> f64 {
+        self.ours / self.theirs
+    }
+}
+
+/// Nanoseconds a call of each kind, over one part.
+fn part<const KINDS: usize>(round: &mut Round<'_, KINDS>) -> [f64; KINDS] {
+    let mut laps = [Lap::default(); KINDS];
+    let start = Instant::now();
+    while start.elapsed() < PART {
+        round(&mut laps);
+    }
+    laps.map(|lap| lap.time.as_nanos() as f64 / lap.calls.max(1) as f64)
+}
+
+/// The best part of each queue, for each kind of call. The first part of each only warms up.
+pub fn best<const KINDS: usize>(mut ours: Round<'_, KINDS>, mut theirs: Round<'_, KINDS>) -> [Times; KINDS] {
+    let mut best = [Times { ours: f64::MAX, theirs: f64::MAX }; KINDS];
+    for k in 0..PARTS {
+        let (t, o) = (part(&mut theirs), part(&mut ours));
+        if k > 0 {
+            for (kind, times) in best.iter_mut().enumerate() {
+                times.ours = times.ours.min(o[kind]);
+                times.theirs = times.theirs.min(t[kind]);
+            }
+        }
+    }
+    best
+}
+
+/// Prints a row of the table.
+pub fn row(what: &str, times: Times) {
+    println!("| {what} | {:.1} | {:.1} | {:.2} |", times.ours, times.theirs, times.ratio());
+}
