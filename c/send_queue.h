@@ -11,7 +11,8 @@
  *   - No two arguments of a call overlap, and nobody else writes to them while it runs.
  *   - The words of a queue, from creation on, and the bytes of its store are changed by these functions only, and each call gets both
  *     as the last one left them. The words hold no pointer: between two calls words and store may be moved or copied.
- *   - 512 KB of stack for dsq_produce, which may pass over 1,024 expired messages in one call and calls itself for each.
+ *   - 512 KB of stack for dsq_produce alone, which may pass over 1,024 expired messages in one call and calls itself for each: 504 KB were
+ *     measured (scripts/hard); give a thread more.
  *
  * A flag that is passed in is 0 for no and anything else for yes; one that is told is 0 or 1. Times are counts of nanoseconds. */
 #ifndef DSQ_SEND_QUEUE_H
@@ -114,8 +115,9 @@ enum dsq_readiness {
     DSQ_SEND_QUEUE_NOT_EMPTY = 2
 };
 
-/* ---------------------------------------------------------------- creation and messages
- * Behind each function stand the refusals that it can give, in the order in which they are checked. */
+/* The numbers behind a function's description are the refusals that it can give, in the order in which they are checked.
+ *
+ * ---------------------------------------------------------------- creation and messages */
 
 /* Makes the words those of a new queue without streams or messages; interleaving is off. Only the store's length is looked at.
  * payload_limit: the most payload that goes into a packet, for the scheduler's costs. handover_with_data: see readiness. (1, 2) */
@@ -144,7 +146,7 @@ uint8_t dsq_produce(uint64_t queue[DSQ_QUEUE_WORDS], const uint8_t *store, size_
 /* ---------------------------------------------------------------- closing and restarting streams */
 
 /* Closes a stream, known or not: drops every message that is not half-sent. Without a half-sent one the stream is then ready to be
- * reset, else when that one ends. Tells EVENTS. (3, 6, 16) */
+ * reset, else when that one was sent or discarded. A stream that is not open stays as it is. Tells EVENTS. (3, 6, 16) */
 uint8_t dsq_prepare_reset_stream(uint64_t queue[DSQ_QUEUE_WORDS], uint64_t *events, size_t events_length,
                                  uint64_t out[DSQ_OUT_WORDS], uint16_t stream_id);
 
@@ -158,7 +160,8 @@ uint8_t dsq_commit_reset_streams(uint64_t queue[DSQ_QUEUE_WORDS]);
 /* Opens every resetting stream. (16) */
 uint8_t dsq_rollback_reset_streams(uint64_t queue[DSQ_QUEUE_WORDS]);
 
-/* After a restart of the peer: opens all streams, sets their counters to 0 and puts half-sent messages back whole. (16) */
+/* After a restart of the peer: opens all streams, sets their counters to 0 and puts half-sent messages back whole; these keep the
+ * numbers that they have. (16) */
 uint8_t dsq_reset(uint64_t queue[DSQ_QUEUE_WORDS]);
 
 /* ---------------------------------------------------------------- settings */

@@ -114,10 +114,10 @@ static int as_remembered(const struct host *h)
 }
 
 /* The call is refused with this number, and every array stays as it was. */
-#define REFUSED(h, number, call)            \
-    do {                                    \
-        remember(h);                        \
-        CHECK((call) == (number));          \
+#define REFUSED(h, number, call)             \
+    do {                                     \
+        remember(h);                         \
+        CHECK((call) == (number));           \
         CHECK(as_remembered(h) && (number)); \
     } while (0)
 

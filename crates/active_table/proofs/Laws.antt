@@ -1,11 +1,10 @@
 -- Laws of the two searches: row by row, and part by part. Assumes nothing.
 use mathlib.Core.Path.{_≡_, refl, sym, ap, _∙_, subst}
-use mathlib.Core.Bool.{Bool, true, false}
 use mathlib.Core.List.{List}
 use Prim.Native.Nat.{ℕ, zero, suc, _+_, _-_, _≤_, _<_}
 use native.Mathlib.Nat.{sub-zero}
 use native.Mathlib.Omega.{arith}
-use lib.Dec.{eqb, ltb}
+use lib.Dec.{ltb}
 use borrow.Author.Tests.{lt-ltb, le-ltb, eq-eqb, ne-eqb}
 use Rattle.queue_model.specs.Logic.{if_then_else_}
 use Rattle.queue_model.proofs.Tests.{Tri, less, same, more, tri}
@@ -137,24 +136,33 @@ seek-end ws id n i inv l g =
 
 -- ------------------------------------------------------------------ the least row
 
+pub best-zero : (ws : List ℕ) → bestTo ws 0 ≡ bestOf (activeAt ws 0) 0
+unfolding bestTo bestAmong
+best-zero ws = refl
+
+pub best-suc : (ws : List ℕ) (k : ℕ) → bestTo ws (suc k) ≡ better (bestTo ws k) (bestOf (activeAt ws (suc k)) (suc k))
+unfolding bestTo bestAmong
+best-suc ws k =
+    let s : 1 + k ≡ suc k = omega arith in
+    rw s
+
 -- Rows of the queue behind the least of those before.
 among : (ws : List ℕ) (i n : ℕ) → bestAmong (rowsFrom ws (i + 1)) (bestTo ws i) (i + 1) n ≡ bestTo ws (i + n)
-unfolding bestAmong bestTo
+unfolding bestAmong
 among ws i zero =
     let z : i + 0 ≡ i = omega arith in
     rw z
 among ws i (suc n) =
     let s : i + suc n ≡ suc (i + n) = omega arith in
     let t : (i + 1) + n ≡ suc (i + n) = omega arith in
-    rw (s, t, among ws i n)
+    rw (s, t, among ws i n, best-suc ws (i + n))
 
 -- A part of c rows behind row i.
 pub least-part : (ws : List ℕ) (i c : ℕ) (a b : Best) → a ≡ bestTo ws i → b ≡ bestAmong (rowsFrom ws (i + 1)) a (i + 1) c → b ≡ bestTo ws (i + c)
 least-part ws i c a b ea eb = eb ∙ (ap (λ (x : Best). bestAmong (rowsFrom ws (i + 1)) x (i + 1) c) ea ∙ among ws i c)
 
 pub least-first : (ws : List ℕ) (r : ActiveStreamInfo) (b : Best) → r ≡ activeAt ws 0 → b ≡ bestOf r 0 → b ≡ bestTo ws 0
-unfolding bestTo
-least-first ws r b er eb = eb ∙ ap (λ (x : ActiveStreamInfo). bestOf x 0) er
+least-first ws r b er eb = eb ∙ (ap (λ (x : ActiveStreamInfo). bestOf x 0) er ∙ sym (best-zero ws))
 
 pub least-end : (ws : List ℕ) (i n : ℕ) (b : Best) → b ≡ bestTo ws i → i < n → n ≤ i + 1 → b ≡ bestTo ws (n - 1)
 least-end ws i n b e l g =

@@ -1,11 +1,12 @@
 -- The table of waiting streams: a stream's row, and the least row. A table is given by its rows, place by place: the queue's are `activeAt ws`, a lent table's `rowsOf t`. Assumes nothing.
 use Prim.Native.Nat.{ℕ, zero, suc, _+_}
-use mathlib.Core.Bool.{Bool, true, false, _&&_, _||_}
+use mathlib.Core.Bool.{_&&_, _||_}
 use mathlib.Core.List.{List}
 use lib.Dec.{eqb, ltb}
 use Rattle.queue_model.specs.Logic.{if_then_else_}
 use Rattle.queue_words.specs.Active.{activeAt}
 use Rattle.queue_words.specs.declared.active.ActiveStreamInfo.{ActiveStreamInfo}
+use Rattle.active_table.specs.Parts.{rowsFrom}
 use Rattle.active_table.specs.declared.Best.{Best}
 
 -- The first row of a stream among the n from i on, or the place behind them.
@@ -36,5 +37,4 @@ bestAmong rows start from (suc n) = better (bestAmong rows start from n) (bestOf
 
 -- The least of the queue's rows 0 to k.
 unfoldable pub bestTo : List ℕ → ℕ → Best
-bestTo ws zero = bestOf (activeAt ws 0) 0
-bestTo ws (suc k) = better (bestTo ws k) (bestOf (activeAt ws (suc k)) (suc k))
+bestTo ws k = bestAmong (rowsFrom ws 1) (bestOf (activeAt ws 0) 0) 1 k

@@ -2,13 +2,12 @@
 // scheduler's functions": lookup by stream, and the least finish time, over a lent slice of records.
 //
 // The queue holds the table in its words. It is lent in parts of four rows, the rows left over one by one: so small a part
-// needs no memory once compiled, and nothing is copied (docs/DECISIONS.md).
+// stays in registers once compiled, and nothing is copied then (docs/DECISIONS.md).
 ghost use mathlib.Core.Path.{_≡_};
 ghost use Prim.Native.Nat.{_+_, _-_, _<_, _≤_, _^_};
 ghost use lib.ListN.{length};
 ghost use Rattle.active_table.specs.Rows.{positionStep, seekFrom, seek, bestOf, better, bestAmong, bestTo};
 ghost use Rattle.active_table.specs.Parts.{rowsOf, rowsFrom, fourRows, oneRow};
-ghost use Rattle.queue_words.specs.Active.{activeAt};
 use queue_words::QUEUE_WORDS;
 use queue_words::active::ActiveStreamInfo;
 use queue_words::active::load_active;

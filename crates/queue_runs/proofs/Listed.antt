@@ -63,7 +63,9 @@ use Rattle.handover.specs.Restore as restoring
 use Rattle.queue_runs.specs.Calls.{add, produce, discard, close, ready-ids, commit, rollback, reset, set-threshold, set-priority, set-interleaving, restore, ask-priority, ask-amount, ask-threshold, ask-total, ask-empty, ask-has-data, ask-streams-ready, ask-readiness}
 use Rattle.queue_runs.specs.Run.{step}
 use Rattle.queue_runs.specs.Refusals.{callRefused, sentRefused, numberRefused, flagRefused}
-use Rattle.queue_runs.specs.Numbers.{callNumber, sentNumber, askedNumber, flagNumber, among, RefusalsListed}
+use Rattle.queue_streams.specs.Answers.{callNumber, numberNumber, flagNumber}
+use Rattle.queue_sending.specs.Data.{producedNumber}
+use Rattle.queue_runs.specs.Numbers.{among, RefusalsListed}
 use Rattle.queue_runs.proofs.Stays.{not-refused}
 
 -- ---- codes: a number of the list where it is above 0
@@ -371,7 +373,7 @@ ready-listed ws = readies-pick (readying.allPlacesFit ws (totalsAt ws .known)) _
 -- ---- questions
 
 unfoldable Asks : Number → Type 0
-Asks r = numberRefused r ≡ true → among (askedNumber r) (16 ∷ []) ≡ true
+Asks r = numberRefused r ≡ true → among (numberNumber r) (16 ∷ []) ≡ true
 
 asked-listed : (f : OutgoingStream → ℕ) (x : Looked) → Asks (asked f x)
 unfolding Asks
@@ -431,7 +433,7 @@ abbrev sending : List ℕ
 sending = 2 ∷ 3 ∷ 4 ∷ 9 ∷ 10 ∷ 16 ∷ []
 
 unfoldable Sends : ProducedWith → Type 0
-Sends r = sentRefused (r .answer) ≡ true → among (sentNumber (r .answer)) sending ≡ true
+Sends r = sentRefused (r .answer) ≡ true → among (producedNumber (r .answer)) sending ≡ true
 
 sends-pick : (b : Bool) (x y : ProducedWith) → Sends x → Sends y → Sends (pick b x y)
 sends-pick true x y f g = f
@@ -527,7 +529,7 @@ settled-listed ws es bs p h = go (p .answer) refl
     go : (a : Produced) → p .answer ≡ a → Sends (settledAs ws es bs p a)
     go (produced.Nothing k) e = h
     go (produced.Fragment k d) e = h
-    go (produced.Refused n) e = λ z. let u : sentRefused (p .answer) ≡ true → among (sentNumber (p .answer)) sending ≡ true = h in rw e at u refl
+    go (produced.Refused n) e = λ z. let u : sentRefused (p .answer) ≡ true → among (producedNumber (p .answer)) sending ≡ true = h in rw e at u refl
 
 past-listed : (ws st es bs : List ℕ) (time size : ℕ) → Sends (producedPast ws st es bs time size)
 unfolding producedPast pastOf

@@ -11,14 +11,16 @@ use Rattle.queue_sending.specs.Produce.{produceCode, produceNext}
 use Rattle.handover.specs.Restore as restoring
 use Rattle.queue_runs.specs.Calls.{add, produce, discard, close, ready-ids, commit, rollback, reset, set-threshold, set-priority, set-interleaving, restore, ask-priority, ask-amount, ask-threshold, ask-total, ask-empty, ask-has-data, ask-streams-ready, ask-readiness}
 use Rattle.queue_runs.specs.Run.{step}
-use Rattle.queue_runs.specs.Numbers.{callNumber, sentNumber, OtherStore}
+use Rattle.queue_streams.specs.Answers.{callNumber}
+use Rattle.queue_sending.specs.Data.{producedNumber}
+use Rattle.queue_runs.specs.Numbers.{OtherStore}
 use Rattle.queue_runs.proofs.Stays.{not-refused}
 
 add-other : (ws st : List ℕ) (time : ℕ) (m : Message) (bs : List ℕ) → (optionsAt ws .«store_length» ≡ length st → ⊥) → callNumber (adding.add ws st time m bs .answer) ≡ 2
 unfolding adding.add adding.argumentsCode
 add-other ws st time m bs h = rw (ne-eqb (optionsAt ws .«store_length») (length st) h)
 
-produce-other : (ws st es bs : List ℕ) (time size : ℕ) → (optionsAt ws .«store_length» ≡ length st → ⊥) → sentNumber (produceNext ws st es bs time size .answer) ≡ 2
+produce-other : (ws st es bs : List ℕ) (time size : ℕ) → (optionsAt ws .«store_length» ≡ length st → ⊥) → producedNumber (produceNext ws st es bs time size .answer) ≡ 2
 unfolding produceNext produceCode
 produce-other ws st es bs time size h = rw (ne-eqb (optionsAt ws .«store_length») (length st) h)
 

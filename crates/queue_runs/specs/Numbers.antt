@@ -7,43 +7,20 @@ use lib.Dec.{eqb}
 use lib.ListN.{length}
 use Rattle.queue_words.specs.Flags.{pick}
 use Rattle.queue_words.specs.Header.{optionsAt}
-use Rattle.queue_streams.specs.declared.answers.Call as answer
-use Rattle.queue_streams.specs.declared.answers.Call.the-variants as call
-use Rattle.queue_streams.specs.declared.answers.Flag.{Flag}
-use Rattle.queue_streams.specs.declared.answers.Flag.the-variants as flags
-use Rattle.queue_streams.specs.declared.answers.Number.{Number}
-use Rattle.queue_streams.specs.declared.answers.Number.the-variants as numbers
-use Rattle.queue_sending.specs.declared.data.Produced.{Produced}
-use Rattle.queue_sending.specs.declared.data.Produced.the-variants as produced
+use Rattle.queue_streams.specs.Answers.{callNumber, numberNumber, flagNumber}
+use Rattle.queue_sending.specs.Data.{producedNumber}
 use Rattle.queue_runs.specs.Calls.{Call, add, produce, discard, close, ready-ids, commit, rollback, reset, set-threshold, set-priority, set-interleaving, restore, ask-priority, ask-amount, ask-threshold, ask-total, ask-empty, ask-has-data, ask-streams-ready, ask-readiness, Answer, called, sent, readied, number, flag, count, truth}
 use Rattle.queue_runs.specs.Run.{State, step}
 use Rattle.queue_runs.specs.Refusals.{refusal}
 
 -- ------------------------------------------------------------------ the number of a refusal
 
-abbrev pub callNumber : answer.Call → ℕ
-callNumber (call.Accepted k) = 0
-callNumber (call.Refused n) = n
-
-abbrev pub sentNumber : Produced → ℕ
-sentNumber (produced.Nothing k) = 0
-sentNumber (produced.Fragment k d) = 0
-sentNumber (produced.Refused n) = n
-
-abbrev pub askedNumber : Number → ℕ
-askedNumber (numbers.Value n) = 0
-askedNumber (numbers.Refused n) = n
-
-abbrev pub flagNumber : Flag → ℕ
-flagNumber (flags.Value b) = 0
-flagNumber (flags.Refused n) = n
-
 -- The number of a refusal, 0 where the answer is none.
 abbrev pub refusalNumber : Answer → ℕ
 refusalNumber (called a) = callNumber a
-refusalNumber (sent a) = sentNumber a
+refusalNumber (sent a) = producedNumber a
 refusalNumber (readied r) = callNumber (r .answer)
-refusalNumber (number a) = askedNumber a
+refusalNumber (number a) = numberNumber a
 refusalNumber (flag a) = flagNumber a
 refusalNumber (count n) = 0
 refusalNumber (truth b) = 0

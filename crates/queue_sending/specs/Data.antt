@@ -59,3 +59,9 @@ producedWith a ws es bs = record { answer = a; words = ws; events = es; buffer =
 -- refused with a number of document 01's list
 abbrev pub refusedWith : ℕ → List ℕ → List ℕ → List ℕ → ProducedWith
 refusedWith code ws es bs = producedWith (produced.Refused code) ws es bs
+
+-- The number of an answer: 0 where the call is accepted, else the refusal's of document 01.
+abbrev pub producedNumber : Produced → ℕ
+producedNumber (produced.Nothing k) = 0
+producedNumber (produced.Fragment k d) = 0
+producedNumber (produced.Refused n) = n

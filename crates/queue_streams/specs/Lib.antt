@@ -1,4 +1,5 @@
 -- What the calls on the streams leave, for every input. Assumes nothing.
+pub mod Answers
 pub mod Events
 pub mod Known
 pub mod Settings

@@ -62,7 +62,8 @@ pub fn reschedule(
     set_bytes_remaining(queue, id, bytes, p);
 }
 
-// A test of all known streams half done: whether their places are in their tables, and how many rows would be needed.
+// A test of all known streams half done: whether their places are in their tables, and how many rows would be needed. It is handed
+// on field by field: copied whole, the bytes between its fields would be carried through memory at every stream.
 pub struct Tally {
     pub fits: bool,
     pub rows: u64,
@@ -90,7 +91,10 @@ fn tally_stream(
 {
     let passed = passed_over(all, s.pause_state);
     if passed {
-        return t;
+        return Tally {
+            fits: t.fits,
+            rows: t.rows,
+        };
     }
     if s.first > 1024 {
         return Tally {
@@ -99,11 +103,17 @@ fn tally_stream(
         };
     }
     if s.first == 1024 {
-        return t;
+        return Tally {
+            fits: t.fits,
+            rows: t.rows,
+        };
     }
     let listed = waits(queue, id);
     if listed {
-        return t;
+        return Tally {
+            fits: t.fits,
+            rows: t.rows,
+        };
     }
     Tally {
         fits: t.fits,

@@ -13,7 +13,9 @@ use Rattle.queue_sending.specs.Data.{ProducedWith, producedWith}
 use Rattle.queue_sending.specs.declared.data.Produced.{Produced}
 use Rattle.saving.specs.Save.{SavedAs, savedAs}
 use Rattle.saving.specs.declared.image.Saved.{Saved}
-use Rattle.send_queue_c.specs.Numbers.{callNumber, callOut, numberNumber, numberOut, flagNumber, flagOut, producedNumber, producedOut, readyNumber, readyIds, readyOut, savedNumber, savedOut}
+use Rattle.queue_streams.specs.Answers.{callNumber, numberNumber, flagNumber}
+use Rattle.queue_sending.specs.Data.{producedNumber}
+use Rattle.send_queue_c.specs.Numbers.{callOut, numberOut, flagOut, producedOut, readyNumber, readyIds, readyOut, savedNumber, savedOut}
 use Rattle.send_queue_c.specs.Given.{Gives, GivesEvents, GivesStore, GivesFragment, GivesIds, GivesNumber, GivesFlag, GivesImage}
 
 pub gives : (d : Called) (c : Call) (r : ℕ) (ws′ : List ℕ) → called c ws′ ≡ d → r ≡ callNumber c → Gives d r ws′

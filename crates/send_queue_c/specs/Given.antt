@@ -9,7 +9,9 @@ use Rattle.queue_messages.specs.Add.{Added}
 use Rattle.queue_restarts.specs.Ready.{Readied}
 use Rattle.queue_sending.specs.Data.{ProducedWith}
 use Rattle.saving.specs.Save.{SavedAs}
-use Rattle.send_queue_c.specs.Numbers.{callNumber, callOut, numberNumber, numberOut, flagNumber, flagOut, producedNumber, producedOut, readyNumber, readyIds, readyOut, savedNumber, savedOut}
+use Rattle.queue_streams.specs.Answers.{callNumber, numberNumber, flagNumber}
+use Rattle.queue_sending.specs.Data.{producedNumber}
+use Rattle.send_queue_c.specs.Numbers.{callOut, numberOut, flagOut, producedOut, readyNumber, readyIds, readyOut, savedNumber, savedOut}
 
 -- A call that changes the words alone.
 pub record Gives (d : Called) (r : ℕ) (ws′ : List ℕ) : Type 0 where

@@ -1,5 +1,5 @@
 -- "If an answer is an enum, a definition states this paper's number and values for each case of the enum." The number is what a call returns: 0 for accepted, else the
--- refusal's. The values stand in an array of 16 places: 0 the value, 1 the number of events, the others what goes with a fragment. Assumes nothing.
+-- refusal's (queue_streams: specs/Answers, queue_sending: specs/Data). The values stand in an array of 16 places: 0 the value, 1 the number of events, the others what goes with a fragment. Assumes nothing.
 use Prim.Native.Nat.{ℕ}
 use mathlib.Core.Bool.{Bool, true, false, not}
 use mathlib.Core.List.{List, _++_}
@@ -13,6 +13,7 @@ use Rattle.queue_streams.specs.declared.answers.Flag.{Flag}
 use Rattle.queue_streams.specs.declared.answers.Flag.the-variants as flag
 use Rattle.queue_streams.specs.declared.answers.Number.{Number}
 use Rattle.queue_streams.specs.declared.answers.Number.the-variants as number
+use Rattle.queue_streams.specs.Answers.{callNumber}
 use Rattle.queue_messages.specs.declared.message.Lifetime.{Lifetime}
 use Rattle.queue_messages.specs.declared.message.Lifetime.the-variants as life
 use Rattle.queue_messages.specs.declared.message.MaxRetransmissions.{MaxRetransmissions}
@@ -54,27 +55,15 @@ messageOf stream ppid unordered has-lifetime lifetime has-limit limit lifecycle 
 
 -- ------------------------------------------------------------------ a call that changes the queue
 
-abbrev pub callNumber : Call → ℕ
-callNumber (Accepted k) = 0
-callNumber (Refused n) = n
-
 abbrev pub callOut : List ℕ → Call → List ℕ
 callOut out (Accepted k) = set out 1 k
 callOut out (Refused n) = out
 
 -- ------------------------------------------------------------------ the questions
 
-abbrev pub numberNumber : Number → ℕ
-numberNumber (number.Value v) = 0
-numberNumber (number.Refused n) = n
-
 abbrev pub numberOut : List ℕ → Number → List ℕ
 numberOut out (number.Value v) = set out 0 v
 numberOut out (number.Refused n) = out
-
-abbrev pub flagNumber : Flag → ℕ
-flagNumber (flag.Value b) = 0
-flagNumber (flag.Refused n) = n
 
 abbrev pub flagOut : List ℕ → Flag → List ℕ
 flagOut out (flag.Value b) = set out 0 (bit b)
@@ -98,11 +87,6 @@ shown out k d =
     let b = set (set (set (set a 4 (key-id (d .data .«stream_key») .0)) 5 (bit (key-unordered (d .data .«stream_key»)))) 6 (d .data .ssn .0)) 7 (d .data .mid .0) in
     let c = set (set (set (set b 8 (d .data .fsn .0)) 9 (d .data .ppid)) 10 (bit (d .data .«is_beginning»))) 11 (bit (d .data .«is_end»)) in
     set (set (set (set c 12 (d .«max_retransmissions»)) 13 (expiryNumber (d .«expires_at»))) 14 (expiryTime (d .«expires_at»))) 15 (d .«lifecycle_id»)
-
-abbrev pub producedNumber : Produced → ℕ
-producedNumber (produced.Nothing k) = 0
-producedNumber (produced.Fragment k d) = 0
-producedNumber (produced.Refused n) = n
 
 abbrev pub producedOut : List ℕ → Produced → List ℕ
 producedOut out (produced.Nothing k) = set (set out 0 0) 1 k

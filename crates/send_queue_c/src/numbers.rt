@@ -1,6 +1,7 @@
 // Answers as numbers, with what goes with them in named places of an array.
 ghost use mathlib.Core.Path.{_≡_};
-ghost use Rattle.send_queue_c.specs.Numbers.{isYes, callNumber, callOut, numberNumber, numberOut, flagNumber, flagOut};
+ghost use Rattle.queue_streams.specs.Answers.{callNumber, numberNumber, flagNumber};
+ghost use Rattle.send_queue_c.specs.Numbers.{isYes, callOut, numberOut, flagOut};
 use send_queue::Call;
 use send_queue::Flag;
 use send_queue::Number;

@@ -1,7 +1,8 @@
 // The next fragment.
 ghost use mathlib.Core.Path.{_≡_};
 ghost use Rattle.queue_sending.specs.Produce.{produceNext};
-ghost use Rattle.send_queue_c.specs.Numbers.{expiryNumber, expiryTime, shown, producedNumber, producedOut};
+ghost use Rattle.queue_sending.specs.Data.{producedNumber};
+ghost use Rattle.send_queue_c.specs.Numbers.{expiryNumber, expiryTime, shown, producedOut};
 ghost use Rattle.send_queue_c.specs.Given.{GivesFragment};
 use crate::numbers::EVENTS;
 use crate::numbers::EXPIRES;

@@ -12,6 +12,7 @@ use Rattle.queue_model.proofs.Choice.{AtMost, sooner, level, at-most-trans}
 use Rattle.queue_words.specs.Active.{activeAt}
 use Rattle.active_table.specs.Rows.{seekFrom, seek, bestOf, better, bestTo}
 use Rattle.active_table.specs.declared.Best.{Best}
+use Rattle.active_table.proofs.Laws.{best-zero, best-suc}
 use Rattle.stream_scheduler.specs.Link.{entryAt}
 
 -- ---- the row of a stream
@@ -84,9 +85,12 @@ pub record BestIs (ws : List ℕ) (k : ℕ) (b : Best) : Type 0 where
   pub best-least : (j : ℕ) → j ≤ k → AtMost (entryAt ws (b .at)) (entryAt ws j)
 
 pub best-is : (ws : List ℕ) (k : ℕ) → BestIs ws k (bestTo ws k)
-unfolding bestTo
-best-is ws zero = record { best-in = omega arith; best-row = refl; best-least = λ j h. let z : j ≡ 0 = omega arith in subst (λ (x : ℕ). AtMost (entryAt ws 0) (entryAt ws x)) (sym z) (level refl (omega arith)) }
-best-is ws (suc k) = go (bestTo ws k) (best-is ws k)
+best-is ws zero = subst (BestIs ws 0) (sym (best-zero ws)) (record {
+  best-in = omega arith;
+  best-row = refl;
+  best-least = λ j h. let z : j ≡ 0 = omega arith in subst (λ (x : ℕ). AtMost (entryAt ws 0) (entryAt ws x)) (sym z) (level refl (omega arith));
+})
+best-is ws (suc k) = subst (BestIs ws (suc k)) (sym (best-suc ws k)) (go (bestTo ws k) (best-is ws k))
   where
     go : (b : Best) → BestIs ws k b → BestIs ws (suc k) (better b (rowAt ws (suc k)))
     go b w = subst (λ (x : Best). BestIs ws (suc k) (better x (rowAt ws (suc k)))) (sym (w .best-row)) (one (chosen ws (b .at) (suc k)))

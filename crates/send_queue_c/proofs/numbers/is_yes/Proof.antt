@@ -1,0 +1,14 @@
+-- `send_queue_c::numbers::is_yes` meets its contract: each return is what its definition says, by what the calls ensure and the tests taken. Assumes nothing.
+use borrow.Author.Needs.{needs}
+use mathlib.Core.Path.{refl}
+use Rattle.send_queue_c.proofs.numbers.is_yes.Statement.{statement}
+use Rattle.send_queue_c.proofs.numbers.is_yes.Tie as tie
+
+returns : tie.Need-returns
+returns c = refl
+
+pub is-yes-spec : {M : Type 1} → statement M
+is-yes-spec =
+    tie.close
+    (tie.spec
+    returns)
