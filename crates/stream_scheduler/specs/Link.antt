@@ -1,13 +1,12 @@
 -- The scheduler that words stand for, and when words are good for it. Assumes nothing.
 use Prim.Native.Nat.{ℕ, zero, suc, _≤_, _<_}
 use mathlib.Core.Path.{_≡_}
-use mathlib.Core.Bool.{Bool, true, false}
-use mathlib.Core.List.{List, [], _∷_}
+use mathlib.Core.Bool.{true}
+use mathlib.Core.List.{List, []}
 use mathlib.Core.Option.{Option, none, some}
 use lib.Dec.{ltb}
 use lib.ListN.{length}
 use Rattle.queue_model.specs.Logic.{if_then_else_}
-use Rattle.queue_model.specs.Table.{put}
 use Rattle.queue_model.specs.Types.{Active, Scheduler}
 use Rattle.queue_model.specs.Scheduler.{put-active}
 use Rattle.queue_words.specs.Active.{activeAt}

@@ -1,7 +1,6 @@
 -- `active_table::position_step` meets its contract: each return is what its definition says, by what the calls ensure and the tests taken. Assumes nothing.
 use borrow.Author.Needs.{needs}
 use borrow.Author.Tests.{eq-eqb, le-ltb, lt-ltb, ne-eqb}
-use Rattle.active_table.specs.Rows.{positionStep}
 use Rattle.active_table.proofs.position_step.Statement.{statement}
 use Rattle.active_table.proofs.position_step.Tie as tie
 
