@@ -16,6 +16,7 @@ mod image;
 mod makes;
 mod ours;
 mod pair;
+mod payload;
 mod profiles;
 mod tamper;
 mod theirs;

@@ -122,15 +122,23 @@ impl fmt::Display for Call {
     }
 }
 
-/// The payload that length and seed stand for.
-pub fn payload(length: usize, seed: u64) -> Vec<u8> {
-    let mut x = seed % (1 << 31);
-    let mut next = || {
-        x = (x * 1_103_515_245 + 12_345) % (1 << 31);
-        (x / 65_536) as u8
-    };
-    (0..length).map(|_| next()).collect()
+/// What the questions answer of a stream, on either queue: both have the same methods, on types of their own.
+macro_rules! questions {
+    ($queue:expr, $stream:expr) => {{
+        let (q, stream) = ($queue, $stream);
+        [
+            q.buffered_amount(stream) as u64,
+            q.total_buffered_amount() as u64,
+            u64::from(q.is_empty()),
+            q.buffered_amount_low_threshold(stream) as u64,
+            u64::from(q.get_priority(stream)),
+            u64::from(q.has_streams_ready_to_be_reset()),
+            u64::from(q.has_data_to_send()),
+            u64::from(q.get_handover_readiness().0),
+        ]
+    }};
 }
+pub(crate) use questions;
 
 /// What a call answers: 0 or the refusal; numbers; a fragment's or an image's bytes; events as kind and number.
 #[derive(Debug, Default, PartialEq)]

@@ -3,7 +3,8 @@
 use crate::calls::Adding;
 use crate::calls::Answer;
 use crate::calls::Call;
-use crate::calls::payload;
+use crate::calls::questions;
+use crate::payload::payload;
 use desqariy::*;
 use std::time::Duration;
 
@@ -66,17 +67,7 @@ impl Ours {
     }
 
     pub fn questions(&self, stream: u16) -> [u64; 8] {
-        let (q, stream) = (&self.queue, StreamId(stream));
-        [
-            q.buffered_amount(stream) as u64,
-            q.total_buffered_amount() as u64,
-            u64::from(q.is_empty()),
-            q.buffered_amount_low_threshold(stream) as u64,
-            u64::from(q.get_priority(stream)),
-            u64::from(q.has_streams_ready_to_be_reset()),
-            u64::from(q.has_data_to_send()),
-            u64::from(q.get_handover_readiness().0),
-        ]
+        questions!(&self.queue, StreamId(stream))
     }
 
     pub fn answer(&mut self, call: &Call, image: &[u8]) -> Answer {

@@ -14,7 +14,8 @@ use crate::api::handover::SocketHandoverState;
 use crate::calls::Adding;
 use crate::calls::Answer;
 use crate::calls::Call;
-use crate::calls::payload;
+use crate::calls::questions;
+use crate::payload::payload;
 use crate::image;
 use crate::tx::send_queue::SendQueue;
 use crate::types::OutgoingMessageId;
@@ -94,17 +95,7 @@ impl Theirs {
     }
 
     pub fn questions(&self, stream: u16) -> [u64; 8] {
-        let (q, stream) = (&self.queue, StreamId(stream));
-        [
-            q.buffered_amount(stream) as u64,
-            q.total_buffered_amount() as u64,
-            u64::from(q.is_empty()),
-            q.buffered_amount_low_threshold(stream) as u64,
-            u64::from(q.get_priority(stream)),
-            u64::from(q.has_streams_ready_to_be_reset()),
-            u64::from(q.has_data_to_send()),
-            u64::from(q.get_handover_readiness().0),
-        ]
+        questions!(&self.queue, StreamId(stream))
     }
 
     /// The answer to any call but creation and what concerns the current image alone.

@@ -26,16 +26,6 @@ impl<'a> Line<'a> {
     }
 }
 
-/// The payload that a line stands for.
-pub fn payload(length: usize, seed: u64) -> Vec<u8> {
-    let mut x = seed % (1 << 31);
-    let mut next = || {
-        x = (x * 1_103_515_245 + 12_345) % (1 << 31);
-        (x / 65_536) as u8
-    };
-    (0..length).map(|_| next()).collect()
-}
-
 /// The sum by which bytes are shown.
 pub fn sum(bytes: &[u8]) -> u32 {
     bytes.iter().fold(17, |s: u32, b| s.wrapping_mul(31).wrapping_add(u32::from(*b)))

@@ -4,11 +4,12 @@
 //! buffer, so a call with those wrong lengths cannot be made with it. The player answers such a call by the rule (2, 3 or 10) and counts it.
 
 mod line;
+mod payload;
 
 use desqariy::*;
 use line::Line;
-use line::payload;
 use line::sum;
+use payload::payload;
 use std::fmt::Write;
 use std::time::Duration;
 
