@@ -1,6 +1,6 @@
 /* The send queue for a host in C99 or C++: link it with libsend_queue_c.a, which `rt staticlib send_queue_c` makes for x86-64. Of the
- * C library it uses memcpy and memset. It allocates nothing and keeps nothing: all of a queue is in the words and the store that the
- * host lends to each call.
+ * C library it uses memcpy, memmove and memset. It allocates nothing and keeps nothing: all of a queue is in the words and the store that
+ * the host lends to each call.
  *
  * The functions are proved: on any words, any store and any buffers they return, they read and write inside what is lent to them
  * only, and a refused call changes nothing, in no array. What a host must keep, since no proof of theirs can see it:

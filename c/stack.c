@@ -1,5 +1,6 @@
-/* Measures the stack of the deepest call: 1,024 expired messages that one dsq_produce passes over, calling itself for each. The call runs on a
- * thread whose stack was painted before; what is no longer painted was used. */
+/* Measures the stack of the deepest call: 1,024 expired messages that one dsq_produce passes over, calling itself for each. Then that of adding
+ * and of sending the largest payload, which is copied through a block that the compiler must leave out. Each call runs on a thread whose stack
+ * was painted before; what is no longer painted was used. */
 #define _POSIX_C_SOURCE 200809L
 #include "send_queue.h"
 
@@ -9,32 +10,48 @@
 #include <string.h>
 
 #define STACK (4u << 20)
-#define STORE 200000
+#define STORE DSQ_MAX_STORE
 #define PAINT 0xa5
+#define SHALLOW 8192
+
+enum call { NOTHING, PASS_OVER, ADD, SEND };
 
 static uint64_t queue[DSQ_QUEUE_WORDS], events[DSQ_EVENT_WORDS], out[DSQ_OUT_WORDS];
-static uint8_t store[STORE], buffer[1200], payload[100];
-static int deep;
+static uint8_t store[STORE], buffer[DSQ_MAX_PAYLOAD], payload[DSQ_MAX_PAYLOAD];
+static enum call call;
+
+static int add(size_t length, uint16_t stream, uint8_t has_lifetime, uint64_t lifecycle_id) {
+    return dsq_add(queue, store, STORE, payload, length, 0, stream, 53, 0, has_lifetime, 0, 0, 0, lifecycle_id) == 0;
+}
+
+static int produce(uint64_t time, uint64_t value, uint64_t count) {
+    return dsq_produce(queue, store, STORE, events, DSQ_EVENT_WORDS, buffer, sizeof buffer, out, time, sizeof buffer) == 0 && out[DSQ_OUT_VALUE] == value
+           && out[DSQ_OUT_EVENTS] == count;
+}
 
 static void *run(void *unused) {
+    int done = 1;
     (void)unused;
-    if (!deep)
-        return NULL;
-    if (dsq_produce(queue, store, STORE, events, DSQ_EVENT_WORDS, buffer, sizeof buffer, out, 10000000, sizeof buffer) != 0 || out[DSQ_OUT_VALUE] != 0
-        || out[DSQ_OUT_EVENTS] != DSQ_MAX_EVENTS) {
-        fprintf(stderr, "stack: the call did not pass over all messages\n");
+    if (call == PASS_OVER)
+        done = produce(10000000, 0, DSQ_MAX_EVENTS);
+    if (call == ADD)
+        done = add(DSQ_MAX_PAYLOAD, 0, 0, 0);
+    if (call == SEND)
+        done = produce(10000000, 1, 2);
+    if (!done) {
+        fprintf(stderr, "stack: call %d did not do its work\n", (int)call);
         exit(1);
     }
     return NULL;
 }
 
 /* The bytes of stack that a thread used. */
-static size_t used(int is_deep) {
+static size_t used(enum call which) {
     pthread_attr_t how;
     pthread_t thread;
     unsigned char *stack;
     size_t i = 0;
-    deep = is_deep;
+    call = which;
     if (posix_memalign((void **)&stack, 4096, STACK) || pthread_attr_init(&how)) {
         fprintf(stderr, "stack: no memory\n");
         exit(2);
@@ -51,15 +68,22 @@ static size_t used(int is_deep) {
 }
 
 int main(void) {
-    size_t without, with;
+    size_t without, passing, adding, sending;
     unsigned i;
     if (dsq_create(queue, store, STORE, 1200, 256, 0, 0, 1) != 0)
         return 1;
     for (i = 0; i < DSQ_MAX_MESSAGES; i++)
-        if (dsq_add(queue, store, STORE, payload, sizeof payload, 0, (uint16_t)(i % 256), 53, 0, 1, 0, 0, 0, i + 1) != 0)
+        if (!add(100, (uint16_t)(i % 256), 1, i + 1))
             return 1;
-    without = used(0);
-    with = used(1);
-    printf("stack: %lu KB for 1,024 expired messages in one call\n", (unsigned long)((with - without + 1023) / 1024));
+    without = used(NOTHING);
+    passing = used(PASS_OVER) - without;
+    adding = used(ADD) - without;
+    sending = used(SEND) - without;
+    printf("stack: %lu KB for 1,024 expired messages in one call\n", (unsigned long)((passing + 1023) / 1024));
+    printf("stack: %lu bytes to add 262,144 bytes, %lu to send them\n", (unsigned long)adding, (unsigned long)sending);
+    if (adding > SHALLOW || sending > SHALLOW) {
+        fprintf(stderr, "stack: the block is on the stack\n");
+        return 1;
+    }
     return 0;
 }

@@ -10,6 +10,11 @@ use crate::sides::Theirs;
 use crate::sides::payload;
 use std::hint::black_box;
 
+/// A payload starts at another place of the caller's buffer with each message, all multiples of 16 within a page in turn: how fast the C library
+/// copies hangs on how source and destination lie to each other.
+const PLACES: usize = 4_096;
+const STEP: usize = 208;
+
 pub struct Load {
     streams: usize,
     messages: usize,
@@ -18,12 +23,14 @@ pub struct Load {
 }
 
 macro_rules! round {
-    ($queue:expr, $load:expr, $payload:expr, $timed:expr) => {
-        |laps: &mut [Lap; 2]| {
+    ($queue:expr, $load:expr, $bytes:expr, $timed:expr) => {{
+        let mut place = 0;
+        move |laps: &mut [Lap; 2]| {
             let mut buffer = [0; SIZE];
             laps[0].run(|| {
                 for i in 0..$load.messages {
-                    $queue.add((i % $load.streams) as u16, $payload);
+                    $queue.add((i % $load.streams) as u16, &$bytes[place..place + $load.payload]);
+                    place = (place + STEP) % PLACES;
                 }
                 $load.messages as u64
             });
@@ -37,14 +44,14 @@ macro_rules! round {
             });
             while $queue.produce(&mut buffer) {}
         }
-    };
+    }};
 }
 
 /// Times of add and produce; of the fragments of a round at most so many are timed.
 fn measure(load: &Load, timed: u64) -> [Times; 2] {
-    let bytes = payload(load.payload);
+    let bytes = &payload(load.payload + PLACES);
     let (mut ours, mut theirs) = (Ours::new(load.interleaved), Theirs::new(load.interleaved));
-    best(&mut round!(ours, load, &bytes, timed), &mut round!(theirs, load, &bytes, timed))
+    best(&mut round!(ours, load, bytes, timed), &mut round!(theirs, load, bytes, timed))
 }
 
 /// Profile 3 has 600 messages and not 1,024: so many of 3,000 bytes do not fit into the largest store.

@@ -2,3 +2,4 @@
 pub mod Laws
 pub mod Lent
 pub mod Parts
+pub mod Passing

@@ -2,12 +2,15 @@
 // scheduler's functions": lookup by stream, and the least finish time, over a lent slice of records.
 //
 // The queue holds the table in its words. It is lent in parts of four rows, the rows left over one by one: so small a part
-// stays in registers once compiled, and nothing is copied then (docs/DECISIONS.md).
+// stays in registers once compiled, and nothing is copied then (docs/DECISIONS.md). Four rows that hold
+// nothing for a search are not lent: a few tests on all four say so.
 ghost use mathlib.Core.Path.{_≡_};
-ghost use Prim.Native.Nat.{_+_, _-_, _<_, _≤_, _^_};
+ghost use Prim.Native.Nat.{_+_, _-_, _<_, _≤_, _^_, min};
 ghost use lib.ListN.{length};
 ghost use Rattle.active_table.specs.Rows.{positionStep, seekFrom, seek, bestOf, better, bestAmong, bestTo};
 ghost use Rattle.active_table.specs.Parts.{rowsOf, rowsFrom, fourRows, oneRow};
+ghost use Rattle.active_table.specs.Passing.{isOf, idBefore, fourLack, idsBehind, soonestOfFour, fourBehind};
+ghost use Rattle.queue_words.specs.Active.{activeAt};
 use queue_words::QUEUE_WORDS;
 use queue_words::active::ActiveStreamInfo;
 use queue_words::active::load_active;
@@ -139,6 +142,134 @@ fn least_of_one(queue: &[u64; QUEUE_WORDS], from: usize, start: Best) -> Best
     least(&table, from, start)
 }
 
+// Four rows seen at once, before they are lent.
+
+// Whether a row is the stream's.
+fn is_of(queue: &[u64; QUEUE_WORDS], i: usize, stream_id: u16) -> bool
+    requires { ⌜ i < 256 ⌝ }
+    ensures { λ r. ⌜ r ≡ isOf (activeAt (now (queue .entry)) i) «stream_id» ⌝ }
+{
+    let row = load_active(queue, i);
+    row.stream_id.0 == stream_id
+}
+
+// None of the four rows is of the stream.
+fn four_lack(queue: &[u64; QUEUE_WORDS], from: usize, stream_id: u16) -> bool
+    requires { ⌜ from + 4 ≤ 256 ⌝ }
+    ensures { λ r. ⌜ r ≡ fourLack (now (queue .entry)) from «stream_id» ⌝ }
+{
+    let a = is_of(queue, from + 0, stream_id);
+    if a {
+        return false;
+    }
+    let b = is_of(queue, from + 1, stream_id);
+    if b {
+        return false;
+    }
+    let c = is_of(queue, from + 2, stream_id);
+    if c {
+        return false;
+    }
+    let d = is_of(queue, from + 3, stream_id);
+    if d {
+        return false;
+    }
+    true
+}
+
+// A row's finish time.
+fn finish_at(queue: &[u64; QUEUE_WORDS], i: usize) -> u64
+    requires { ⌜ i < 256 ⌝ }
+    ensures { λ r. ⌜ r ≡ (activeAt (now (queue .entry)) i) .«virtual_finish_time» ⌝ }
+{
+    let row = load_active(queue, i);
+    row.virtual_finish_time
+}
+
+// The earlier of two times.
+fn sooner(a: u64, b: u64) -> u64
+    ensures { λ r. ⌜ r ≡ min a b ⌝ }
+{
+    if a < b {
+        return a;
+    }
+    b
+}
+
+// The earliest of their finish times.
+fn soonest_of_four(queue: &[u64; QUEUE_WORDS], from: usize) -> u64
+    requires { ⌜ from + 4 ≤ 256 ⌝ }
+    ensures { λ r. ⌜ r ≡ soonestOfFour (rowsFrom (now (queue .entry)) from) ⌝ }
+{
+    let a = finish_at(queue, from + 0);
+    let b = finish_at(queue, from + 1);
+    let c = finish_at(queue, from + 2);
+    let d = finish_at(queue, from + 3);
+    let x = sooner(a, b);
+    let y = sooner(c, d);
+    sooner(x, y)
+}
+
+// Whether a row's id is below this one.
+fn id_before(queue: &[u64; QUEUE_WORDS], i: usize, id: u16) -> bool
+    requires { ⌜ i < 256 ⌝ }
+    ensures { λ r. ⌜ r ≡ idBefore (activeAt (now (queue .entry)) i) id ⌝ }
+{
+    let row = load_active(queue, i);
+    row.stream_id.0 < id
+}
+
+// None of their ids is below this one.
+fn ids_behind(queue: &[u64; QUEUE_WORDS], from: usize, id: u16) -> bool
+    requires { ⌜ from + 4 ≤ 256 ⌝ }
+    ensures { λ r. ⌜ r ≡ idsBehind (now (queue .entry)) from id ⌝ }
+{
+    let a = id_before(queue, from + 0, id);
+    if a {
+        return false;
+    }
+    let b = id_before(queue, from + 1, id);
+    if b {
+        return false;
+    }
+    let c = id_before(queue, from + 2, id);
+    if c {
+        return false;
+    }
+    let d = id_before(queue, from + 3, id);
+    if d {
+        return false;
+    }
+    true
+}
+
+// Where this is true, none of the four rows goes before the best so far; where it is false, one of them may.
+fn four_behind(queue: &[u64; QUEUE_WORDS], from: usize, best: Best) -> bool
+    requires { ⌜ from + 4 ≤ 256 ⌝ }
+    ensures { λ r. ⌜ r ≡ fourBehind (now (queue .entry)) from best ⌝ }
+{
+    let soonest = soonest_of_four(queue, from);
+    if best.finish < soonest {
+        return true;
+    }
+    if soonest < best.finish {
+        return false;
+    }
+    ids_behind(queue, from, best.id)
+}
+
+// The best of `best` and four rows, which are lent only where one of them may go before it.
+fn least_past(queue: &[u64; QUEUE_WORDS], from: usize, best: Best) -> Best
+    requires { ⌜ from + 4 ≤ 256 ⌝ }
+    ensures { λ r. ⌜ r ≡ bestAmong (rowsFrom (now (queue .entry)) from) best from 4 ⌝ }
+{
+    let behind = four_behind(queue, from, best);
+    if behind {
+        return best;
+    }
+    least_of_four(queue, from, best)
+}
+
 // The first row of a stream among n rows of the queue, or n.
 pub fn seek(queue: &[u64; QUEUE_WORDS], stream_id: u16, n: usize) -> usize
     requires { ⌜ n ≤ 256 ⌝ }
@@ -146,8 +277,9 @@ pub fn seek(queue: &[u64; QUEUE_WORDS], stream_id: u16, n: usize) -> usize
 {
     let mut i = 0;
     while i + 4 <= n {
-        let k = position_in_four(queue, i, stream_id);
-        if k < 4 {
+        let lack = four_lack(queue, i, stream_id);
+        if !lack {
+            let k = position_in_four(queue, i, stream_id);
             return i + k;
         }
         i += 4;
@@ -171,7 +303,7 @@ pub fn least_row(queue: &[u64; QUEUE_WORDS], n: usize) -> Best
     let mut best = best_of(first, 0);
     let mut i = 0;
     while i + 5 <= n {
-        best = least_of_four(queue, i + 1, best);
+        best = least_past(queue, i + 1, best);
         i += 4;
     }
     while i + 1 < n {

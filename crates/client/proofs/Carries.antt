@@ -22,7 +22,8 @@ use Rattle.linked_adding.specs.Create.{CreateMeets, answerOf}
 use Rattle.linked_adding.specs.Add.{AddMeets}
 use Rattle.linked_adding.specs.Message.{messageOf}
 use Rattle.linked_sending.specs.Meaning.{producedOf, bufferOf, Sends, ProduceMeets}
-use Rattle.client.specs.Carried.{plainMessage, isAccepted, isFragment, Fits, Carried}
+use Rattle.queue_streams.specs.Answers.{isAccepted}
+use Rattle.client.specs.Carried.{plainMessage, isFragment, Fits, Carried}
 use Rattle.client.proofs.Steps.{options, Gives, passes}
 
 -- After a call: it was accepted, and the words and the store stand for this queue.

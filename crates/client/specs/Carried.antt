@@ -9,8 +9,6 @@ use Rattle.queue_messages.specs.declared.message.MaxRetransmissions.the-variant
 use Rattle.queue_messages.specs.declared.message.Message.{Message}
 use Rattle.queue_sending.specs.declared.data.Produced.{Produced}
 use Rattle.queue_sending.specs.declared.data.Produced.the-variants as produced
-use Rattle.queue_streams.specs.declared.answers.Call.{Call}
-use Rattle.queue_streams.specs.declared.answers.Call.the-variants.{Accepted, Refused}
 
 -- An ordered message on a stream, without a lifetime or a limit of retransmissions.
 abbrev pub plainMessage : ℕ → Message
@@ -22,10 +20,6 @@ plainMessage stream = record {
   «max_retransmissions» = retransmissions.Unlimited;
   «lifecycle_id» = 0;
 }
-
-abbrev pub isAccepted : Call → Bool
-isAccepted (Accepted k) = true
-isAccepted (Refused n) = false
 
 abbrev pub isFragment : Produced → Bool
 isFragment (produced.Nothing k) = false

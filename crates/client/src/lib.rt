@@ -1,7 +1,7 @@
 // A user of the queue, proved from what the public calls promise alone: two messages go in, and the bytes that come out are theirs.
 ghost use mathlib.Core.Path.{_≡_};
 ghost use lib.ListN.{length};
-ghost use Rattle.client.specs.Carried.{plainMessage, isAccepted, isFragment, Fits, Carried};
+ghost use Rattle.client.specs.Carried.{plainMessage, isFragment, Fits, Carried};
 use linked_adding::add;
 use linked_adding::create;
 use linked_sending::produce;
@@ -9,7 +9,7 @@ use queue_messages::Lifetime;
 use queue_messages::MaxRetransmissions;
 use queue_messages::Message;
 use queue_sending::Produced;
-use queue_streams::Call;
+use queue_streams::answers::is_accepted;
 use queue_words::QUEUE_WORDS;
 use types::StreamId;
 
@@ -24,15 +24,6 @@ fn plain_message(stream: u16) -> Message
         lifetime: Lifetime::Unlimited,
         max_retransmissions: MaxRetransmissions::Unlimited,
         lifecycle_id: 0,
-    }
-}
-
-fn is_accepted(c: Call) -> bool
-    ensures { λ r. ⌜ r ≡ isAccepted c ⌝ }
-{
-    match c {
-        Call::Accepted(_) => true,
-        Call::Refused(_) => false,
     }
 }
 

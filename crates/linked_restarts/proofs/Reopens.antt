@@ -26,6 +26,7 @@ use Rattle.queue_streams.specs.Settings.{called}
 use Rattle.queue_streams.specs.Waiting.{rescheduled}
 use Rattle.queue_streams.specs.Restart.{opened, reopenedIn, reopenedAt, reopenedAll, reopen}
 use Rattle.queue_streams.specs.declared.answers.Call.the-variants.{Accepted}
+use Rattle.queue_streams.proofs.Commits.{opened-fits}
 use Rattle.queue_state.specs.Chains.{each}
 use Rattle.queue_state.specs.Model.{itemIn, pauseOf, streamOf, rowAt, streamIn, streamsIn, model, optionsOf}
 use Rattle.queue_state.specs.Good.{Shape, Good}
@@ -51,10 +52,6 @@ opened-last false s = refl
 opened-priority : (z : Bool) (s : OutgoingStream) → (opened z s) .priority ≡ s .priority
 opened-priority true s = refl
 opened-priority false s = refl
-
-opened-fits : (z : Bool) (s : OutgoingStream) → FitsStream s → FitsStream (opened z s)
-opened-fits true s f = record { priority-fits = f .priority-fits; pause-state-fits = omega arith; ssn-fits = omega arith; unordered-mid-fits = omega arith; ordered-mid-fits = omega arith }
-opened-fits false s f = record { priority-fits = f .priority-fits; pause-state-fits = omega arith; ssn-fits = f .ssn-fits; unordered-mid-fits = f .unordered-mid-fits; ordered-mid-fits = f .ordered-mid-fits }
 
 opened-is : (z : Bool) (id : ℕ) (s : OutgoingStream) (is : List plain.Item) → streamOf id (opened z s) is ≡ reset.opened z (streamOf id s is)
 unfolding reset.opened pauseOf

@@ -4,6 +4,7 @@ pub mod Sums
 pub mod Laws
 pub mod Moves
 pub mod Parts
+pub mod Blocks
 pub mod Choice
 pub mod Tests
 pub mod Together

@@ -4,6 +4,8 @@
 // used, and where the used part ends. A new payload goes to the end of the used part. Where the end has no room and the free
 // bytes suffice, the payloads are first moved together, in the order of their places. Every public function is total: words
 // that no queue has get the answer 16, and nothing is changed.
+mod copying;
+
 ghost use mathlib.Core.Path.{_≡_};
 ghost use mathlib.Core.List.{_++_};
 ghost use Prim.Native.Nat.{_+_, _<_, _≤_};
@@ -13,6 +15,7 @@ ghost use Rattle.payload_store.specs.Moving.{choose, least, moved, pack,
 ghost use Rattle.payload_store.specs.Putting.{rowFits, allFit, putCode, outcome, written, placed, putPayload};
 ghost use Rattle.payload_store.specs.Reading.{readCode, readPart};
 ghost use Rattle.payload_store.specs.Dropping.{dropCode, dropPayload};
+use copying::copy;
 use queue_words::QUEUE_WORDS;
 use queue_words::header::load_totals;
 use queue_words::header::store_totals;
@@ -196,7 +199,7 @@ fn write_part(store: &mut [u8], at: usize, src: &[u8])
     ensures { λ _. ⌜ now (store .exit) ≡ written (now (store .entry)) at (now (src .entry)) ⌝ }
 {
     let end = at + src.len();
-    bytes::copy(src, &mut store[at..end]);
+    copy(src, &mut store[at..end]);
 }
 
 fn place_payload(
@@ -242,7 +245,7 @@ fn read_part(dst: &mut [u8], store: &[u8], at: usize, n: usize)
     ensures { λ _. ⌜ now (dst .exit) ≡ take n (drop at (now (store .entry))) ++ drop n (now (dst .entry)) ⌝ }
 {
     let end = at + n;
-    bytes::copy(&store[at..end], dst);
+    copy(&store[at..end], dst);
 }
 
 // May n bytes from off on of row i's payload be copied to room bytes: 0, else 16. Reads only.

@@ -2,18 +2,22 @@
 use mathlib.Core.Path.{_≡_, refl, sym, ap, ap₂, _∙_, subst}
 use mathlib.Core.Bool.{Bool, true, false}
 use mathlib.Core.List.{List}
-use Prim.Native.Nat.{ℕ, suc, _+_, _-_, _≤_, _<_}
+use Prim.Native.Nat.{ℕ, zero, suc, _+_, _-_, _≤_, _<_}
 use native.Mathlib.Nat.{sub-zero}
 use native.Mathlib.Omega.{arith}
 use native.Mathlib.Numerals.{add-one}
 use borrow.Author.Tests.{lt-ltb, le-ltb, ltb-false}
+use Rattle.queue_model.proofs.Tests.{holds}
 use lib.Dec.{ltb}
 use lib.ListN.{replicate, set}
 use Rattle.queue_words.specs.Flags.{pick}
+use Rattle.queue_words.specs.Header.{totalsAt}
 use Rattle.queue_words.specs.Known.{knownAt}
+use Rattle.queue_words.specs.declared.header.Totals.{Totals}
 use Rattle.queue_words.specs.declared.known.Known.{Known}
+use Rattle.queue_streams.specs.Answers.{isAccepted}
 use Rattle.queue_streams.specs.declared.answers.Call.the-variants.{Accepted}
-use Rattle.queue_restarts.specs.Ready.{placesFit, allPlacesFit, isPaused, oneMore, collected, marked, markedAll}
+use Rattle.queue_restarts.specs.Ready.{placesFit, allPlacesFit, isPaused, oneMore, collected, refusedReady, collectedOr16, marked, markedAll, readied, ready}
 use Rattle.queue_restarts.specs.Reset.{sumKnown, sumAll, resetAt, resetAll}
 use Rattle.queue_restarts.specs.declared.ready.ReadyStreams.{ReadyStreams}
 use Rattle.queue_restarts.specs.declared.whole.Sum.{Sum}
@@ -45,16 +49,12 @@ module _ (ws : List ℕ) (n : ℕ) where
         sym (inv ∙ rw s)
 
 -- Where all places fit, the count is one of a table.
-abbrev Is-true : Bool → Type 0
-Is-true true = Unit {0}
-Is-true false = ⊥
-
 pub all-fit : (ws : List ℕ) (n : ℕ) (r : Bool) → r ≡ allPlacesFit ws n → r ≡ true → n ≤ 256
 unfolding allPlacesFit
 all-fit ws n r er h = by (ltb 256 n) refl (sym er ∙ h)
   where
     by : (b : Bool) → ltb 256 n ≡ b → pick b false (placesFit ws 0 n) ≡ true → n ≤ 256
-    by true t e = absurd (subst Is-true (sym e) tt)
+    by true t e = absurd (holds false e)
     by false t e = ltb-false 256 n t
 
 -- ------------------------------------------------------------------ the ready ids
@@ -88,6 +88,38 @@ module _ (ws : List ℕ) where
       let q : i ≡ n = omega arith in
       e ∙ ap (collected ws) q
 
+-- The walk ends at a place outside its table, or past the last stream.
+module _ (ws : List ℕ) (n : ℕ) where
+  pub or16-not : false ≡ placesFit ws 0 n → refusedReady ≡ collectedOr16 ws n
+  unfolding collectedOr16
+  or16-not e = rw (← e)
+
+  pub or16-end : (r : ReadyStreams) → true ≡ placesFit ws 0 n → r ≡ collected ws n → r ≡ collectedOr16 ws n
+  unfolding collectedOr16
+  or16-end r e er = er ∙ rw (← e)
+
+-- Its answer is accepted exactly where the places fit.
+module _ (ws : List ℕ) where
+  collected-accepted : (n : ℕ) → isAccepted (collected ws n .answer) ≡ true
+  unfolding collected
+  collected-accepted zero = refl
+  collected-accepted (suc i) = by (isPaused ws (knownAt ws i .place)) (collected-accepted i)
+    where
+      by : (b : Bool) → isAccepted (collected ws i .answer) ≡ true → isAccepted (pick b (oneMore (collected ws i) (knownAt ws i .id .0)) (collected ws i) .answer) ≡ true
+      by true e = refl
+      by false e = e
+
+  pub or16-accepted : (n : ℕ) → isAccepted (collectedOr16 ws n .answer) ≡ placesFit ws 0 n
+  unfolding collectedOr16
+  or16-accepted n = by (placesFit ws 0 n)
+    where
+      by : (b : Bool) → isAccepted (pick b (collected ws n) refusedReady .answer) ≡ b
+      by true = collected-accepted n
+      by false = refl
+
+-- ------------------------------------------------------------------ the marking
+
+module _ (ws : List ℕ) where
   pub marked-start : ws ≡ markedAll ws 0
   unfolding markedAll
   marked-start = refl
@@ -100,6 +132,25 @@ module _ (ws : List ℕ) where
   marked-end n i us e l g =
       let q : i ≡ n = omega arith in
       e ∙ ap (markedAll ws) q
+
+-- ------------------------------------------------------------------ the call for the ready ids
+
+module _ (ws : List ℕ) (t : Totals) (et : t ≡ totalsAt ws) where
+  pub ready-many : (r : ReadyStreams) → 256 < t .known → r ≡ refusedReady → readied r ws ≡ ready ws
+  unfolding ready allPlacesFit
+  ready-many r g e = rw (← et, lt-ltb _ _ g, e)
+
+  module _ (g : t .known ≤ 256) (r : ReadyStreams) (er : r ≡ collectedOr16 ws (t .known)) (a : Bool) (ea : a ≡ isAccepted (r .answer)) where
+    fits : (b : Bool) → a ≡ b → placesFit ws 0 (t .known) ≡ b
+    fits b e = sym (or16-accepted ws (t .known)) ∙ ap (λ (x : ReadyStreams). isAccepted (x .answer)) (sym er) ∙ sym ea ∙ e
+
+    pub ready-all : (us : List ℕ) → a ≡ true → us ≡ markedAll ws (t .known) → readied r us ≡ ready ws
+    unfolding ready allPlacesFit collectedOr16
+    ready-all us e eu = rw (er, eu, ← et, le-ltb _ _ g, fits true e)
+
+    pub ready-not : a ≡ false → readied r ws ≡ ready ws
+    unfolding ready allPlacesFit collectedOr16
+    ready-not e = rw (er, ← et, le-ltb _ _ g, fits false e)
 
 -- ------------------------------------------------------------------ the whole-queue reset
 

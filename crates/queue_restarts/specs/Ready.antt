@@ -23,6 +23,10 @@ allPlacesFit ws n = pick (ltb 256 n) false (placesFit ws 0 n)
 unfoldable pub isPaused : List ℕ → ℕ → Bool
 isPaused ws place = pick (ltb 255 place) false (eqb (streamAt ws place .«pause_state») 2)
 
+-- 16, and no id.
+abbrev pub refusedReady : ReadyStreams
+refusedReady = record { answer = Refused 16; count = 0; ids = replicate 256 0 }
+
 -- "Ready ids, at most 256, come by value with their count in ascending order": the known streams stand in the order of their ids.
 abbrev pub noneReady : ReadyStreams
 noneReady = record { answer = Accepted 0; count = 0; ids = replicate 256 0 }
@@ -34,6 +38,10 @@ oneMore r id = record { answer = Accepted 0; count = r .count + 1; ids = set (r 
 unfoldable pub collected : List ℕ → ℕ → ReadyStreams
 collected ws zero = noneReady
 collected ws (suc i) = pick (isPaused ws (knownAt ws i .place)) (oneMore (collected ws i) (knownAt ws i .id .0)) (collected ws i)
+
+-- The paused ones, or 16 where the place of one of the n streams lies outside its table.
+unfoldable pub collectedOr16 : List ℕ → ℕ → ReadyStreams
+collectedOr16 ws n = pick (placesFit ws 0 n) (collected ws n) refusedReady
 
 abbrev pub withState : OutgoingStream → ℕ → OutgoingStream
 withState s state = record {
@@ -65,9 +73,6 @@ pub record Readied : Type 0 where
 
 abbrev pub readied : ReadyStreams → List ℕ → Readied
 readied r ws = record { answer = r; next = ws }
-
-abbrev pub refusedReady : ReadyStreams
-refusedReady = record { answer = Refused 16; count = 0; ids = replicate 256 0 }
 
 -- 16 where a place lies outside its table; nothing is then changed.
 unfoldable pub ready : List ℕ → Readied

@@ -1,8 +1,9 @@
 // The ids that are ready to be reset.
 ghost use mathlib.Core.Path.{_≡_};
 ghost use Prim.Native.Nat.{_≤_};
-ghost use Rattle.queue_restarts.specs.Ready.{placesFit, isPaused, collected, marked, markedAll, allPlacesFit, readied, ready};
+ghost use Rattle.queue_restarts.specs.Ready.{refusedReady, isPaused, collectedOr16, marked, markedAll, readied, ready};
 use queue_streams::answers::Call;
+use queue_streams::answers::is_accepted;
 use queue_words::QUEUE_WORDS;
 use queue_words::header::load_totals;
 use queue_words::known::load_known;
@@ -16,20 +17,15 @@ pub struct ReadyStreams {
     pub ids: [u16; 256],
 }
 
-// Whether the places of the first n known streams lie in their table.
-fn places_fit(queue: &[u64; QUEUE_WORDS], n: usize) -> bool
-    requires { ⌜ n ≤ 256 ⌝ }
-    ensures { λ r. ⌜ r ≡ placesFit (now (queue .entry)) 0 n ⌝ }
+// 16, and no id.
+fn refused_ready() -> ReadyStreams
+    ensures { λ r. ⌜ r ≡ refusedReady ⌝ }
 {
-    let mut i = 0;
-    while i < n {
-        let k = load_known(queue, i);
-        if k.place > 255 {
-            return false;
-        }
-        i += 1;
+    ReadyStreams {
+        answer: Call::Refused(16),
+        count: 0,
+        ids: [0u16; 256],
     }
-    true
 }
 
 fn is_paused(queue: &[u64; QUEUE_WORDS], place: u64) -> bool
@@ -42,16 +38,19 @@ fn is_paused(queue: &[u64; QUEUE_WORDS], place: u64) -> bool
     s.pause_state == 2
 }
 
-// The ids of the paused ones among the first n known streams.
+// The ids of the paused ones among the first n known streams; 16 at the first of these whose place lies outside its table.
 fn collect(queue: &[u64; QUEUE_WORDS], n: usize) -> ReadyStreams
     requires { ⌜ n ≤ 256 ⌝ }
-    ensures { λ r. ⌜ r ≡ collected (now (queue .entry)) n ⌝ }
+    ensures { λ r. ⌜ r ≡ collectedOr16 (now (queue .entry)) n ⌝ }
 {
     let mut ids = [0u16; 256];
     let mut count = 0;
     let mut i = 0;
     while i < n {
         let k = load_known(queue, i);
+        if k.place > 255 {
+            return refused_ready();
+        }
         let paused = is_paused(queue, k.place);
         if paused {
             ids[count] = k.id.0;
@@ -92,29 +91,19 @@ fn mark_all(queue: &mut [u64; QUEUE_WORDS], n: usize)
     }
 }
 
-fn all_places_fit(queue: &[u64; QUEUE_WORDS], known: u64) -> bool
-    ensures { λ r. ⌜ r ≡ allPlacesFit (now (queue .entry)) known ⌝ }
-{
-    if known > 256 {
-        return false;
-    }
-    places_fit(queue, known as usize)
-}
-
-// Ready ids.
+// Ready ids. Nothing is written before every place is known to lie in its table.
 pub fn get_streams_ready_to_reset(queue: &mut [u64; QUEUE_WORDS]) -> ReadyStreams
     ensures { λ r. ⌜ readied r (now (queue .exit)) ≡ ready (now (queue .entry)) ⌝ }
 {
     let t = load_totals(&*queue);
-    let fits = all_places_fit(&*queue, t.known);
-    if fits {
-        let r = collect(&*queue, t.known as usize);
+    if t.known > 256 {
+        return refused_ready();
+    }
+    let r = collect(&*queue, t.known as usize);
+    let answer = r.answer;
+    let accepted = is_accepted(answer);
+    if accepted {
         mark_all(queue, t.known as usize);
-        return r;
     }
-    ReadyStreams {
-        answer: Call::Refused(16),
-        count: 0,
-        ids: [0u16; 256],
-    }
+    r
 }

@@ -2,3 +2,4 @@
 pub mod Exits
 pub mod Waits
 pub mod Restarts
+pub mod Commits

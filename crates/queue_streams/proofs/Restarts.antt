@@ -7,7 +7,7 @@ use native.Mathlib.Omega.{arith}
 use native.Mathlib.Numerals.{add-one}
 use lib.Dec.{ltb}
 use borrow.Author.Tests.{lt-ltb, le-ltb}
-use Rattle.queue_model.proofs.Tests.{Tri, less, same, more, tri}
+use Rattle.queue_model.proofs.Tests.{holds, Tri, less, same, more, tri}
 use Rattle.queue_words.specs.Flags.{pick}
 use Rattle.queue_words.specs.Header.{totalsAt, putTotals}
 use Rattle.queue_words.specs.Known.{knownAt, knownCount}
@@ -21,16 +21,12 @@ use Rattle.queue_streams.specs.Restart.{opened, reopenedIn, reopenedAt, 
 use Rattle.queue_streams.specs.declared.answers.Call.the-variants.{Accepted, Refused}
 
 -- Where there is room, the count is one of a table.
-abbrev Is-true : Bool → Type 0
-Is-true true = Unit {0}
-Is-true false = ⊥
-
 pub room-fits : (ws : List ℕ) (all r : Bool) (t : Totals) → r ≡ roomFor ws all → r ≡ true → t ≡ totalsAt ws → t .known ≤ 256
 unfolding roomFor
 room-fits ws all r t er h et = elim (tri (t .known) 257) [
   | less l ↦ omega arith
-  | same e ↦ absurd (subst Is-true (sym (h-false (omega arith))) tt)
-  | more l ↦ absurd (subst Is-true (sym (h-false (omega arith))) tt)
+  | same e ↦ absurd (holds false (h-false (omega arith)))
+  | more l ↦ absurd (holds false (h-false (omega arith)))
 ]
   where
     h-false : 256 < t .known → false ≡ true

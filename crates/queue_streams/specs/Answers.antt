@@ -1,5 +1,6 @@
 -- "If an answer is an enum, a definition states this paper's number [..] for each case of the enum": 0 where a call is accepted or a question answered, else the refusal's number of document 01. Assumes nothing.
 use Prim.Native.Nat.{ℕ}
+use mathlib.Core.Bool.{Bool, true, false}
 use Rattle.queue_streams.specs.declared.answers.Call.{Call}
 use Rattle.queue_streams.specs.declared.answers.Call.the-variants as call
 use Rattle.queue_streams.specs.declared.answers.Flag.{Flag}
@@ -10,6 +11,11 @@ use Rattle.queue_streams.specs.declared.answers.Number.the-variants as n
 abbrev pub callNumber : Call → ℕ
 callNumber (call.Accepted k) = 0
 callNumber (call.Refused n) = n
+
+-- Whether a call was accepted.
+abbrev pub isAccepted : Call → Bool
+isAccepted (call.Accepted k) = true
+isAccepted (call.Refused n) = false
 
 abbrev pub numberNumber : Number → ℕ
 numberNumber (number.Value v) = 0

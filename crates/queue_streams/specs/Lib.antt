@@ -5,3 +5,4 @@ pub mod Known
 pub mod Settings
 pub mod Waiting
 pub mod Restart
+pub mod Commit

@@ -6,6 +6,8 @@ ghost use Rattle.queue_streams.specs.Settings.{called};
 ghost use Rattle.queue_streams.specs.Restart.{opened, reopenedIn, reopenedAt, reopenedAll, reopen, switchedAt, switchedAll, alike, setInterleaving};
 ghost use Rattle.queue_words.specs.Known.{knownAt};
 use crate::answers::Call;
+use crate::commit::commit_all;
+use crate::commit::nothing_starts;
 use crate::waiting::reschedule;
 use crate::waiting::room_for;
 use queue_words::QUEUE_WORDS;
@@ -16,10 +18,11 @@ use queue_words::known::load_known;
 use queue_words::streams::OutgoingStream;
 use queue_words::streams::load_stream;
 use queue_words::streams::store_stream;
+use queue_words::whole;
 use types::Mid;
 use types::Ssn;
 
-fn open_stream(zeroed: bool, s: OutgoingStream) -> OutgoingStream
+pub(crate) fn open_stream(zeroed: bool, s: OutgoingStream) -> OutgoingStream
     ensures { λ r. ⌜ r ≡ opened zeroed s ⌝ }
 {
     if zeroed {
@@ -102,6 +105,13 @@ fn reopen_streams(queue: &mut [u64; QUEUE_WORDS], zeroed: bool) -> Call
 pub fn commit_reset_streams(queue: &mut [u64; QUEUE_WORDS]) -> Call
     ensures { λ r. ⌜ called r (now (queue .exit)) ≡ reopen true (now (queue .entry)) ⌝ }
 {
+    whole(&*queue);
+    let quiet = nothing_starts(&*queue);
+    if quiet {
+        let t = load_totals(&*queue);
+        commit_all(queue, t.known as usize);
+        return Call::Accepted(0);
+    }
     reopen_streams(queue, true)
 }
 

@@ -1,7 +1,7 @@
 // The streams that the scheduler lists: 256 rows of 5 words from word 19488 on.
 ghost use mathlib.Core.Path.{_≡_};
 ghost use Prim.Native.Nat.{_<_};
-ghost use Rattle.queue_words.specs.Active.{activeOut, activeIn, activeAt, putActive, FitsActive};
+ghost use Rattle.queue_words.specs.Active.{activeOut, activeIn, activeAt, putActive};
 ghost use Rattle.queue_words.specs.Active.{parametersOf, parametersWord};
 use crate::QUEUE_WORDS;
 use types::StreamId;
@@ -56,10 +56,6 @@ pub fn store_active(queue: &mut [u64; QUEUE_WORDS], i: usize, a: ActiveStreamInf
 {
     active_in(queue, i, a)
 }
-
-pub fn active_fits(a: ActiveStreamInfo)
-    ensures { λ _. ⌜ FitsActive a ⌝ }
-{}
 
 // How a stream's cost is counted: without interleaving each fragment costs 1, with it bytes by the stream's weight.
 pub enum SchedulingParameters {

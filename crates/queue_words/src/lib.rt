@@ -23,7 +23,6 @@ pub mod streams;
 
 pub use active::ActiveStreamInfo;
 pub use active::SchedulingParameters;
-pub use active::active_fits;
 pub use active::load_active;
 pub use active::parameters_of;
 pub use active::parameters_word;

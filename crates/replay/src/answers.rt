@@ -43,7 +43,6 @@ use crate::state::bit;
 use crate::state::low8;
 use crate::state::low16;
 use crate::state::wide16;
-use send_queue::Call;
 use send_queue::Data;
 use send_queue::DataToSend;
 use send_queue::Expiry;

@@ -6,6 +6,7 @@ use Prim.Native.Nat.{ℕ, zero, suc, _+_, _-_, _≤_, _<_}
 use native.Mathlib.Nat.{add-zero}
 use native.Mathlib.Omega.{arith}
 use borrow.Author.Tests.{ltb-true, ltb-false, lt-ltb, le-ltb, eqb-true}
+use Rattle.queue_model.proofs.Tests.{holds}
 use lib.Dec.{ltb, eqb}
 use lib.ListN.{length}
 use Rattle.queue_words.specs.Flags.{pick}
@@ -25,12 +26,8 @@ pub pick-by : {A : Type 0} (G : A → Type 0) (b : Bool) (x y : A) → (b ≡ tr
 pick-by G true x y f g = f refl
 pick-by G false x y f g = g refl
 
-abbrev Is-true : Bool → Type 0
-Is-true true = Unit {0}
-Is-true false = ⊥
-
 pub never : {G : Type 0} → false ≡ true → G
-never e = absurd (subst Is-true (sym e) tt)
+never e = absurd (holds false e)
 
 picked : (b x : Bool) → pick b false x ≡ true → (b ≡ false) × (x ≡ true)
 picked false x e = (refl, e)

@@ -7,7 +7,7 @@ use Prim.Native.Nat.{ℕ, zero, suc, _+_, _-_, _≤_, _<_}
 use native.Mathlib.Omega.{arith}
 use lib.Dec.{eqb, ltb, leb}
 use Rattle.queue_model.specs.Logic.{if_then_else_}
-use Rattle.queue_model.proofs.Tests.{Tri, ltb-true, ltb-false, leb-true, eqb-true, eqb-false, less, same, more, tri}
+use Rattle.queue_model.proofs.Tests.{holds, Tri, ltb-true, ltb-false, leb-true, eqb-true, eqb-false, less, same, more, tri}
 use Rattle.queue_words.specs.Active.{activeAt, putActive, parametersWord}
 use Rattle.queue_words.specs.Header.{optionsAt, totalsAt, schedulerAt, putScheduler}
 use Rattle.queue_words.specs.Items.{itemAt}
@@ -30,12 +30,8 @@ use Rattle.stream_scheduler.proofs.Handing.{accept-link}
 pub record Kept (ws : List ℕ) (r : Outcome) : Type 0 where
   pub if-refused : r .done ≡ false → r .next ≡ ws
 
-abbrev Is-true : Bool → Type 0
-Is-true true = Unit {0}
-Is-true false = ⊥
-
 kept-done : (ws us : List ℕ) → Kept ws (outcome true us)
-kept-done ws us = record { if-refused = λ e. absurd (subst Is-true e tt) }
+kept-done ws us = record { if-refused = λ e. absurd (holds false (sym e)) }
 
 kept-if : (ws : List ℕ) (b : Bool) (x y : Outcome) → Kept ws x → Kept ws y → Kept ws (if b then x else y)
 kept-if ws true x y k l = k

@@ -23,7 +23,7 @@ loop-holds : tie.Need-loop-holds Inv-loop μ-loop Inv-loop2 μ-loop2
 loop-holds c = (omega arith, least-first _ _ _ (c .before .load-active .ensures) (c .best-of .ensures))
 
 loop-again : tie.Need-loop-again Inv-loop μ-loop Inv-loop2 μ-loop2
-loop-again c = (omega arith, least-part _ _ 4 _ _ (c .before .before .loop .inv .1) (c .least-of-four .ensures))
+loop-again c = (omega arith, least-part _ _ 4 _ _ (c .before .before .loop .inv .1) (c .least-past .ensures))
 
 loop2-holds : tie.Need-loop2-holds Inv-loop μ-loop Inv-loop2 μ-loop2
 loop2-holds c = c .before .loop .inv
