@@ -1,6 +1,6 @@
-/* Measures the stack of the deepest call: 1,024 expired messages that one dsq_produce passes over, calling itself for each. Then that of adding
- * and of sending the largest payload, which is copied through a block that the compiler must leave out. Each call runs on a thread whose stack
- * was painted before; what is no longer painted was used. */
+/* Measures the stack of the deepest call: 1,024 expired messages that one dsq_produce passes over, calling itself for each; and of one expired
+ * message. Then that of adding and of sending the largest payload, which is copied through a block that the compiler must leave out. Each
+ * call runs on a thread whose stack was painted before; what is no longer painted was used. */
 #define _POSIX_C_SOURCE 200809L
 #include "send_queue.h"
 
@@ -13,8 +13,9 @@
 #define STORE DSQ_MAX_STORE
 #define PAINT 0xa5
 #define SHALLOW 8192
+#define DEEP (512u << 10)
 
-enum call { NOTHING, PASS_OVER, ADD, SEND };
+enum call { NOTHING, PASS_ALL, PASS_ONE, ADD, SEND };
 
 static uint64_t queue[DSQ_QUEUE_WORDS], events[DSQ_EVENT_WORDS], out[DSQ_OUT_WORDS];
 static uint8_t store[STORE], buffer[DSQ_MAX_PAYLOAD], payload[DSQ_MAX_PAYLOAD];
@@ -32,8 +33,10 @@ static int produce(uint64_t time, uint64_t value, uint64_t count) {
 static void *run(void *unused) {
     int done = 1;
     (void)unused;
-    if (call == PASS_OVER)
+    if (call == PASS_ALL)
         done = produce(10000000, 0, DSQ_MAX_EVENTS);
+    if (call == PASS_ONE)
+        done = produce(10000000, 0, 4);
     if (call == ADD)
         done = add(DSQ_MAX_PAYLOAD, 0, 0, 0);
     if (call == SEND)
@@ -68,7 +71,7 @@ static size_t used(enum call which) {
 }
 
 int main(void) {
-    size_t without, passing, adding, sending;
+    size_t without, all, one, adding, sending;
     unsigned i;
     if (dsq_create(queue, store, STORE, 1200, 256, 0, 0, 1) != 0)
         return 1;
@@ -76,11 +79,18 @@ int main(void) {
         if (!add(100, (uint16_t)(i % 256), 1, i + 1))
             return 1;
     without = used(NOTHING);
-    passing = used(PASS_OVER) - without;
+    all = used(PASS_ALL) - without;
+    if (!add(100, 0, 1, 1))
+        return 1;
+    one = used(PASS_ONE) - without;
     adding = used(ADD) - without;
     sending = used(SEND) - without;
-    printf("stack: %lu KB for 1,024 expired messages in one call\n", (unsigned long)((passing + 1023) / 1024));
+    printf("stack: %lu KB for 1,024 expired messages in one call, %lu KB for one\n", (unsigned long)((all + 1023) / 1024), (unsigned long)((one + 1023) / 1024));
     printf("stack: %lu bytes to add 262,144 bytes, %lu to send them\n", (unsigned long)adding, (unsigned long)sending);
+    if (all > DEEP) {
+        fprintf(stderr, "stack: more than the header promises\n");
+        return 1;
+    }
     if (adding > SHALLOW || sending > SHALLOW) {
         fprintf(stderr, "stack: the block is on the stack\n");
         return 1;

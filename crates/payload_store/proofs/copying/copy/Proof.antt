@@ -32,7 +32,7 @@ loop-less c = omega arith
 
 loop-again : tie.Need-loop-again Inv-loop μ-loop
 loop-again c =
-    let r : (c .before .before .before .before .before .loop .i) + 65536 ≤ length (c .before .before .before .before .before .before .before .before .args .src .now) = omega arith in
+    let r : (c .before .before .before .before .before .loop .i) + 262144 ≤ length (c .before .before .before .before .before .before .before .before .args .src .now) = omega arith in
     (r, search needs, block-on _ _ _ _ _ _ r (c .before .before .before .before .before .loop .inv .2) (c .before .before .copy-some .ensures))
 
 sub-copy-some : tie.Need-sub-copy-some Inv-loop μ-loop
