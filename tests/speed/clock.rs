@@ -21,6 +21,11 @@ impl Lap {
         self.time += start.elapsed();
         self.calls += calls;
     }
+
+    /// The time of both, for each call of the first.
+    pub fn with(&self, other: &Lap) -> Lap {
+        Lap { time: self.time + other.time, calls: self.calls }
+    }
 }
 
 /// A round of calls on one queue, which times its kinds of calls.

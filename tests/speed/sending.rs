@@ -25,7 +25,7 @@ pub struct Load {
 macro_rules! round {
     ($queue:expr, $load:expr, $bytes:expr, $timed:expr) => {{
         let mut place = 0;
-        move |laps: &mut [Lap; 2]| {
+        move |laps: &mut [Lap; 3]| {
             let mut buffer = [0; SIZE];
             laps[0].run(|| {
                 for i in 0..$load.messages {
@@ -42,13 +42,14 @@ macro_rules! round {
                 }
                 fragments
             });
+            laps[2] = laps[0].with(&laps[1]);
             while $queue.produce(&mut buffer) {}
         }
     }};
 }
 
-/// Times of add and produce; of the fragments of a round at most so many are timed.
-fn measure(load: &Load, timed: u64) -> [Times; 2] {
+/// Times of add, of produce, and of a message in all; of the fragments of a round at most so many are timed.
+fn measure(load: &Load, timed: u64) -> [Times; 3] {
     let bytes = &payload(load.payload + PLACES);
     let (mut ours, mut theirs) = (Ours::new(load.interleaved), Theirs::new(load.interleaved));
     best(&mut round!(ours, load, bytes, timed), &mut round!(theirs, load, bytes, timed))
@@ -71,7 +72,8 @@ pub fn profiles() {
         ),
     ];
     for (name, load) in &profiles {
-        let [add, produce] = measure(load, u64::MAX);
+        let [add, produce, message] = measure(load, u64::MAX);
+        row(&format!("{name}: a message, buffer to buffer"), message);
         row(&format!("{name}: produce"), produce);
         row(&format!("{name}: add"), add);
     }
@@ -84,7 +86,7 @@ pub fn growth() {
     for (how, load) in [("messages of 1,200 bytes", whole), ("interleaved, messages of 2,400 bytes", halves)] {
         for streams in [1, 4, 16, 64, 256] {
             let timed = (load.messages - streams) * load.payload / SIZE;
-            let [_, produce] = measure(&Load { streams, ..load }, timed as u64);
+            let [_, produce, _] = measure(&Load { streams, ..load }, timed as u64);
             row(&format!("6: {how}, {streams} waiting: produce"), produce);
         }
     }
