@@ -1,10 +1,11 @@
 /* Hard use of the C interface: random calls on a queue, on words that somebody has damaged, and with images at random. Meant to run
- * under valgrind (scripts/hard): every buffer is a block of exactly the length that is passed.
+ * under valgrind (scripts/hard): every buffer that is lent ends where its block ends.
  *
  * usage: hard [CALLS] [SEED]
  *
- * Each answer must be one of those that the header lists behind the function; at one refusal in eight all that was lent is compared with
- * what it was before the call. */
+ * It ends when so many calls were on damaged words or with an image; those on the words of a queue come on top. Each answer must be one of
+ * those that the header lists behind the function; at one refusal in eight, and at every refused restoring, all that was lent is compared
+ * with what it was before the call. */
 #include "send_queue.h"
 
 #include <stdio.h>
@@ -55,8 +56,9 @@ struct lent {
 
 static struct lent now, was;
 
-/* The length of the store with which the queue was created. */
+/* The length of the store with which the queue was created, and whether somebody has damaged its words since. */
 static size_t store_length = STORE;
+static int damaged;
 
 static size_t a_store(void) {
     return below(32) ? store_length : (size_t)below(STORE);
@@ -90,6 +92,11 @@ static int changed(void) {
         || memcmp(was.ids, now.ids, DSQ_MAX_STREAMS * sizeof(uint16_t));
 }
 
+/* A store of this length, at the end of its block: what is read or written past it is not the queue's. */
+static uint8_t *store_of(size_t length) {
+    return now.store + (STORE - length);
+}
+
 static size_t odd_length(size_t right) {
     return below(16) ? right : (size_t)below(right + 1);
 }
@@ -105,7 +112,8 @@ static uint16_t a_stream(void) {
 static uint8_t add(void) {
     size_t length = below(16) ? 1 + (size_t)below(900) : (size_t)below(2) * (DSQ_MAX_PAYLOAD + 1);
     uint8_t *payload = block(length);
-    uint8_t r = dsq_add(now.queue, now.store, a_store(), payload, length, a_time(), a_stream(), (uint32_t)next(), (uint8_t)below(3), (uint8_t)below(3),
+    size_t store = a_store();
+    uint8_t r = dsq_add(now.queue, store_of(store), store, payload, length, a_time(), a_stream(), (uint32_t)next(), (uint8_t)below(3), (uint8_t)below(3),
         below(8) ? below(20000000) : odd_number(), (uint8_t)below(2), (uint16_t)next(), below(3) ? 0 : next());
     free(payload);
     return r;
@@ -115,49 +123,56 @@ static uint8_t produce(void) {
     /* a buffer of exactly the length that is passed */
     size_t length = odd_length(BUFFER);
     uint8_t *buffer = now.buffer + (BUFFER - length);
-    return dsq_produce(now.queue, now.store, a_store(), now.events, odd_length(DSQ_EVENT_WORDS), buffer, length, now.out, a_time(), below(8) ? 1 + below(BUFFER) : odd_number());
+    size_t store = a_store(), places = odd_length(DSQ_EVENT_WORDS);
+    return dsq_produce(now.queue, store_of(store), store, now.events + (DSQ_EVENT_WORDS - places), places, buffer, length, now.out, a_time(), below(8) ? 1 + below(BUFFER) : odd_number());
 }
 
 /* An image: bytes at random, or one that was saved with some bytes changed or cut off, or whole. */
 static uint8_t restore(void) {
     static uint8_t saved[IMAGE];
-    size_t length = (size_t)below(200), i;
+    size_t length = (size_t)below(200), store, i;
     uint8_t *image, r;
-    if (below(8)) {
+    int any = below(8) == 0;
+    if (!any) {
         uint64_t out[DSQ_OUT_WORDS] = {0};
-        if (dsq_save(now.queue, now.store, store_length, saved, IMAGE, out, 1) == 0)
+        if (dsq_save(now.queue, store_of(store_length), store_length, saved, IMAGE, out, 1) == 0)
             length = (size_t)out[DSQ_OUT_VALUE];
+        if (below(4) == 0)
+            length = (size_t)below(length + 1);
     }
     image = block(length);
     for (i = 0; i < length; i++)
-        image[i] = saved[i];
-    if (below(2) && length > 0)
+        image[i] = any ? (uint8_t)next() : saved[i];
+    if (!any && below(2) && length > 0)
         for (i = 1 + (size_t)below(4); i > 0; i--)
             image[below(length)] = (uint8_t)next();
-    if (below(4) == 0)
-        length = (size_t)below(length + 1);
     if (below(4)) { /* into a new queue, sometimes with less room */
         store_length = below(4) ? STORE : 600;
-        dsq_create(now.queue, now.store, store_length, 1200, 256, 0, 0, 1);
-        if (below(4) == 0)
+        dsq_create(now.queue, store_of(store_length), store_length, 1200, 256, 0, 0, 1);
+        damaged = below(4) == 0;
+        if (damaged)
             now.queue[below(DSQ_QUEUE_WORDS)] = odd_number();
     }
     keep();
-    r = dsq_restore(now.queue, now.store, a_store(), image, length, a_time());
+    store = a_store();
+    r = dsq_restore(now.queue, store_of(store), store, image, length, a_time());
     free(image);
     return r;
 }
 
 static uint8_t save(void) {
     size_t length = odd_length(IMAGE);
-    return dsq_save(now.queue, now.store, a_store(), now.image + (IMAGE - length), length, now.out, a_time());
+    size_t store = a_store();
+    return dsq_save(now.queue, store_of(store), store, now.image + (IMAGE - length), length, now.out, a_time());
 }
 
 static uint8_t create(void) {
     size_t length = below(8) ? STORE : (size_t)below(STORE);
-    uint8_t r = dsq_create(now.queue, now.store, length, below(4) ? 1200 : odd_number(), below(2) ? 256 : (uint16_t)next(), odd_number(), odd_number(), (uint8_t)next());
-    if (r == 0)
+    uint8_t r = dsq_create(now.queue, store_of(length), length, below(4) ? 1200 : odd_number(), below(2) ? 256 : (uint16_t)next(), odd_number(), odd_number(), (uint8_t)next());
+    if (r == 0) {
         store_length = length;
+        damaged = 0;
+    }
     return r;
 }
 
@@ -192,22 +207,23 @@ static const uint32_t listed[KINDS] = {
 static uint8_t ask_plain(void) {
     if (dsq_is_empty(now.queue) != (dsq_total_buffered_amount(now.queue) == 0))
         return 99;
-    return dsq_get_handover_readiness(now.queue) % 2 ? 99 : 0;
+    return dsq_get_handover_readiness(now.queue) & ~UINT64_C(2) ? 99 : 0;
 }
 
 static uint8_t call(enum kind k) {
+    size_t places = odd_length(DSQ_EVENT_WORDS);
     switch (k) {
     case ADD: return add();
     case PRODUCE: return produce();
-    case DISCARD: return dsq_discard(now.queue, now.events, odd_length(DSQ_EVENT_WORDS), now.out, a_stream(), (uint32_t)(below(2) ? now.out[DSQ_OUT_MESSAGE_ID] : next()));
-    case CLOSE: return dsq_prepare_reset_stream(now.queue, now.events, odd_length(DSQ_EVENT_WORDS), now.out, a_stream());
+    case DISCARD: return dsq_discard(now.queue, now.events + (DSQ_EVENT_WORDS - places), places, now.out, a_stream(), (uint32_t)(below(2) ? now.out[DSQ_OUT_MESSAGE_ID] : next()));
+    case CLOSE: return dsq_prepare_reset_stream(now.queue, now.events + (DSQ_EVENT_WORDS - places), places, now.out, a_stream());
     case READY: return dsq_get_streams_ready_to_reset(now.queue, now.ids, now.out);
     case COMMIT: return dsq_commit_reset_streams(now.queue);
     case ROLLBACK: return dsq_rollback_reset_streams(now.queue);
     case RESET: return dsq_reset(now.queue);
     case SWITCH: return dsq_enable_message_interleaving(now.queue, (uint8_t)below(3));
     case PRIORITY: return dsq_set_priority(now.queue, a_stream(), (uint16_t)next());
-    case THRESHOLD: return dsq_set_buffered_amount_low_threshold(now.queue, now.events, odd_length(DSQ_EVENT_WORDS), now.out, a_stream(), odd_number());
+    case THRESHOLD: return dsq_set_buffered_amount_low_threshold(now.queue, now.events + (DSQ_EVENT_WORDS - places), places, now.out, a_stream(), odd_number());
     case ASK_PRIORITY: return dsq_get_priority(now.queue, now.out, a_stream());
     case ASK_AMOUNT: return dsq_buffered_amount(now.queue, now.out, a_stream());
     case ASK_THRESHOLD: return dsq_buffered_amount_low_threshold(now.queue, now.out, a_stream());
@@ -235,38 +251,49 @@ static void damage(void) {
 }
 
 int main(int argc, char **argv) {
-    long calls = argc > 1 ? atol(argv[1]) : 1000000, n, left = 0, damaged = 0, accepted = 0, refused[17] = {0};
+    long wanted = argc > 1 ? atol(argv[1]) : 1000000, n, calls, left = 0, on_damaged = 0, images = 0, accepted = 0, refused[17] = {0};
     uint64_t *good = block(QUEUE_BYTES);
+    size_t good_length = STORE;
+    int good_damaged = 0;
     if (argc > 2)
         seed = (uint64_t)atol(argv[2]) * 2 + 1;
     now = lend();
     was = lend();
     if (dsq_create(now.queue, now.store, STORE, 1200, 256, 100, 500, 1) != 0)
         return 1;
-    for (n = 0; n < calls; n++) {
+    for (calls = 0; on_damaged + images < wanted; calls++) {
         enum kind k = a_kind();
         int look = below(8) == 0;
         uint8_t r;
         if (left > 0) {
-            damaged++;
-            if (--left == 0) /* back to the words of a queue */
+            if (--left == 0) { /* back to the words of a queue */
                 memcpy(now.queue, good, QUEUE_BYTES);
+                store_length = good_length;
+                damaged = good_damaged;
+            }
         } else if (below(60) == 0) {
             memcpy(good, now.queue, QUEUE_BYTES);
+            good_length = store_length;
+            good_damaged = damaged;
             damage();
+            damaged = 1;
             left = 40;
         } else if (below(400) == 0) {
             k = CREATE;
         }
         if (look)
             keep();
+        if (k == RESTORE)
+            images++;
+        else if (damaged)
+            on_damaged++;
         r = call(k);
         if (r != 0 && (r > 16 || !(listed[k] >> r & 1))) {
-            printf("hard: call %ld of kind %d answers %u, which is not listed\n", n, (int)k, r);
+            printf("hard: call %ld of kind %d answers %u, which is not listed\n", calls, (int)k, r);
             return 1;
         }
         if (r != 0 && (look || k == RESTORE) && changed()) {
-            printf("hard: call %ld of kind %d is refused with %u, and something has changed\n", n, (int)k, r);
+            printf("hard: call %ld of kind %d is refused with %u, and something has changed\n", calls, (int)k, r);
             return 1;
         }
         if (r == 0)
@@ -274,7 +301,7 @@ int main(int argc, char **argv) {
         else
             refused[r]++;
     }
-    printf("hard: %ld calls, %ld of them on damaged words; %ld accepted; refused", calls, damaged, accepted);
+    printf("hard: %ld calls, %ld of them on damaged words, %ld with an image; %ld accepted; refused", calls, on_damaged, images, accepted);
     for (n = 1; n <= 16; n++)
         printf(" %ld:%ld", n, refused[n]);
     printf("; every answer is listed, a refused call changed nothing\n");

@@ -11,9 +11,10 @@
  *   - No two arguments of a call overlap, and nobody else writes to them while it runs.
  *   - The words of a queue, from creation on, and the bytes of its store are changed by these functions only, and each call gets both
  *     as the last one left them. The words hold no pointer: between two calls words and store may be moved or copied.
- *   - 512 KB of stack for dsq_produce alone, which may pass over 1,024 expired messages in one call and calls itself for each: 504 KB were
- *     measured (scripts/hard); give a thread more.
+ *   - 512 KB of stack for dsq_produce alone: once a message has expired it takes 200 KB, since it keeps a copy of the words, and 504 KB to
+ *     pass over 1,024 of them (measured: c/stack.c); give a thread more.
  *
+ * Lengths count elements: events_length counts words, of which DSQ_EVENT_WORDS are asked for.
  * A flag that is passed in is 0 for no and anything else for yes; one that is told is 0 or 1. Times are counts of nanoseconds. */
 #ifndef DSQ_SEND_QUEUE_H
 #define DSQ_SEND_QUEUE_H
@@ -85,7 +86,7 @@ enum dsq_out {
     DSQ_OUT_EVENTS = 1, /* how many events the call wrote, from the list's start on */
     /* What goes with a fragment. */
     DSQ_OUT_LENGTH = 2,               /* its bytes, at the buffer's start */
-    DSQ_OUT_MESSAGE_ID = 3,           /* 32 bits: 0 for the first message accepted, then one more for each */
+    DSQ_OUT_MESSAGE_ID = 3,           /* 32 bits: 0 for the first message accepted, then one more for each, modulo 2^32 */
     DSQ_OUT_STREAM_ID = 4,            /* 16 bits */
     DSQ_OUT_UNORDERED = 5,            /* a flag */
     DSQ_OUT_SSN = 6,                  /* stream sequence number, 16 bits; 0 for an unordered message */

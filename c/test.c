@@ -197,9 +197,14 @@ static uint8_t save(struct host *h)
     return dsq_save(h->queue, h->store, h->store_length, h->image, h->image_length, h->out, h->time);
 }
 
+/* From a block of exactly the image's length. */
 static uint8_t restore(struct host *h, const uint8_t *image, size_t length)
 {
-    return dsq_restore(h->queue, h->store, h->store_length, image, length, h->time);
+    uint8_t *own = allocate(length, 0), answer;
+    memcpy(own, image, length);
+    answer = dsq_restore(h->queue, h->store, h->store_length, own, length, h->time);
+    free(own);
+    return answer;
 }
 
 /* The answers of questions; a refused one would not be 0. */
