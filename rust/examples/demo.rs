@@ -8,12 +8,14 @@ use std::collections::BTreeMap;
 use std::error::Error;
 use std::time::Duration;
 
-const HEADS: std::ops::RangeInclusive<u16> = 1..=8;
+const STREAMS: std::ops::RangeInclusive<u16> = 1..=8;
 const PACKET: usize = 1_200;
 const MARK: usize = 3_000;
 /// So many packets are shown.
 const SHOWN: u64 = 10;
 const CLOSED: StreamId = StreamId(5);
+/// Behind the half-sent profile of the closed head; of use for too short a time.
+const DROPPED: [u64; 2] = [503, 803];
 
 type Outcome<T> = Result<T, Box<dyn Error>>;
 
@@ -24,8 +26,8 @@ fn profile(number: u64) -> Vec<u8> {
 }
 
 /// The profiles of a head are numbered 101, 102, .. for head 1 and so on.
-fn number(head: u16, place: u64) -> u64 {
-    u64::from(head) * 100 + place
+fn number(stream: u16, place: u64) -> u64 {
+    u64::from(stream) * 100 + place
 }
 
 /// The other end: puts fragments together again.
@@ -75,9 +77,9 @@ impl Feeder {
                 self.link.take(d)?;
                 self.fragments += 1;
                 if self.fragments <= SHOWN {
-                    let (head, data) = (d.data.stream_key.id(), &d.data);
+                    let (stream, data) = (d.data.stream_key.id(), &d.data);
                     println!(
-                        "  packet {}: head {head}, fragment {}, {} bytes",
+                        "  packet {}: head {stream}, fragment {}, {} bytes",
                         self.fragments,
                         data.fsn,
                         data.payload.len()
@@ -97,8 +99,8 @@ impl Feeder {
     fn tell(&mut self) {
         for event in self.queue.events() {
             match event {
-                Event::StreamLow(head) => {
-                    println!("  head {head}: backlog low, {} bytes left", self.queue.buffered_amount(head));
+                Event::StreamLow(stream) => {
+                    println!("  head {stream}: backlog low, {} bytes left", self.queue.buffered_amount(stream));
                 }
                 Event::TotalLow => println!("  feeder: all backlogs together low"),
                 Event::Expired(profile) => println!("  profile {profile}: dropped"),
@@ -134,15 +136,15 @@ fn main() -> Outcome<()> {
     };
     feeder.queue.set_priority(StreamId(1), 512)?;
     let mut queued = Vec::new();
-    for head in HEADS {
+    for stream in STREAMS {
         for place in 1..=3 {
-            let id = number(head, place);
+            let id = number(stream, place);
             let lifetime = (id == 803).then_some(Duration::from_millis(2));
             let options = SendOptions { lifecycle_id: LifecycleId::new(id), lifetime, ..Default::default() };
-            feeder.queue.add(feeder.now, Message::new(StreamId(head), PpId(53), &profile(id)), &options)?;
+            feeder.queue.add(feeder.now, Message::new(StreamId(stream), PpId(53), &profile(id)), &options)?;
             queued.push(id);
         }
-        println!("  head {head}: 3 profiles, {} bytes", feeder.queue.buffered_amount(StreamId(head)));
+        println!("  head {stream}: 3 profiles, {} bytes", feeder.queue.buffered_amount(StreamId(stream)));
     }
     println!("  profile 803 is of use for 2 ms only");
     println!("  in all {} bytes", feeder.queue.total_buffered_amount());
@@ -198,10 +200,13 @@ fn check(feeder: &Feeder, queued: &[u64]) -> Outcome<()> {
     }
     let mut dropped = feeder.dropped.clone();
     dropped.sort();
-    for head in HEADS {
-        let mut want = queued.iter().filter(|id| **id / 100 == u64::from(head) && !dropped.contains(id));
-        for (_, bytes) in feeder.link.whole.iter().filter(|(to, _)| to.0 == head) {
-            let id = want.next().ok_or_else(|| format!("head {head}: a profile too many"))?;
+    if dropped != DROPPED {
+        return Err(format!("dropped: {dropped:?}").into());
+    }
+    for stream in STREAMS {
+        let mut want = queued.iter().filter(|id| **id / 100 == u64::from(stream) && !dropped.contains(id));
+        for (_, bytes) in feeder.link.whole.iter().filter(|(to, _)| to.0 == stream) {
+            let id = want.next().ok_or_else(|| format!("head {stream}: a profile too many"))?;
             if *bytes != profile(*id) {
                 return Err(format!("profile {id} arrived changed").into());
             }
@@ -211,6 +216,6 @@ fn check(feeder: &Feeder, queued: &[u64]) -> Outcome<()> {
         }
     }
     println!("{} profiles compared byte for byte; dropped: {dropped:?}", feeder.link.whole.len());
-    println!("every profile arrived whole");
+    println!("every other profile arrived whole");
     Ok(())
 }

@@ -7,7 +7,7 @@ use std::slice::ChunksExact;
 /// Something that a call reports.
 #[derive(Clone, Copy, Debug, Eq, PartialEq)]
 pub enum Event {
-    /// The stream's buffered amount fell to its threshold or below.
+    /// The stream's buffered amount fell to its threshold or below, or a threshold below it was raised to it or past it.
     StreamLow(StreamId),
     /// The total buffered amount fell to its threshold or below.
     TotalLow,

@@ -2,8 +2,9 @@
 //!
 //! Why the calls are safe. The C functions ask for pointers that are valid for the lengths given, that do not overlap where one is written,
 //! and that are aligned. Here every pointer is made from a reference of a fixed or given length, which lives through the call; Rust's rules
-//! for `&mut` say that it overlaps nothing. Words and bytes have no forbidden values. The library reads and writes inside its buffers only
-//! (that is proved), keeps no pointer and has no state of its own. It never unwinds.
+//! for `&mut` say that it overlaps nothing. The fixed lengths are the library's (tests/header.rs compares them). Words and bytes have no
+//! forbidden values. The library reads and writes inside its buffers only (that is proved), keeps no pointer and has no state of its own.
+//! It never unwinds. With too little stack the process ends at the guard page: large frames touch their pages in order.
 
 use crate::limits::EVENT_WORDS;
 use crate::limits::MAX_STREAMS;

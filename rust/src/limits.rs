@@ -16,7 +16,7 @@ pub const MAX_TIME: u64 = 4_611_686_018_427_387_903;
 /// Words of a queue's state.
 pub(crate) const QUEUE_WORDS: usize = 20_768;
 /// Words of the event list: 2,305 places of kind and number.
-pub(crate) const EVENT_WORDS: usize = 2 * 2_305;
+pub(crate) const EVENT_WORDS: usize = 4_610;
 /// Places of what a call tells beside its number.
 pub(crate) const OUT_WORDS: usize = 16;
 /// An image's bytes beside its payloads, at most: records of all streams and messages, and the trailer.

@@ -16,6 +16,16 @@ impl LifecycleId {
         NonZeroU64::new(number).map(Self)
     }
 
+    /// The id of a number that is not 0.
+    ///
+    /// # Panics
+    ///
+    /// If it is 0.
+    #[allow(clippy::should_implement_trait)]
+    pub fn from(number: u64) -> Self {
+        Self::new(number).expect("a lifecycle id is not 0")
+    }
+
     /// Its number.
     pub fn value(&self) -> u64 {
         self.0.get()
@@ -57,7 +67,7 @@ impl<'a> Message<'a> {
 pub struct SendOptions {
     /// Whether the receiver may hand it on out of order.
     pub unordered: bool,
-    /// It is dropped unsent so long after it was added, and one millisecond more.
+    /// So long after it was added, and one millisecond more, it is dropped when its turn comes, half-sent or not.
     pub lifetime: Option<Duration>,
     /// How often a fragment may be sent again; told with each fragment, 65,535 where none is given.
     pub max_retransmissions: Option<u16>,

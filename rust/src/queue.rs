@@ -25,8 +25,9 @@ use std::fmt;
 
 /// The send queue: messages go in whole, fragments come out, stream by stream as the scheduler chooses.
 ///
-/// It has the methods of dcSCTP's `SendQueue`, and they mean the same. What differs: its memory is settled at creation, so a call can be
-/// refused ([`Refusal`]); and events are not called back but listed, by [`events`](SendQueue::events), after the call.
+/// It has the methods of dcSCTP's `SendQueue`, and they mean the same. What differs: the room for its state and for payloads is settled at
+/// creation, so a call can be refused ([`Refusal`]); and events are not called back but listed, by [`events`](SendQueue::events), after the
+/// call.
 ///
 /// Some methods answer without a `Result`, as dcSCTP's do. The one refusal that they could get is [`Refusal::WordsBroken`], and it is
 /// proved that no queue gets there; they would panic, where dcSCTP's code panics.
@@ -93,8 +94,9 @@ impl SendQueue {
 
     /// The next fragment, of at most `max_size` bytes, or `None` if nothing waits. Messages whose time is over are dropped on the way.
     ///
-    /// Its bytes are lent until the next call; [`produce_into`](SendQueue::produce_into) writes them straight to the caller's buffer. To drop
-    /// 1,024 messages in one call it takes up to 512 KB of stack (504 KB were measured): give a thread more.
+    /// Its bytes are lent until the next call; [`produce_into`](SendQueue::produce_into) writes them straight to the caller's buffer.
+    ///
+    /// Where a message is dropped it takes 200 KB of stack, and 504 KB to drop 1,024 of them in one call (measured): give a thread more.
     ///
     /// Refused: [`Refusal::TimeLate`], [`Refusal::SizeWrong`].
     pub fn produce(&mut self, now: SocketTime, max_size: usize) -> Result<Option<DataToSend<'_>>, Refusal> {
@@ -110,7 +112,8 @@ impl SendQueue {
 
     /// The next fragment, of at most the buffer's length, or `None` if nothing waits. Messages whose time is over are dropped on the way.
     ///
-    /// The fragment's bytes are written to the buffer's start and lent from there; the rest of the buffer stays as it was.
+    /// The fragment's bytes are written to the buffer's start and lent from there; the rest of the buffer stays as it was. It takes as much
+    /// stack as [`produce`](SendQueue::produce).
     ///
     /// Refused: [`Refusal::TimeLate`], [`Refusal::SizeWrong`] (a buffer outside 1 to 262,144 bytes).
     pub fn produce_into<'a>(
@@ -141,8 +144,8 @@ impl SendQueue {
         accepted(number);
     }
 
-    /// What the last call reported, in order. A call that was refused has reported nothing. Asking does not count as a call. (A fragment
-    /// lent by [`produce`](SendQueue::produce) must be let go of first.)
+    /// What the last call reported, in order. A call that was refused has reported nothing. Asking and saving do not count as calls. (A
+    /// fragment lent by [`produce`](SendQueue::produce) must be let go of first.)
     pub fn events(&self) -> Events<'_> {
         Events::new(&self.events[..2 * self.event_count])
     }

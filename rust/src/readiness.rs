@@ -1,7 +1,9 @@
 //! Whether a queue may be carried to another host.
 
+use std::fmt;
+
 /// Whether a queue may be carried to another host, as bits; 0 for yes. The numbers are dcSCTP's.
-#[derive(Clone, Copy, Debug, Default, Eq, PartialEq)]
+#[derive(Clone, Copy, Default, Eq, PartialEq)]
 pub struct HandoverReadiness(pub u32);
 
 impl HandoverReadiness {
@@ -18,5 +20,18 @@ impl HandoverReadiness {
     /// Whether this reason stands against it.
     pub fn contains(&self, reason: Self) -> bool {
         self.0 & reason.0 != 0
+    }
+}
+
+/// The reasons by dcSCTP's names; nothing where it is ready.
+impl fmt::Display for HandoverReadiness {
+    fn fmt(&self, f: &mut fmt::Formatter<'_>) -> fmt::Result {
+        f.write_str(if self.contains(Self::SEND_QUEUE_NOT_EMPTY) { "send_queue_not_empty" } else { "" })
+    }
+}
+
+impl fmt::Debug for HandoverReadiness {
+    fn fmt(&self, f: &mut fmt::Formatter<'_>) -> fmt::Result {
+        fmt::Display::fmt(self, f)
     }
 }

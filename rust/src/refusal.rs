@@ -84,7 +84,9 @@ impl fmt::Display for Refusal {
     fn fmt(&self, f: &mut fmt::Formatter<'_>) -> fmt::Result {
         f.write_str(match self {
             Self::PayloadLimitWrong => "the payload limit is outside 1 to 65,535",
-            Self::StoreWrong => "the store is outside 1 to 2,000,000 bytes, or not of its creation length",
+            Self::StoreWrong => {
+                "the store is outside 1 to 2,000,000 bytes at creation, or not of its creation length later"
+            }
             Self::EventListShort => "the event list has fewer than 2,305 places",
             Self::TimeLate => "a time or lifetime is above 4,611,686,018,427,387,903",
             Self::PayloadWrong => "the payload is empty or above 262,144 bytes",
@@ -94,10 +96,12 @@ impl fmt::Display for Refusal {
             Self::SizeWrong => "the size asked for is outside 1 to 262,144",
             Self::BufferShort => "the fragment buffer is shorter than the size asked for",
             Self::ImageBufferShort => "the image buffer is shorter than the image",
-            Self::QueueUsed => "the queue knows a stream, or its next message id is not 0",
+            Self::QueueUsed => "restoring finds a queue that knows a stream, or whose next message id is not 0",
             Self::ImageWrong => "the image breaks a rule",
             Self::PriorityOther => "the image's default priority is not the queue's",
-            Self::ImageLarge => "the image passes 256 streams, 1,024 messages or the store",
+            Self::ImageLarge => {
+                "the image, with the streams that only messages name, passes 256 streams, 1,024 messages or the store"
+            }
             Self::WordsBroken => "the words are not those of a queue",
         })
     }

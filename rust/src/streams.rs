@@ -63,7 +63,8 @@ impl SendQueue {
         Refusal::judge(number)
     }
 
-    /// Sets a stream's priority, its weight when messages are interleaved. The scheduler reads it when the stream next begins to wait.
+    /// Sets a stream's priority, its weight when messages are interleaved. The scheduler reads it when the stream next begins to wait, and
+    /// before that at a drop not made by closing, a reset, a commit, a rollback or a switch of interleaving.
     ///
     /// Refused: [`Refusal::StreamsFull`].
     pub fn set_priority(&mut self, stream_id: StreamId, priority: u16) -> Result<(), Refusal> {

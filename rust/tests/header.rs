@@ -86,6 +86,78 @@ fn the_functions_are_the_header_s() {
     assert_eq!(ours.len(), header.len());
 }
 
+/// A parameter of a proved function as C sees it: an array is a pointer, a slice a pointer and a length.
+fn of_parameter(name: &str, kind: &str, list: &mut Vec<String>) {
+    let Some(lent) = kind.strip_prefix('&') else { return list.push(format!("{name}: {kind}")) };
+    let (how, elements) = lent.strip_prefix("mut ").map_or(("const", lent), |rest| ("mut", rest));
+    let inner = elements.trim_start_matches('[').trim_end_matches(']');
+    list.push(format!("{name}: *{how} {}", inner.split(';').next().unwrap()));
+    if !inner.contains(';') {
+        list.push(format!("{name}_length: usize"));
+    }
+}
+
+fn of_source() -> Functions {
+    let mut functions = Functions::new();
+    for file in ["images", "messages", "questions", "sending", "streams"] {
+        for part in text(&format!("../crates/send_queue_c/src/{file}.rt")).split("pub extern \"C\" fn ").skip(1) {
+            let (name, rest) = part.split_once('(').unwrap();
+            let (parameters, rest) = rest.split_once(") -> ").unwrap();
+            let mut list = Vec::new();
+            for parameter in parameters.split(',').map(str::trim).filter(|p| !p.is_empty()) {
+                let (name, kind) = parameter.split_once(": ").unwrap();
+                of_parameter(name, kind, &mut list);
+            }
+            list.push(rest.split_whitespace().next().unwrap().into());
+            functions.insert(name.into(), list);
+        }
+    }
+    functions
+}
+
+#[test]
+fn the_functions_are_the_proved_ones() {
+    assert_eq!(of_header(&text("../c/send_queue.h")), of_source());
+}
+
+/// The number behind a name, as `NAME 20768`, `NAME = 3` or `NAME: usize = 20_768` gives it.
+fn number(text: &str, name: &str) -> u64 {
+    let (_, rest) = text.split_once(name).unwrap_or_else(|| panic!("no {name}"));
+    let digits: String =
+        rest.chars().skip_while(|c| !c.is_ascii_digit()).take_while(|c| c.is_ascii_digit() || *c == '_').collect();
+    digits.replace('_', "").parse().unwrap()
+}
+
+#[test]
+fn the_lengths_and_places_are_the_proved_ones() {
+    let header = text("../c/send_queue.h");
+    let limits = text("src/limits.rs");
+    let words = text("../crates/queue_words/src/lib.rt");
+    let events = text("../crates/queue_streams/src/events.rt");
+    let places = text("../crates/send_queue_c/src/numbers.rt");
+    for (define, source, constant) in [
+        ("#define DSQ_QUEUE_WORDS", &words, "const QUEUE_WORDS: usize"),
+        ("#define DSQ_QUEUE_WORDS", &limits, "const QUEUE_WORDS: usize"),
+        ("#define DSQ_EVENT_WORDS", &events, "const EVENT_PLACES: usize"),
+        ("#define DSQ_EVENT_WORDS", &limits, "const EVENT_WORDS: usize"),
+        ("DSQ_OUT_WORDS =", &places, "const OUT_WORDS: usize"),
+        ("DSQ_OUT_WORDS =", &limits, "const OUT_WORDS: usize"),
+        ("#define DSQ_MAX_STREAMS", &limits, "const MAX_STREAMS: usize"),
+        ("#define DSQ_MAX_MESSAGES", &limits, "const MAX_MESSAGES: usize"),
+        ("#define DSQ_MAX_PAYLOAD ", &limits, "const MAX_PAYLOAD: usize"),
+        ("#define DSQ_MAX_STORE", &limits, "const MAX_STORE: usize"),
+        ("#define DSQ_MAX_PAYLOAD_LIMIT", &limits, "const MAX_PAYLOAD_LIMIT: usize"),
+    ] {
+        assert_eq!(number(&header, define), number(source, constant), "{define}");
+    }
+    let list = without_comments(header.split_once("enum dsq_out {").unwrap().1.split_once("};").unwrap().0);
+    for entry in list.split(',') {
+        let (name, place) = entry.trim().split_once(" = ").unwrap();
+        let constant = format!("const {}: usize", name.trim_start_matches("DSQ_OUT_").replace("WORDS", "OUT_WORDS"));
+        assert_eq!(place.parse(), Ok(number(&places, &constant)), "{name}");
+    }
+}
+
 /// `DSQ_STORE_FULL` is `StoreFull`.
 fn camel(name: &str) -> String {
     let part = |p: &str| format!("{}{}", &p[..1], p[1..].to_lowercase());
@@ -105,4 +177,16 @@ fn the_refusals_are_the_header_s() {
         }
     }
     assert_eq!(list.split(',').count(), 17);
+}
+
+/// What a refusal says is said above its number in the header.
+#[test]
+fn the_refusals_say_what_the_header_says() {
+    let header = text("../c/send_queue.h");
+    let list = header.split_once("enum dsq_refusal {").unwrap().1.split_once("};").unwrap().0;
+    for (place, entry) in list.split("/* ").skip(1).enumerate() {
+        let said = Refusal::from_number(place as u8 + 1).unwrap().to_string();
+        assert!(entry.replacen(&said[..1].to_uppercase(), &said[..1], 1).contains(&said), "{said}");
+    }
+    assert_eq!(list.split("/* ").count(), 17);
 }

@@ -33,6 +33,13 @@ fn refusals_have_the_numbers_1_to_16_and_a_text() {
 }
 
 #[test]
+fn a_lifecycle_id_is_not_0() {
+    assert_eq!(LifecycleId::new(0), None);
+    assert_eq!(LifecycleId::from(9), LifecycleId::new(9).unwrap());
+    assert!(std::panic::catch_unwind(|| LifecycleId::from(0)).is_err());
+}
+
+#[test]
 fn creation_is_refused_with_1_before_2() {
     let store = |n| Options { max_send_buffer_size: n, ..Options::default() };
     let new = |limit, bytes| SendQueue::new(limit, &store(bytes)).map(|_| ()).map_err(Refusal::number);
@@ -192,6 +199,7 @@ fn readiness_is_the_choice_at_creation() {
         q.add(NOW, message(1, b"m"), &SendOptions::default()).unwrap();
         assert_eq!(q.get_handover_readiness(), ready);
         assert_eq!(q.get_handover_readiness().contains(HandoverReadiness::SEND_QUEUE_NOT_EMPTY), !choice);
+        assert_eq!(q.get_handover_readiness().to_string(), if choice { "" } else { "send_queue_not_empty" });
     }
 }
 

@@ -13,6 +13,8 @@ use payload::payload;
 use std::fmt::Write;
 use std::time::Duration;
 
+/// The calls that report nothing, so that the list is empty after them.
+const SILENT: &str = "ygkbriow";
 /// What a buffer is filled with, so that a byte written past its place is seen.
 const FILL: u8 = 0xa5;
 
@@ -122,7 +124,8 @@ impl Player {
     pub fn call(&mut self, text: &str) -> String {
         self.calls += 1;
         let mut line = Line::new(text);
-        match line.letter {
+        let (letter, by_rule) = (line.letter, self.answered_by_rule);
+        let answer = match letter {
             "n" => self.create(line),
             "v" => {
                 self.lent = Lent { events: line.take(), fragment: line.take(), image: line.take(), store: line.take() };
@@ -180,7 +183,11 @@ impl Player {
             }
             "w" => self.restore("w", SocketTime(line.take())),
             other => panic!("unknown call {other}"),
+        };
+        if SILENT.contains(letter) && self.answered_by_rule == by_rule {
+            assert_eq!(self.queue().events().len(), 0, "`{text}` reports nothing");
         }
+        answer
     }
 
     fn create(&mut self, mut line: Line) -> String {
