@@ -120,7 +120,7 @@ static uint8_t add(void) {
 }
 
 static uint8_t produce(void) {
-    /* a buffer of exactly the length that is passed */
+    /* a buffer that ends where its block ends */
     size_t length = odd_length(BUFFER);
     uint8_t *buffer = now.buffer + (BUFFER - length);
     size_t store = a_store(), places = odd_length(DSQ_EVENT_WORDS);
