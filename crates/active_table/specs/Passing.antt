@@ -35,6 +35,7 @@ finishOf rows k = (rows k) .«virtual_finish_time»
 unfoldable pub soonestOfFour : (ℕ → ActiveStreamInfo) → ℕ
 soonestOfFour rows = min (min (finishOf rows 0) (finishOf rows 1)) (min (finishOf rows 2) (finishOf rows 3))
 
--- The four rows finish later than the best so far; or the earliest of them finishes with it, and none of their ids is below its own.
+-- "the smallest finish time, then the smallest id": the four rows finish later than the best so far; or the earliest of them finishes with it,
+-- and none of their ids is below its own.
 unfoldable pub fourBehind : List ℕ → ℕ → Best → Bool
 fourBehind ws from best = ltb (best .finish) (soonestOfFour (rowsFrom ws from)) || (eqb (soonestOfFour (rowsFrom ws from)) (best .finish) && idsBehind ws from (best .id))
