@@ -22,7 +22,7 @@ use Rattle.queue_runs.proofs.Translates.{Translates, left-out, stands-f
 
 -- ------------------------------------------------------------------ from the models to the words
 
-all-typed : (len : ℕ) (cs : List Call) → ((c : Call) → Typed c → demands.Typed (callOf len c)) → AllTyped cs → demands.AllTyped (callsOf len cs)
+pub all-typed : (len : ℕ) (cs : List Call) → ((c : Call) → Typed c → demands.Typed (callOf len c)) → AllTyped cs → demands.AllTyped (callsOf len cs)
 all-typed len [] f t = tt
 all-typed len (c ∷ cs) f t = (f c (t .0), all-typed len cs f (t .1))
 

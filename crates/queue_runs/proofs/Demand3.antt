@@ -29,12 +29,12 @@ use Rattle.queue_runs.proofs.Alike.{alike}
 -- ------------------------------------------------------------------ reached queues
 
 -- They are good, stand for reachable queues of the model, and their stores have the length of creation.
-record Stands (o : plain.Options) (len : ℕ) (s : State) : Type 0 where
-  good : Good s
-  reachable : Reachable o (queueOf s)
-  store-is : length (s .store) ≡ len
+pub record Stands (o : plain.Options) (len : ℕ) (s : State) : Type 0 where
+  pub good : Good s
+  pub reachable : Reachable o (queueOf s)
+  pub store-is : length (s .store) ≡ len
 
-stands : (a : Arguments) (len : ℕ) (s : State) → Reached a len s → Stands (optionsWith a len) len s
+pub stands : (a : Arguments) (len : ℕ) (s : State) → Reached a len s → Stands (optionsWith a len) len s
 stands a len s r =
     let n = new-link a (r .before) (r .creates) in
     let h = run-link (r .calls) (newState a (r .before)) (n .good) (r .typed) in

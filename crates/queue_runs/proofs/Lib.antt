@@ -13,3 +13,5 @@ pub mod Stays
 pub mod Ties
 pub mod Listed
 pub mod OtherStore
+pub mod Account
+pub mod FairTurns

@@ -6,3 +6,5 @@ pub mod Creation
 pub mod Refusals
 pub mod Demand3
 pub mod Numbers
+pub mod Account
+pub mod FairTurns

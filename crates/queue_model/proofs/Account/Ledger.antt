@@ -46,11 +46,11 @@ use Rattle.queue_model.specs.Restore
 abbrev amount-at : Options → List Stream → ℕ → ℕ
 amount-at o ss k = (at o ss k) .amount
 
-for-own : (k s n : ℕ) → s ≡ k → for-stream k s n ≡ n
+pub for-own : (k s n : ℕ) → s ≡ k → for-stream k s n ≡ n
 unfolding for-stream
 for-own k s n e = ap (λ (b : Bool). if b then n else 0) (eqb-true e)
 
-for-other : (k s n : ℕ) → (s ≡ k → ⊥) → for-stream k s n ≡ 0
+pub for-other : (k s n : ℕ) → (s ≡ k → ⊥) → for-stream k s n ≡ 0
 unfolding for-stream
 for-other k s n e = ap (λ (b : Bool). if b then n else 0) (eqb-false e)
 

@@ -28,7 +28,7 @@ but-after P k [] h e = tt
 but-after P k (a ∷ as′) h e = let l = h .0 in (e .0 (λ g. omega arith), but-after P k as′ (h .1) (e .1))
 
 -- That entry is set, or taken out.
-but-put : (P : Active → Type 0) (a : Active) (as′ : List Active) → P a → Rising active-key as′ → Every (But (a .stream-id) P) as′ → Every P (put-active a as′)
+pub but-put : (P : Active → Type 0) (a : Active) (as′ : List Active) → P a → Rising active-key as′ → Every (But (a .stream-id) P) as′ → Every P (put-active a as′)
 but-put P a [] h r e = subst (Every P) (sym (put-end active-key a)) (h, tt)
 but-put P a (b ∷ bs) h r e = elim (tri (b .stream-id) (a .stream-id)) [
   | less l ↦ subst (Every P) (sym (put-later active-key a b bs l)) (e .0 (λ g. omega arith), but-put P a bs h (r .1) (e .1))
@@ -36,7 +36,7 @@ but-put P a (b ∷ bs) h r e = elim (tri (b .stream-id) (a .stream-id)) [
   | more l ↦ subst (Every P) (sym (put-before active-key a b bs l)) (h, but-after P (a .stream-id) (b ∷ bs) (l, after-down active-key bs l (r .0)) e)
 ]
 
-but-without : (P : Active → Type 0) (k : ℕ) (as′ : List Active) → Every (But k P) as′ → Every P (without-active k as′)
+pub but-without : (P : Active → Type 0) (k : ℕ) (as′ : List Active) → Every (But k P) as′ → Every P (without-active k as′)
 but-without P k [] e = subst (Every P) (sym (without-nil active-key k)) tt
 but-without P k (a ∷ as′) e = elim (is-own active-key a k) [
   | own g ↦ subst (Every P) (sym (without-here active-key k a as′ g)) (but-without P k as′ (e .1))

@@ -1,0 +1,6 @@
+pub mod Entries
+pub mod Starts
+pub mod Steps
+pub mod Theorem
+pub mod Lifetimes
+pub mod Tight

@@ -1,0 +1,97 @@
+-- Fair turns (request 11/13, second half): over any stretch in which two streams always wait, the costs charged to them differ by at most the cost of one full fragment of
+-- each. Assumes nothing.
+use Prim.Native.Nat.{ℕ, _+_, _≤_}
+use mathlib.Core.Bool.{Bool, true, not}
+use mathlib.Core.List.{List, [], _∷_, _++_}
+use mathlib.Core.Path.{_≡_}
+use lib.Dec.{leb}
+use lib.ListN.{length}
+use Rattle.queue_model.specs.Logic.{any, is-some}
+use Rattle.queue_model.specs.Table.{find}
+use Rattle.queue_model.specs.Types.{Item, Stream, weighted, Active, Options, Queue, Message, Answer, refused, done, number, flag, ids, fragment, nothing-waits, Outcome, expired}
+use Rattle.queue_model.specs.Scheduler.{cost, find-active}
+use Rattle.queue_model.specs.Refusals.{max-word}
+use Rattle.queue_model.specs.Questions.{priority-of, is-empty}
+use Rattle.queue_model.specs.Run.{Call, add, produce, step, run, after}
+use Rattle.queue_model.specs.Demands.{Typed, Reachable}
+use Rattle.queue_model.specs.Account.{for-stream}
+
+-- ------------------------------------------------------------------ the run
+
+-- "no expiry": no message that waits has expired at this time.
+unfoldable pub none-expired : ℕ → Queue → Bool
+unfolding any
+none-expired now q = not (any (λ (s : Stream). any (λ (i : Item). expired now (i .expires-at)) (s .items)) (q .streams))
+
+-- "with only adds and next fragments of exactly the payload limit in size, no expiry": the calls that the run may have, on the queue that they meet.
+pub data Allowed (q : Queue) : Call → Type 0 where
+  adds : (store now : ℕ) (m : Message) → Allowed q (add store now m)
+  sends : (store places buffer now : ℕ) → none-expired now q ≡ true → Allowed q (produce store places buffer now (q .options .payload-limit))
+
+-- "finish times below 2^64 - 1".
+unfoldable pub times-below : Queue → Bool
+unfolding any
+times-below q = not (any (λ (a : Active). leb max-word (a .finish)) (q .scheduler .active))
+
+-- A call of the run, on the queue that it meets; and a list of them.
+pub record Turn (c : Call) (q : Queue) : Type 0 where
+  pub typed : Typed c
+  pub allowed : Allowed q c
+  pub below : times-below q ≡ true
+
+abbrev pub Turns : List Call → Queue → Type 0
+Turns [] q = Unit {0}
+Turns (c ∷ cs) q = Turn c q × Turns cs ((step c q) .next)
+
+-- ------------------------------------------------------------------ the stretch
+
+-- "A stream waits while the scheduler lists it" (document 01).
+unfoldable pub is-waiting : ℕ → Queue → Bool
+unfolding find is-some
+is-waiting k q = is-some (find-active k (q .scheduler .active))
+
+-- "any stretch in which two streams always wait": before each of its calls and after the last. A call that hands out a last fragment and lets the stream begin anew with the
+-- message behind it does not end the stretch.
+abbrev pub AlwaysWait : ℕ → ℕ → List Call → Queue → Type 0
+AlwaysWait j k [] q = (is-waiting j q ≡ true) × (is-waiting k q ≡ true)
+AlwaysWait j k (c ∷ cs) q = ((is-waiting j q ≡ true) × (is-waiting k q ≡ true)) × AlwaysWait j k cs ((step c q) .next)
+
+-- ------------------------------------------------------------------ the costs
+
+-- What an answer charges to stream k, whose priority is p: the cost of the bytes of its fragment, "bytes × 1,000,000 / weight rounded down, weight 0 counting as 1".
+abbrev pub charge : ℕ → ℕ → Answer → ℕ
+charge p k (refused r) = 0
+charge p k done = 0
+charge p k (number m) = 0
+charge p k (flag b) = 0
+charge p k (ids ks) = 0
+charge p k (fragment f) = for-stream k (f .stream-id) (cost (weighted p) (length (f .bytes)))
+charge p k nothing-waits = 0
+
+-- "the costs charged", from what the calls of a list show.
+unfoldable pub charged : ℕ → ℕ → List Outcome → ℕ
+unfolding cost for-stream
+charged p k [] = 0
+charged p k (o ∷ os) = charge p k (o .answer) + charged p k os
+
+-- "the cost of one full fragment": of as many bytes as the payload limit.
+abbrev pub full-cost : ℕ → Queue → ℕ
+full-cost k q = cost (weighted (priority-of q k)) (q .options .payload-limit)
+
+-- Two numbers differ by at most n.
+pub record Within (n a b : ℕ) : Type 0 where
+  pub first : a ≤ b + n
+  pub second : b ≤ a + n
+
+-- ------------------------------------------------------------------ the claim
+
+-- "The second starts at an empty queue, interleaving on, priorities fixed, with only adds and next fragments of exactly the payload limit in size, no expiry and finish
+-- times below 2^64 - 1. Over any stretch in which two streams always wait, the costs charged to them differ by at most the cost of one full fragment of each." The run starts at
+-- any queue without messages that creation and calls lead to; the stretch is its calls `during`. No call of the run sets a priority.
+unfoldable pub Request11-turns : Type 0
+unfolding charged cost priority-of is-empty after run
+Request11-turns =
+    (o : Options) (q : Queue) (before during : List Call) (j k : ℕ)
+    → Reachable o q → is-empty q ≡ true → q .interleaving ≡ true
+    → Turns (before ++ during) q → AlwaysWait j k during (after before q)
+    → Within (full-cost j q + full-cost k q) (charged (priority-of q j) j (run during (after before q))) (charged (priority-of q k) k (run during (after before q)))

@@ -1,0 +1,80 @@
+-- Fair turns (request 11/13, second half), on the words and the store that the calls leave. Assumes nothing.
+use Prim.Native.Nat.{ℕ, _+_}
+use mathlib.Core.Path.{_≡_}
+use mathlib.Core.Bool.{true}
+use mathlib.Core.List.{List, [], _∷_, _++_}
+use Rattle.types.specs.Keys.{key-id}
+use Rattle.queue_model.specs.Types.{weighted}
+use Rattle.queue_model.specs.Scheduler.{cost}
+use Rattle.queue_model.specs.Account.{for-stream}
+use Rattle.queue_model.specs.FairTurns.{none-expired, times-below, is-waiting, Within}
+use Rattle.queue_words.specs.Header.{optionsAt, totalsAt}
+use Rattle.queue_questions.specs.Questions.{priorityOf, emptyOf}
+use Rattle.queue_streams.specs.declared.answers.Number.the-variants as number-answer
+use Rattle.queue_messages.specs.declared.message.Message.{Message}
+use Rattle.queue_sending.specs.declared.data.Produced.{Produced}
+use Rattle.queue_sending.specs.declared.data.Produced.the-variants as produced
+use Rattle.queue_runs.specs.Calls.{Call, add, produce, Typed, Answer, called, sent, readied, number, flag, count, truth, Shown}
+use Rattle.queue_runs.specs.Run.{State, step, run, after}
+use Rattle.queue_runs.specs.Meaning.{queueOf}
+use Rattle.queue_runs.specs.Creation.{Arguments}
+use Rattle.queue_runs.specs.Demand3.{Reached}
+
+-- ------------------------------------------------------------------ the run
+
+-- "with only adds and next fragments of exactly the payload limit in size, no expiry": the calls that the run may have, on the queue that they meet.
+pub data Allowed (s : State) : Call → Type 0 where
+  adds : (time : ℕ) (m : Message) (payload : List ℕ) → Allowed s (add time m payload)
+  sends : (events buffer : List ℕ) (time : ℕ) → none-expired time (queueOf s) ≡ true → Allowed s (produce events buffer time (optionsAt (s .words) .«payload_limit»))
+
+-- A call of the run; "finish times below 2^64 - 1". And a list of them.
+pub record Turn (c : Call) (s : State) : Type 0 where
+  pub typed : Typed c
+  pub allowed : Allowed s c
+  pub below : times-below (queueOf s) ≡ true
+
+abbrev pub Turns : List Call → State → Type 0
+Turns [] s = Unit {0}
+Turns (c ∷ cs) s = Turn c s × Turns cs (step c s .next)
+
+-- "any stretch in which two streams always wait": before each of its calls and after the last.
+abbrev pub AlwaysWait : ℕ → ℕ → List Call → State → Type 0
+AlwaysWait j k [] s = (is-waiting j (queueOf s) ≡ true) × (is-waiting k (queueOf s) ≡ true)
+AlwaysWait j k (c ∷ cs) s = ((is-waiting j (queueOf s) ≡ true) × (is-waiting k (queueOf s) ≡ true)) × AlwaysWait j k cs (step c s .next)
+
+-- ------------------------------------------------------------------ the costs
+
+-- What an answer charges to stream k, whose priority is p: the cost of the bytes of its fragment.
+abbrev pub chargeSent : ℕ → ℕ → Produced → ℕ
+chargeSent p k (produced.Nothing n) = 0
+chargeSent p k (produced.Fragment n d) = for-stream k (key-id (d .«data» .«stream_key») .0) (cost (weighted p) (d .«data» .length))
+chargeSent p k (produced.Refused n) = 0
+
+abbrev pub charge : ℕ → ℕ → Answer → ℕ
+charge p k (called a) = 0
+charge p k (sent a) = chargeSent p k a
+charge p k (readied r) = 0
+charge p k (number a) = 0
+charge p k (flag a) = 0
+charge p k (count n) = 0
+charge p k (truth b) = 0
+
+-- "the costs charged", from what the calls of a list show.
+unfoldable pub charged : ℕ → ℕ → List Shown → ℕ
+unfolding cost for-stream
+charged p k [] = 0
+charged p k (o ∷ os) = charge p k (o .answer) + charged p k os
+
+-- ------------------------------------------------------------------ the claim
+
+-- "The second starts at an empty queue, interleaving on, priorities fixed, with only adds and next fragments of exactly the payload limit in size, no expiry and finish
+-- times below 2^64 - 1. Over any stretch in which two streams always wait, the costs charged to them differ by at most the cost of one full fragment of each." The priorities are
+-- those that the question answers at the start.
+unfoldable pub Request11-turns : Type 0
+unfolding charged cost
+Request11-turns =
+    (a : Arguments) (len : ℕ) (s : State) (before during : List Call) (j k p r : ℕ)
+    → Reached a len s → emptyOf (s .words) ≡ true → totalsAt (s .words) .interleaving ≡ true
+    → priorityOf (s .words) j ≡ number-answer.Value p → priorityOf (s .words) k ≡ number-answer.Value r
+    → Turns (before ++ during) s → AlwaysWait j k during (after before s)
+    → Within (cost (weighted p) (a .limit) + cost (weighted r) (a .limit)) (charged p j (run during (after before s))) (charged r k (run during (after before s)))
