@@ -6,3 +6,4 @@ pub mod Sends
 pub mod Accepted
 pub mod Sixteen
 pub mod Events
+pub mod Serving

@@ -1,4 +1,4 @@
--- The account of a stream's bytes, counted from the call history: what calls accept, hand out, drop, put back and restore. Assumes nothing.
+-- The account of a stream's bytes (request 11/13, first half), counted from the call history: what calls accept, hand out, drop, put back and restore. Assumes nothing.
 use Prim.Native.Nat.{ℕ, zero, suc, _+_, _-_}
 use mathlib.Core.Bool.{true, false}
 use mathlib.Core.List.{List, [], _∷_}
@@ -94,7 +94,9 @@ unfolding records-left
 image-left k none = 0
 image-left k (some h) = records-left k (h .messages)
 
--- What one call moves in stream k, from its arguments, its answer and the messages that wait.
+-- What one call moves in stream k. "each counted from the call history": bytes accepted, handed out and left to send in an image are read off the call's arguments and its answer alone. Unsent bytes of dropped
+-- messages, and bytes put back, are read off the messages that wait when the call is made (their lengths and offsets), in the queue that the earlier calls lead to; never off an amount. No answer shows them: which
+-- expired heads a next fragment drops is told by events only where they have a lifecycle id.
 unfoldable pub account : ℕ → Call → Queue → Account
 unfolding step for-stream passed head-bytes closing-bytes image-left read-image find put-back
 account k (add store now m) q = record { accepted = unless-refused ((step (add store now m) q) .outcome .answer) (for-stream k (m .stream-id) (length (m .payload))); handed-out = 0; dropped-unsent = 0; put-back-whole = 0; left-to-send = 0 }
@@ -126,8 +128,8 @@ unfolding account step
 accounts k [] q = no-bytes
 accounts k (c ∷ cs) q = both (account k c q) (accounts k cs ((step c q) .next))
 
--- Request 11/13, first half: from a new queue, after any calls, a stream's amount is what it accepted, less what was handed out, less the unsent bytes of
--- dropped messages, plus what was put back and what a restored image left to send; and the total is the sum over the streams.
+-- "from a new queue, after any calls, a stream's amount is the payload bytes it accepted, less those handed out, less the unsent ones of dropped messages, plus those put back and those left to send in an image it
+-- restored, each counted from the call history; the total is the sum over the streams." Stated as amount + out = in, so that nothing hides in a difference that stops at 0.
 pub record Accounted (k : ℕ) (a : Account) (q : Queue) : Type 0 where
   pub amount-is : amount-of q k + (a .handed-out + a .dropped-unsent) ≡ a .accepted + (a .put-back-whole + a .left-to-send)
   pub total-is : q .total ≡ amounts (q .streams)
@@ -142,7 +144,7 @@ example-calls =
     add 9 0 (record { stream-id = 5; ppid = 0; unordered = false; max-retransmissions = none; lifetime = none; lifecycle-id = 0; payload = 1 ∷ 2 ∷ 3 ∷ [] })
     ∷ produce 9 2305 2 0 2 ∷ reset ∷ produce 9 2305 2 0 2 ∷ discard 2305 5 0 ∷ []
 
-example-options : Options
+unfoldable pub example-options : Options
 example-options = record { payload-limit = 2; store-length = 9; default-priority = 256; default-threshold = 0; total-threshold = 0; handover-with-data = true }
 
 account-example : accounts 5 example-calls (new-queue example-options) ≡ record { accepted = 3; handed-out = 4; dropped-unsent = 1; put-back-whole = 2; left-to-send = 0 }

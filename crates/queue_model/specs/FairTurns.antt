@@ -1,20 +1,21 @@
 -- Fair turns (request 11/13, second half): over any stretch in which two streams always wait, the costs charged to them differ by at most the cost of one full fragment of
 -- each. Assumes nothing.
-use Prim.Native.Nat.{ℕ, _+_, _≤_}
+use Prim.Native.Nat.{ℕ, _+_, _≤_, _<_}
 use mathlib.Core.Bool.{Bool, true, not}
 use mathlib.Core.List.{List, [], _∷_, _++_}
-use mathlib.Core.Path.{_≡_}
+use mathlib.Core.Path.{_≡_, refl}
 use lib.Dec.{leb}
 use lib.ListN.{length}
-use Rattle.queue_model.specs.Logic.{any, is-some}
-use Rattle.queue_model.specs.Table.{find}
-use Rattle.queue_model.specs.Types.{Item, Stream, weighted, Active, Options, Queue, Message, Answer, refused, done, number, flag, ids, fragment, nothing-waits, Outcome, expired}
-use Rattle.queue_model.specs.Scheduler.{cost, find-active}
+use Rattle.queue_model.specs.Logic.{any}
+use Rattle.queue_model.specs.Types.{Item, not-paused, Stream, weighted, Active, Options, Queue, Message, Answer, refused, done, number, flag, ids, fragment, nothing-waits, Outcome, expired}
+use Rattle.queue_model.specs.Scheduler.{cost}
+use Rattle.queue_model.specs.Streams.{stream-at}
 use Rattle.queue_model.specs.Refusals.{max-word}
-use Rattle.queue_model.specs.Questions.{priority-of, is-empty}
+use Rattle.queue_model.specs.Questions.{priority-of, amount-of, is-empty}
 use Rattle.queue_model.specs.Run.{Call, add, produce, step, run, after}
 use Rattle.queue_model.specs.Demands.{Typed, Reachable}
 use Rattle.queue_model.specs.Account.{for-stream}
+use Rattle.queue_model.specs.Waiting.{is-waiting}
 
 -- ------------------------------------------------------------------ the run
 
@@ -44,11 +45,6 @@ Turns [] q = Unit {0}
 Turns (c ∷ cs) q = Turn c q × Turns cs ((step c q) .next)
 
 -- ------------------------------------------------------------------ the stretch
-
--- "A stream waits while the scheduler lists it" (document 01).
-unfoldable pub is-waiting : ℕ → Queue → Bool
-unfolding find is-some
-is-waiting k q = is-some (find-active k (q .scheduler .active))
 
 -- "any stretch in which two streams always wait": before each of its calls and after the last. A call that hands out a last fragment and lets the stream begin anew with the
 -- message behind it does not end the stretch.
@@ -83,15 +79,47 @@ pub record Within (n a b : ℕ) : Type 0 where
   pub first : a ≤ b + n
   pub second : b ≤ a + n
 
+-- "the costs charged to them differ by at most the cost of one full fragment of each": by at most the sum of both, which is reached (`bound-reached`, proofs/FairTurns/Tight). The run starts at q; the stretch is the
+-- calls `during`, from the queue `r` on.
+abbrev pub FairShare : Queue → ℕ → ℕ → List Call → Queue → Type 0
+FairShare q j k during r = Within (full-cost j q + full-cost k q) (charged (priority-of q j) j (run during r)) (charged (priority-of q k) k (run during r))
+
+-- A planner's figure: payload limit 1,200, priorities 256 and 512. The bound is 7,031,250: what 1,800 bytes cost at priority 256, and 3,600 bytes at priority 512.
+planner-figure : (cost (weighted 256) 1200 + cost (weighted 512) 1200 ≡ 7031250) × ((cost (weighted 256) 1800 ≡ 7031250) × (cost (weighted 512) 3600 ≡ 7031250))
+unfolding cost
+planner-figure = (refl, (refl, refl))
+
 -- ------------------------------------------------------------------ the claim
 
--- "The second starts at an empty queue, interleaving on, priorities fixed, with only adds and next fragments of exactly the payload limit in size, no expiry and finish
--- times below 2^64 - 1. Over any stretch in which two streams always wait, the costs charged to them differ by at most the cost of one full fragment of each." The run starts at
--- any queue without messages that creation and calls lead to; the stretch is its calls `during`. No call of the run sets a priority.
+-- "The second starts at an empty queue, interleaving on, priorities fixed": any queue without messages that creation and calls lead to; no call of the run sets a priority.
+pub record Starts (o : Options) (q : Queue) : Type 0 where
+  pub reachable : Reachable o q
+  pub empty : is-empty q ≡ true
+  pub interleaved : q .interleaving ≡ true
+
+-- "with only adds and next fragments of exactly the payload limit in size, no expiry and finish times below 2^64 - 1. Over any stretch in which two streams always wait, the costs charged to them differ by at most
+-- the cost of one full fragment of each."
 unfoldable pub Request11-turns : Type 0
 unfolding charged cost priority-of is-empty after run
 Request11-turns =
     (o : Options) (q : Queue) (before during : List Call) (j k : ℕ)
-    → Reachable o q → is-empty q ≡ true → q .interleaving ≡ true
-    → Turns (before ++ during) q → AlwaysWait j k during (after before q)
-    → Within (full-cost j q + full-cost k q) (charged (priority-of q j) j (run during (after before q))) (charged (priority-of q k) k (run during (after before q)))
+    → Starts o q → Turns (before ++ during) q → AlwaysWait j k during (after before q)
+    → FairShare q j k during (after before q)
+
+-- ------------------------------------------------------------------ the same, by what a host sees
+
+-- The amounts of both are above 0, before each call of the stretch and after the last.
+abbrev pub AlwaysAbove : ℕ → ℕ → List Call → Queue → Type 0
+AlwaysAbove j k [] q = (0 < amount-of q j) × (0 < amount-of q k)
+AlwaysAbove j k (c ∷ cs) q = ((0 < amount-of q j) × (0 < amount-of q k)) × AlwaysAbove j k cs ((step c q) .next)
+
+abbrev pub Open : ℕ → Queue → Type 0
+Open k q = (stream-at q k) .pause-state ≡ not-paused
+
+-- Two streams that are open where the run starts, as those are that the host has not closed, always wait while their amounts are above 0.
+unfoldable pub Request11-seen : Type 0
+unfolding charged cost priority-of is-empty amount-of after run
+Request11-seen =
+    (o : Options) (q : Queue) (before during : List Call) (j k : ℕ)
+    → Starts o q → Open j q → Open k q → Turns (before ++ during) q → AlwaysAbove j k during (after before q)
+    → FairShare q j k during (after before q)

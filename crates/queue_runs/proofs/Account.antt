@@ -32,7 +32,7 @@ use Rattle.queue_runs.proofs.News.{new-link}
 use Rattle.queue_runs.proofs.Alike.{all-typed}
 
 -- The model's answer to the question.
-amount-answer : (k : ℕ) (q : Queue) → numberOf (run.step (run.ask-amount k) q .outcome .answer) ≡ number-answer.Value (amount-of q k)
+pub amount-answer : (k : ℕ) (q : Queue) → numberOf (run.step (run.ask-amount k) q .outcome .answer) ≡ number-answer.Value (amount-of q k)
 unfolding run.step
 amount-answer k q = refl
 
@@ -81,7 +81,7 @@ sum-table o (s ∷ ss) n r e =
     let d = sum-table o ss n (r .1) (e .1) in omega arith
 
 -- What the questions answer is the model's amounts.
-value-is : (s : State) (k : ℕ) → Good s → valueOf (amountOf (s .words) k) ≡ amount-of (queueOf s) k
+pub value-is : (s : State) (k : ℕ) → Good s → valueOf (amountOf (s .words) k) ≡ amount-of (queueOf s) k
 value-is s k g = ap valueOf (amount-asked (s .words) (s .store) g k ∙ amount-answer k (queueOf s))
 
 total-sum : (s : State) → Good s → queueOf s .total ≡ sum-ids (λ (j : ℕ). valueOf (amountOf (s .words) j)) 65536

@@ -2,7 +2,7 @@
 use mathlib.Core.Path.{_≡_, refl, sym, ap, ap₂, _∙_, subst}
 use mathlib.Core.Bool.{Bool, true, false}
 use mathlib.Core.List.{List, [], _∷_, _++_}
-use Prim.Native.Nat.{ℕ, _+_, _/_}
+use Prim.Native.Nat.{ℕ, _+_, _/_, _<_}
 use native.Mathlib.Omega.{arith}
 use lib.ListN.{length}
 use Rattle.types.specs.Keys.{key-of, key-id}
@@ -13,11 +13,13 @@ use Rattle.queue_model.specs.Scheduler.{cost}
 use Rattle.queue_model.specs.Questions.{priority-of}
 use Rattle.queue_model.specs.Run as run
 use Rattle.queue_model.specs.Account.{for-stream}
+use Rattle.queue_model.specs.Waiting.{is-waiting}
 use Rattle.queue_model.specs.FairTurns as model
 use Rattle.queue_model.proofs.Invariant.Sixteen.{reachable-options}
 use Rattle.queue_model.proofs.FairTurns.Theorem as theorem
+use Rattle.queue_model.proofs.FairTurns.Seen.{BothOpen, open-on, both-wait}
 use Rattle.queue_streams.specs.declared.answers.Number.the-variants as number-answer
-use Rattle.queue_questions.specs.Questions.{priorityOf}
+use Rattle.queue_questions.specs.Questions.{priorityOf, amountOf}
 use Rattle.queue_state.specs.Promise.{numberOf}
 use Rattle.queue_state.proofs.Singles.{model-options, model-interleaving}
 use Rattle.linked_streams.proofs.Asks.{priority-asked, empty-asked}
@@ -28,11 +30,13 @@ use Rattle.queue_runs.specs.Run as runs
 use Rattle.queue_runs.specs.Run.{State, step}
 use Rattle.queue_runs.specs.Meaning.{queueOf, Good, AllTyped, callsOf}
 use Rattle.queue_runs.specs.Creation.{optionsWith}
-use Rattle.queue_runs.specs.FairTurns.{Allowed, adds, sends, Turn, Turns, AlwaysWait, chargeSent, charge, charged, Request11-turns}
+use Rattle.queue_runs.specs.FairTurns.{Allowed, adds, sends, Turn, Turns, AlwaysWait, AlwaysAbove, chargeSent, charge, charged, Request11-turns, Request11-seen}
+use Rattle.queue_runs.specs.Account.{valueOf}
 use Rattle.queue_runs.proofs.Steps.{step-link, typed-call, store-small, meant}
 use Rattle.queue_runs.proofs.Runs.{run-link}
 use Rattle.queue_runs.proofs.Forms.{Quiet, quiet-refused, quiet-done, form-of}
 use Rattle.queue_runs.proofs.Demand3.{stands}
+use Rattle.queue_runs.proofs.Account.{value-is}
 
 -- ------------------------------------------------------------------ one call
 
@@ -126,8 +130,8 @@ priority-is s k p g e =
 
 pub request11-turns : Request11-turns
 unfolding Request11-turns model.Request11-turns
-request11-turns a len s before during j k p r c empty on ej ek t w =
-    let n = stands a len s c in
+request11-turns a len s before during j k p r c t w =
+    let n = stands a len s (c .reached) in
     let g = n .good in
     let l : ℕ = length (s .store) in
     let o : plain.Options = optionsWith a len in
@@ -140,9 +144,10 @@ request11-turns a len s before during j k p r c empty on ej ek t w =
     let same : callsOf (length (x .store)) during ≡ ns = ap (λ (y : ℕ). callsOf y during) (b .same-store) in
     let mt : model.Turns (ms ++ ns) (queueOf s) = subst (λ (y : List run.Call). model.Turns y (queueOf s)) (calls-join l before during) (turns-link (before ++ during) s g t) in
     let mw : model.AlwaysWait j k ns (run.after ms (queueOf s)) = subst (λ (q : Queue). model.AlwaysWait j k ns q) qx (subst (λ (y : List run.Call). model.AlwaysWait j k y (queueOf x)) same (waits-link j k during x (b .good) u w)) in
-    let m = theorem.request11-turns o (queueOf s) ms ns j k (n .reachable) (sym (empty-asked (s .words) (s .store)) ∙ empty) (model-interleaving (s .words) (s .store) ∙ on) mt mw in
-    let pj : priority-of (queueOf s) j ≡ p = priority-is s j p g ej in
-    let pk : priority-of (queueOf s) k ≡ r = priority-is s k r g ek in
+    let starts : model.Starts o (queueOf s) = record { reachable = n .reachable; empty = sym (empty-asked (s .words) (s .store)) ∙ c .empty; interleaved = model-interleaving (s .words) (s .store) ∙ c .interleaved } in
+    let m = theorem.request11-turns o (queueOf s) ms ns j k starts mt mw in
+    let pj : priority-of (queueOf s) j ≡ p = priority-is s j p g (c .first-priority) in
+    let pk : priority-of (queueOf s) k ≡ r = priority-is s k r g (c .second-priority) in
     let lim : queueOf s .options .payload-limit ≡ a .limit = ap (λ (y : plain.Options). y .payload-limit) (reachable-options (n .reachable)) in
     let fj : cost (weighted (priority-of (queueOf s) j)) (queueOf s .options .payload-limit) ≡ cost (weighted p) (a .limit) = ap₂ (λ (y z : ℕ). cost (weighted y) z) pj lim in
     let fk : cost (weighted (priority-of (queueOf s) k)) (queueOf s .options .payload-limit) ≡ cost (weighted r) (a .limit) = ap₂ (λ (y z : ℕ). cost (weighted y) z) pk lim in
@@ -153,3 +158,31 @@ request11-turns a len s before during j k p r c empty on ej ek t w =
     charged-link r k during x (b .good) u ∙ ap₂ (λ (y : ℕ) (z : List Outcome). model.charged y k z) (sym pk) runs-same in
     let m₁ = m .first in let m₂ = m .second in
     record { first = omega arith; second = omega arith }
+
+-- ------------------------------------------------------------------ by what a host sees
+
+open-step : (o : plain.Options) (j k : ℕ) (c : Call) (s : State) → Good s → Turn c s → BothOpen o j k (queueOf s) → BothOpen o j k (queueOf (step c s .next))
+open-step o j k c s g t b = subst (BothOpen o j k) (sym (step-link c s g (t .typed) .next-is)) (open-on o j k (callOf (length (s .store)) c) (queueOf s) b (turn-link c s g t))
+
+open-after : (o : plain.Options) (j k : ℕ) (cs : List Call) (s : State) → Good s → Turns cs s → BothOpen o j k (queueOf s) → BothOpen o j k (queueOf (runs.after cs s))
+unfolding runs.after
+open-after o j k [] s g t b = b
+open-after o j k (c ∷ cs) s g t b = open-after o j k cs (step c s .next) (step-link c s g (t .0 .typed) .good) (t .1) (open-step o j k c s g (t .0) b)
+
+above-wait : (o : plain.Options) (j k : ℕ) (s : State) → Good s → BothOpen o j k (queueOf s) → (0 < valueOf (amountOf (s .words) j)) × (0 < valueOf (amountOf (s .words) k))
+    → (is-waiting j (queueOf s) ≡ true) × (is-waiting k (queueOf s) ≡ true)
+above-wait o j k s g b l = both-wait o j k (queueOf s) b (subst (λ (n : ℕ). 0 < n) (value-is s j g) (l .0), subst (λ (n : ℕ). 0 < n) (value-is s k g) (l .1))
+
+always-wait : (o : plain.Options) (j k : ℕ) (cs : List Call) (s : State) → Good s → BothOpen o j k (queueOf s) → Turns cs s → AlwaysAbove j k cs s → AlwaysWait j k cs s
+always-wait o j k [] s g b t l = above-wait o j k s g b l
+always-wait o j k (c ∷ cs) s g b t l = (above-wait o j k s g b (l .0), always-wait o j k cs (step c s .next) (step-link c s g (t .0 .typed) .good) (open-step o j k c s g (t .0) b) (t .1) (l .1))
+
+pub request11-seen : Request11-seen
+unfolding Request11-seen Request11-turns
+request11-seen a len s before during j k p r c x y t l =
+    let n = stands a len s (c .reached) in
+    let g = n .good in
+    let o : plain.Options = optionsWith a len in
+    let u : Turns before s = turns-before before during s t in
+    let b = open-after o j k before s g u (record { reached = n .reachable; first-open = x; second-open = y }) in
+    request11-turns a len s before during j k p r c t (always-wait o j k during (runs.after before s) (run-link before s g (all-typed-turns before s u) .good) b (turns-after before during s t) l)

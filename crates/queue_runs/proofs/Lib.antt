@@ -14,4 +14,5 @@ pub mod Ties
 pub mod Listed
 pub mod OtherStore
 pub mod Account
+pub mod Waiting
 pub mod FairTurns

@@ -1,5 +1,5 @@
 -- Fair turns (request 11/13, second half), on the words and the store that the calls leave. Assumes nothing.
-use Prim.Native.Nat.{ℕ, _+_}
+use Prim.Native.Nat.{ℕ, _+_, _<_}
 use mathlib.Core.Path.{_≡_}
 use mathlib.Core.Bool.{true}
 use mathlib.Core.List.{List, [], _∷_, _++_}
@@ -7,9 +7,10 @@ use Rattle.types.specs.Keys.{key-id}
 use Rattle.queue_model.specs.Types.{weighted}
 use Rattle.queue_model.specs.Scheduler.{cost}
 use Rattle.queue_model.specs.Account.{for-stream}
-use Rattle.queue_model.specs.FairTurns.{none-expired, times-below, is-waiting, Within}
+use Rattle.queue_model.specs.Waiting.{is-waiting}
+use Rattle.queue_model.specs.FairTurns.{none-expired, times-below, Within, Open}
 use Rattle.queue_words.specs.Header.{optionsAt, totalsAt}
-use Rattle.queue_questions.specs.Questions.{priorityOf, emptyOf}
+use Rattle.queue_questions.specs.Questions.{priorityOf, amountOf, emptyOf}
 use Rattle.queue_streams.specs.declared.answers.Number.the-variants as number-answer
 use Rattle.queue_messages.specs.declared.message.Message.{Message}
 use Rattle.queue_sending.specs.declared.data.Produced.{Produced}
@@ -19,6 +20,7 @@ use Rattle.queue_runs.specs.Run.{State, step, run, after}
 use Rattle.queue_runs.specs.Meaning.{queueOf}
 use Rattle.queue_runs.specs.Creation.{Arguments}
 use Rattle.queue_runs.specs.Demand3.{Reached}
+use Rattle.queue_runs.specs.Account.{valueOf}
 
 -- ------------------------------------------------------------------ the run
 
@@ -65,16 +67,40 @@ unfolding cost for-stream
 charged p k [] = 0
 charged p k (o ∷ os) = charge p k (o .answer) + charged p k os
 
+-- "the costs charged to them differ by at most the cost of one full fragment of each": by at most the sum of both. p and r are the priorities of j and k.
+abbrev pub FairShare : ℕ → ℕ → ℕ → ℕ → ℕ → List Call → State → Type 0
+FairShare limit j p k r during s = Within (cost (weighted p) limit + cost (weighted r) limit) (charged p j (run during s)) (charged r k (run during s))
+
 -- ------------------------------------------------------------------ the claim
 
--- "The second starts at an empty queue, interleaving on, priorities fixed, with only adds and next fragments of exactly the payload limit in size, no expiry and finish
--- times below 2^64 - 1. Over any stretch in which two streams always wait, the costs charged to them differ by at most the cost of one full fragment of each." The priorities are
--- those that the question answers at the start.
+-- "The second starts at an empty queue, interleaving on, priorities fixed": any queue without messages that creation and calls lead to, and the priorities that the question answers there; no call of the run sets one.
+pub record Starts (a : Arguments) (len : ℕ) (j p k r : ℕ) (s : State) : Type 0 where
+  pub reached : Reached a len s
+  pub empty : emptyOf (s .words) ≡ true
+  pub interleaved : totalsAt (s .words) .interleaving ≡ true
+  pub first-priority : priorityOf (s .words) j ≡ number-answer.Value p
+  pub second-priority : priorityOf (s .words) k ≡ number-answer.Value r
+
+-- "with only adds and next fragments of exactly the payload limit in size, no expiry and finish times below 2^64 - 1. Over any stretch in which two streams always wait, the costs charged to them differ by at most
+-- the cost of one full fragment of each."
 unfoldable pub Request11-turns : Type 0
 unfolding charged cost
 Request11-turns =
     (a : Arguments) (len : ℕ) (s : State) (before during : List Call) (j k p r : ℕ)
-    → Reached a len s → emptyOf (s .words) ≡ true → totalsAt (s .words) .interleaving ≡ true
-    → priorityOf (s .words) j ≡ number-answer.Value p → priorityOf (s .words) k ≡ number-answer.Value r
-    → Turns (before ++ during) s → AlwaysWait j k during (after before s)
-    → Within (cost (weighted p) (a .limit) + cost (weighted r) (a .limit)) (charged p j (run during (after before s))) (charged r k (run during (after before s)))
+    → Starts a len j p k r s → Turns (before ++ during) s → AlwaysWait j k during (after before s)
+    → FairShare (a .limit) j p k r during (after before s)
+
+-- ------------------------------------------------------------------ the same, by what a host sees
+
+-- The question answers an amount above 0 for both, before each call of the stretch and after the last.
+abbrev pub AlwaysAbove : ℕ → ℕ → List Call → State → Type 0
+AlwaysAbove j k [] s = (0 < valueOf (amountOf (s .words) j)) × (0 < valueOf (amountOf (s .words) k))
+AlwaysAbove j k (c ∷ cs) s = ((0 < valueOf (amountOf (s .words) j)) × (0 < valueOf (amountOf (s .words) k))) × AlwaysAbove j k cs (step c s .next)
+
+-- Two streams that are open where the run starts, as those are that the host has not closed, always wait while their amounts are above 0.
+unfoldable pub Request11-seen : Type 0
+unfolding charged cost
+Request11-seen =
+    (a : Arguments) (len : ℕ) (s : State) (before during : List Call) (j k p r : ℕ)
+    → Starts a len j p k r s → Open j (queueOf s) → Open k (queueOf s) → Turns (before ++ during) s → AlwaysAbove j k during (after before s)
+    → FairShare (a .limit) j p k r during (after before s)

@@ -7,4 +7,5 @@ pub mod Refusals
 pub mod Demand3
 pub mod Numbers
 pub mod Account
+pub mod Waiting
 pub mod FairTurns

@@ -16,7 +16,8 @@ use Rattle.queue_model.specs.Amounts.{sent-events}
 use Rattle.queue_model.specs.Questions.{priority-of}
 use Rattle.queue_model.specs.Add.{new-item, starts-waiting, started, added, add-checks}
 use Rattle.queue_model.specs.Produce.{Look, nothing, chosen, look-expired, look-at, look-for, look, numbered, make-fragment, end-pending, next-size, moved-on, handed-out-last, handed-out-part, handed-out, hand-out, after-look, pass-over, produce-checks}
-use Rattle.queue_model.specs.FairTurns.{none-expired, times-below, is-waiting, charge}
+use Rattle.queue_model.specs.Waiting.{is-waiting}
+use Rattle.queue_model.specs.FairTurns.{none-expired, times-below, charge}
 use Rattle.queue_model.proofs.Tests.{less, same, more, tri, holds, eqb-true}
 use Rattle.queue_model.proofs.Table.{found, missing, look-up, own, other, is-own, find-key, find-put-same, find-put-other, Every, every-find, every-own}
 use Rattle.queue_model.proofs.Checks.{or-left, or-right, not-most}
@@ -24,6 +25,7 @@ use Rattle.queue_model.proofs.Scheduler.{reschedule-of}
 use Rattle.queue_model.proofs.Streams.{at-found, at-id, size-at, size-at-at}
 use Rattle.queue_model.proofs.Invariant.Waits.{Listed, peek-in}
 use Rattle.queue_model.proofs.Invariant.Well.{Well}
+use Rattle.queue_model.proofs.Invariant.Fine.{no-items}
 use Rattle.queue_model.proofs.Invariant.Sends.{Chosen, head-for, head-of-at, head-kept, head-well, numbers-well}
 use Rattle.queue_model.proofs.Calm.Calm.{HeadAt}
 use Rattle.queue_model.proofs.Account.Ledger.{for-own, for-other}
@@ -72,11 +74,6 @@ unfolding weight-of
 weight-on il s e = ap (λ (b : Bool). weight-of b s) e
 
 -- ---- add
-
-no-items : (is : List Item) → some-items is ≡ false → head-size is ≡ 0
-unfolding some-items head-size
-no-items [] e = refl
-no-items (i ∷ is) e = let z : _≡_ {A = ℕ} 0 1 = cc in absurd (omega arith)
 
 no-head : (s : Stream) → has-items s ≡ false → head-size (s .items) ≡ 0
 unfolding has-items

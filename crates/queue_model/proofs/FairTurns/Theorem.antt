@@ -6,39 +6,34 @@ use mathlib.Core.Option.{Option, none, some}
 use Prim.Native.Nat.{ℕ, _+_, _≤_}
 use native.Mathlib.Omega.{arith}
 use lib.Dec.{eqb, eqb→eq}
-use Rattle.queue_model.specs.Types.{Stream, weighted, Options, Queue}
-use Rattle.queue_model.specs.Scheduler.{cost, active-key}
-use Rattle.queue_model.specs.Streams.{stream-key}
-use Rattle.queue_model.specs.Questions.{priority-of, is-empty}
+use Rattle.queue_model.specs.Logic.{is-some}
+use Rattle.queue_model.specs.Types.{weighted, Options, Queue}
+use Rattle.queue_model.specs.Scheduler.{cost, active-key, find-active}
+use Rattle.queue_model.specs.Questions.{priority-of, amount-of, is-empty}
 use Rattle.queue_model.specs.Run.{Call, step, run, after}
-use Rattle.queue_model.specs.FairTurns.{Allowed, adds, sends, times-below, Turn, Turns, is-waiting, AlwaysWait, charged, full-cost, Within, Request11-turns}
+use Rattle.queue_model.specs.Waiting.{is-waiting}
+use Rattle.queue_model.specs.FairTurns.{Allowed, adds, sends, times-below, Turn, Turns, AlwaysWait, charged, full-cost, Within, FairShare, Request11-turns}
 use Rattle.queue_model.proofs.Tests.{holds, less, same, more, tri}
-use Rattle.queue_model.proofs.Table.{found, missing, look-up, empty, first, split, Every, every-find, find-key, not-in-nil}
-use Rattle.queue_model.proofs.Streams.{at-found, unsent-bytes}
-use Rattle.queue_model.proofs.Invariant.Waits.{Listed, Remembers}
-use Rattle.queue_model.proofs.Invariant.Well.{Kept, Well, amount-le}
-use Rattle.queue_model.proofs.Invariant.Sends.{head-for}
+use Rattle.queue_model.proofs.Table.{found, missing, look-up, empty, first, split, Every, every-find, find-key, find-here, not-in-nil}
+use Rattle.queue_model.proofs.Invariant.Waits.{Remembers}
+use Rattle.queue_model.proofs.Invariant.Well.{Well, amount-le}
 use Rattle.queue_model.proofs.Invariant.Sixteen.{fine-step, reachable-well}
+use Rattle.queue_model.proofs.Invariant.Serving.{waits-above}
 use Rattle.queue_model.proofs.FairTurns.Entries.{Fair, FairTimes, finish-most}
 use Rattle.queue_model.proofs.FairTurns.Starts.{start-at, start-found, some-there}
 use Rattle.queue_model.proofs.FairTurns.Steps.{FairQueue, Goes, goes-add, goes-produce}
 
 -- ---- the start: an empty queue
 
--- A stream that waits has bytes to send, so on an empty queue none does.
+-- A stream that waits has an amount above 0, so on an empty queue none does.
 empty-idle : (q : Queue) → Well q → is-empty q ≡ true → q .scheduler .active ≡ []
-unfolding is-empty
+unfolding is-empty is-waiting amount-of
 empty-idle q w e = elim (split (q .scheduler .active)) [
   | empty g ↦ g
-  | first a as′ g ↦ (let l : Listed (q .interleaving) (q .streams) a = (subst (Every (Listed (q .interleaving) (q .streams))) g (w .waits .sched .every)) .0 in
-      let h = head-for (q .interleaving) (q .streams) a l in
-      let f = h .for-head .found in
-      let k = every-find stream-key Kept (a .stream-id) (h .for-stream) (q .streams) (w .kept) f in
-      let c = k .counted in
-      let u : unsent-bytes (h .for-stream .items) ≡ unsent-bytes (h .for-item ∷ h .for-rest) = ap unsent-bytes (h .for-head .items) in
-      let m : h .for-stream .amount ≤ q .total = subst (λ (x : Stream). x .amount ≤ q .total) (at-found (q .options) (q .streams) (a .stream-id) (h .for-stream) f) (amount-le q (a .stream-id) w) in
-      let z : q .total ≡ 0 = eqb→eq (q .total) 0 (holds (eqb (q .total) 0) e) in
-      let p = l .positive in let s = h .for-size in absurd (omega arith))
+  | first a as′ g ↦ (let h : is-waiting (a .stream-id) q ≡ true = ap is-some (ap (find-active (a .stream-id)) g ∙ find-here active-key (a .stream-id) a as′ refl) in
+      let l = waits-above q (a .stream-id) w h in
+      let m = amount-le q (a .stream-id) w in
+      let z : q .total ≡ 0 = eqb→eq (q .total) 0 (holds (eqb (q .total) 0) e) in absurd (omega arith))
 ]
 
 nobody-of : (c : Option ℕ) → Remembers c [] → c ≡ none
@@ -143,17 +138,16 @@ within-same n a = record { first = omega arith; second = omega arith }
 
 pub request11-turns : Request11-turns
 unfolding Request11-turns
-request11-turns o q before during j k r e i t a = elim (tri j k) [
+request11-turns o q before during j k s t a = elim (tri j k) [
   | less l ↦ apart (λ g. omega arith)
-  | same g ↦ subst (λ (x : ℕ). Within (full-cost j q + full-cost x q) (charged (priority-of q j) j (run during (after before q))) (charged (priority-of q x) x (run during (after before q)))) g
-      (within-same (full-cost j q + full-cost j q) (charged (priority-of q j) j (run during (after before q))))
+  | same g ↦ subst (λ (x : ℕ). FairShare q j x during (after before q)) g (within-same (full-cost j q + full-cost j q) (charged (priority-of q j) j (run during (after before q))))
   | more l ↦ apart (λ g. omega arith)
 ]
   where
-    apart : (j ≡ k → ⊥) → Within (full-cost j q + full-cost k q) (charged (priority-of q j) j (run during (after before q))) (charged (priority-of q k) k (run during (after before q)))
+    apart : (j ≡ k → ⊥) → FairShare q j k during (after before q)
     apart d =
-        let w = reachable-well r in
-        let b = way-before (q .options) (priority-of q) before during q (record { well = w; options = refl; fair = fair-empty q w e i }) t in
+        let w = reachable-well (s .reachable) in
+        let b = way-before (q .options) (priority-of q) before during q (record { well = w; options = refl; fair = fair-empty q w (s .empty) (s .interleaved) }) t in
         let m = moved-over (q .options) (priority-of q) j k during (after before q) d (b .0) (b .1) a in
         let n = first-waits j k during (after before q) a in
         let x = near (q .options) (priority-of q) j (after before q) (b .0) (n .0) in

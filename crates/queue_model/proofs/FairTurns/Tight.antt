@@ -13,7 +13,8 @@ use Rattle.queue_model.specs.Refusals.{create-refusal}
 use Rattle.queue_model.specs.Questions.{priority-of, is-empty}
 use Rattle.queue_model.specs.Run.{Call, add, produce, set-interleaving, step, run, after}
 use Rattle.queue_model.specs.Demands.{Reachable, created, called, fresh}
-use Rattle.queue_model.specs.FairTurns.{Allowed, adds, sends, none-expired, times-below, Turn, Turns, is-waiting, AlwaysWait, charged, full-cost}
+use Rattle.queue_model.specs.Waiting.{is-waiting}
+use Rattle.queue_model.specs.FairTurns.{Allowed, adds, sends, none-expired, times-below, Turn, Turns, AlwaysWait, charged, full-cost}
 
 -- Payload limit 1, default priority 1: a full fragment costs 1,000,000.
 abbrev pub options : Options

@@ -453,11 +453,11 @@ kept-rest : (is : List Item) → WellRest is → kept is ≡ []
 kept-rest [] w = unfold kept in refl
 kept-rest (i ∷ is) w = kept-whole i is (w .0 .no-offset (w .1 .0)) ∙ kept-rest is (w .1 .1)
 
-data Keeps (is : List Item) : Type 0 where
+pub data Keeps (is : List Item) : Type 0 where
   keeps-none : kept is ≡ [] → Keeps is
   keeps-first : (i : Item) (rest : List Item) → is ≡ i ∷ rest → kept is ≡ i ∷ [] → Keeps is
 
-keeps : (is : List Item) → WellItems is → Keeps is
+pub keeps : (is : List Item) → WellItems is → Keeps is
 keeps [] w = keeps-none (unfold kept in refl)
 keeps (i ∷ is) w = elim (tri 0 (i .offset)) [
   | less l ↦ keeps-first i is refl (kept-part i is (λ e. omega arith) ∙ ap (λ (l : List Item). i ∷ l) (kept-rest is (w .1)))
@@ -471,7 +471,7 @@ kept-well is w = elim (keeps is w) [
   | keeps-first i rest e f ↦ subst WellItems (sym f) ((subst WellItems e w) .0, tt)
 ]
 
-no-items : (is : List Item) → some-items is ≡ false → head-size is ≡ 0
+pub no-items : (is : List Item) → some-items is ≡ false → head-size is ≡ 0
 unfolding some-items head-size
 no-items [] e = refl
 no-items (i ∷ is) e = let z : _≡_ {A = ℕ} 0 1 = cc in absurd (omega arith)

@@ -55,7 +55,7 @@ Holds k as′ = (a : Active) × (find-active k as′ ≡ some a)
 pub holds-put-own : (a : Active) (as′ : List Active) → Holds (a .stream-id) (put-active a as′)
 holds-put-own a as′ = (a, find-put-same active-key a as′)
 
-holds-put : (k : ℕ) (a : Active) (as′ : List Active) → Holds k as′ → Holds k (put-active a as′)
+pub holds-put : (k : ℕ) (a : Active) (as′ : List Active) → Holds k as′ → Holds k (put-active a as′)
 holds-put k a as′ h = elim (is-own active-key a k) [
   | own g ↦ subst (λ (x : ℕ). Holds x (put-active a as′)) g (holds-put-own a as′)
   | other n ↦ (h .0, find-put-other active-key k a as′ n ∙ h .1)
