@@ -46,10 +46,10 @@ Turns (c ∷ cs) q = Turn c q × Turns cs ((step c q) .next)
 
 -- ------------------------------------------------------------------ the stretch
 
--- "any stretch in which two streams always wait": before each of its calls and after the last. A call that hands out a last fragment and lets the stream begin anew with the
--- message behind it does not end the stretch.
+-- "any stretch in which two streams always wait": when each of its calls is made. So its last call may be the one that ends a stream's waiting; one that hands out a last fragment and lets the stream begin anew with
+-- the message behind it does not end the stretch.
 abbrev pub AlwaysWait : ℕ → ℕ → List Call → Queue → Type 0
-AlwaysWait j k [] q = (is-waiting j q ≡ true) × (is-waiting k q ≡ true)
+AlwaysWait j k [] q = Unit {0}
 AlwaysWait j k (c ∷ cs) q = ((is-waiting j q ≡ true) × (is-waiting k q ≡ true)) × AlwaysWait j k cs ((step c q) .next)
 
 -- ------------------------------------------------------------------ the costs
@@ -108,9 +108,9 @@ Request11-turns =
 
 -- ------------------------------------------------------------------ the same, by what a host sees
 
--- The amounts of both are above 0, before each call of the stretch and after the last.
+-- The amounts of both are above 0 when each call of the stretch is made.
 abbrev pub AlwaysAbove : ℕ → ℕ → List Call → Queue → Type 0
-AlwaysAbove j k [] q = (0 < amount-of q j) × (0 < amount-of q k)
+AlwaysAbove j k [] q = Unit {0}
 AlwaysAbove j k (c ∷ cs) q = ((0 < amount-of q j) × (0 < amount-of q k)) × AlwaysAbove j k cs ((step c q) .next)
 
 abbrev pub Open : ℕ → Queue → Type 0

@@ -174,7 +174,7 @@ above-wait : (o : plain.Options) (j k : ℕ) (s : State) → Good s → BothOpen
 above-wait o j k s g b l = both-wait o j k (queueOf s) b (subst (λ (n : ℕ). 0 < n) (value-is s j g) (l .0), subst (λ (n : ℕ). 0 < n) (value-is s k g) (l .1))
 
 always-wait : (o : plain.Options) (j k : ℕ) (cs : List Call) (s : State) → Good s → BothOpen o j k (queueOf s) → Turns cs s → AlwaysAbove j k cs s → AlwaysWait j k cs s
-always-wait o j k [] s g b t l = above-wait o j k s g b l
+always-wait o j k [] s g b t l = tt
 always-wait o j k (c ∷ cs) s g b t l = (above-wait o j k s g b (l .0), always-wait o j k cs (step c s .next) (step-link c s g (t .0 .typed) .good) (open-step o j k c s g (t .0) b) (t .1) (l .1))
 
 pub request11-seen : Request11-seen

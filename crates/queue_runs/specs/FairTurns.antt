@@ -39,9 +39,9 @@ abbrev pub Turns : List Call → State → Type 0
 Turns [] s = Unit {0}
 Turns (c ∷ cs) s = Turn c s × Turns cs (step c s .next)
 
--- "any stretch in which two streams always wait": before each of its calls and after the last.
+-- "any stretch in which two streams always wait": when each of its calls is made.
 abbrev pub AlwaysWait : ℕ → ℕ → List Call → State → Type 0
-AlwaysWait j k [] s = (is-waiting j (queueOf s) ≡ true) × (is-waiting k (queueOf s) ≡ true)
+AlwaysWait j k [] s = Unit {0}
 AlwaysWait j k (c ∷ cs) s = ((is-waiting j (queueOf s) ≡ true) × (is-waiting k (queueOf s) ≡ true)) × AlwaysWait j k cs (step c s .next)
 
 -- ------------------------------------------------------------------ the costs
@@ -92,9 +92,9 @@ Request11-turns =
 
 -- ------------------------------------------------------------------ the same, by what a host sees
 
--- The question answers an amount above 0 for both, before each call of the stretch and after the last.
+-- The question answers an amount above 0 for both when each call of the stretch is made.
 abbrev pub AlwaysAbove : ℕ → ℕ → List Call → State → Type 0
-AlwaysAbove j k [] s = (0 < valueOf (amountOf (s .words) j)) × (0 < valueOf (amountOf (s .words) k))
+AlwaysAbove j k [] s = Unit {0}
 AlwaysAbove j k (c ∷ cs) s = ((0 < valueOf (amountOf (s .words) j)) × (0 < valueOf (amountOf (s .words) k))) × AlwaysAbove j k cs (step c s .next)
 
 -- Two streams that are open where the run starts, as those are that the host has not closed, always wait while their amounts are above 0.

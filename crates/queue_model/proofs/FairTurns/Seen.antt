@@ -100,7 +100,7 @@ pub both-wait : (o : Options) (j k : ℕ) (q : Queue) → BothOpen o j k q → (
 both-wait o j k q b l = (above-waits o j q (b .reached) (b .first-open) (l .0), above-waits o k q (b .reached) (b .second-open) (l .1))
 
 always-wait : (o : Options) (j k : ℕ) (cs : List Call) (q : Queue) → BothOpen o j k q → Turns cs q → AlwaysAbove j k cs q → AlwaysWait j k cs q
-always-wait o j k [] q b t l = both-wait o j k q b l
+always-wait o j k [] q b t l = tt
 always-wait o j k (c ∷ cs) q b t l = (both-wait o j k q b (l .0), always-wait o j k cs ((step c q) .next) (open-on o j k c q b (t .0)) (t .1) (l .1))
 
 -- ---- the theorem

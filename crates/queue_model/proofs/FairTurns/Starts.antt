@@ -9,27 +9,34 @@ use Rattle.queue_model.specs.Logic.{if_then_else_, is-some}
 use Rattle.queue_model.specs.Types.{Weight, Active, Scheduler}
 use Rattle.queue_model.specs.Scheduler.{moved, scheduled, active-key, find-active, put-active, without-active, rest-time, remove-stream, start-of, set-bytes-remaining, accept-last, accept-part, accept}
 use Rattle.queue_model.proofs.Tests.{leb-true, leb-false, less, same, more, tri}
-use Rattle.queue_model.proofs.Table.{find-nil, find-put-same, find-put-other, find-without-same, find-without-other}
+use Rattle.queue_model.proofs.Table.{found, missing, look-up, find-nil, find-put-same, find-put-other, find-without-same, find-without-other}
 use Rattle.queue_model.proofs.Scheduler.{set-none, set-some}
 use Rattle.queue_model.proofs.Invariant.Waits.{scheduled-id}
 use Rattle.queue_model.proofs.FairTurns.Entries.{scheduled-start}
 
--- A stream's start, 0 where it does not wait.
+-- A stream's start; where it does not wait, the system time, at which it would begin.
 pub start-at : ℕ → Scheduler → ℕ
-start-at k sc = start-of 0 (find-active k (sc .active))
+start-at k sc = start-of (sc .system-time) (find-active k (sc .active))
 
 pub start-found : (k : ℕ) (sc : Scheduler) (a : Active) → find-active k (sc .active) ≡ some a → start-at k sc ≡ a .start
 unfolding start-at start-of
-start-found k sc a e = ap (start-of 0) e
+start-found k sc a e = ap (start-of (sc .system-time)) e
 
-pub start-same : (k : ℕ) (sc sc′ : Scheduler) → find-active k (sc′ .active) ≡ find-active k (sc .active) → start-at k sc′ ≡ start-at k sc
-unfolding start-at
-start-same k sc sc′ e = ap (start-of 0) e
+pub start-missing : (k : ℕ) (sc : Scheduler) → find-active k (sc .active) ≡ none → start-at k sc ≡ sc .system-time
+unfolding start-at start-of
+start-missing k sc e = ap (start-of (sc .system-time)) e
 
 -- An entry that is there, and none.
 pub some-there : (k : ℕ) (as′ : List Active) → is-some (find-active k as′) ≡ true → find-active k as′ ≡ none → ⊥
 unfolding is-some
 some-there k as′ t e = let f : is-some (find-active k as′) ≡ false = ap is-some e in let z : _≡_ {A = ℕ} 0 1 = cc in omega arith
+
+-- A stream that waits and keeps its entry keeps its start.
+pub start-same : (k : ℕ) (sc sc′ : Scheduler) → is-some (find-active k (sc .active)) ≡ true → find-active k (sc′ .active) ≡ find-active k (sc .active) → start-at k sc′ ≡ start-at k sc
+start-same k sc sc′ h e = elim (look-up active-key k (sc .active)) [
+  | found a f ↦ start-found k sc′ a (e ∙ f) ∙ sym (start-found k sc a f)
+  | missing f ↦ absurd (some-there k (sc .active) h f)
+]
 
 -- ---- letting a stream wait
 
@@ -49,11 +56,21 @@ find-set-other j (suc m) w k sc n =
     ap (λ (x : Scheduler). find-active k (x .active)) (set-some j (suc m) w sc (omega arith))
     ∙ find-put-other active-key k (scheduled (sc .payload-limit) j w t (suc m)) (sc .active) (λ g. n (sym (scheduled-id (sc .payload-limit) j w t (suc m)) ∙ g))
 
--- A stream that did not wait starts at the system time, if it waits now.
-pub start-anew : (k n : ℕ) (w : Weight) (sc : Scheduler) → find-active k (sc .active) ≡ none → is-some (find-active k ((set-bytes-remaining k n w sc) .active)) ≡ true → start-at k (set-bytes-remaining k n w sc) ≡ sc .system-time
+-- The system time stays while a stream waits.
+rest-kept : (j t : ℕ) (as′ : List Active) → is-some (find-active j as′) ≡ true → rest-time t as′ ≡ t
+unfolding rest-time
+rest-kept j t [] h = absurd (some-there j [] h (find-nil active-key j))
+rest-kept j t (b ∷ bs) h = refl
+
+remove-time : (j k : ℕ) (sc : Scheduler) → (j ≡ k → ⊥) → is-some (find-active j (sc .active)) ≡ true → (remove-stream k sc) .system-time ≡ sc .system-time
+unfolding remove-stream
+remove-time j k sc d h = rest-kept j (sc .system-time) (without-active k (sc .active)) (ap is-some (find-without-other active-key j k (sc .active) d) ∙ h)
+
+-- A stream that did not wait starts at the system time, if it waits now or not, while another one waits.
+pub start-anew : (j k n : ℕ) (w : Weight) (sc : Scheduler) → (j ≡ k → ⊥) → is-some (find-active j (sc .active)) ≡ true → find-active k (sc .active) ≡ none → start-at k (set-bytes-remaining k n w sc) ≡ sc .system-time
 unfolding start-of
-start-anew k zero w sc e h = absurd (some-there k ((set-bytes-remaining k zero w sc) .active) h (ap (λ (x : Scheduler). find-active k (x .active)) (set-none k w sc) ∙ find-remove-same k sc))
-start-anew k (suc m) w sc e h =
+start-anew j k zero w sc d h e = ap (start-at k) (set-none k w sc) ∙ start-missing k (remove-stream k sc) (find-remove-same k sc) ∙ remove-time j k sc d h
+start-anew j k (suc m) w sc d h e =
     let t : ℕ = start-of (sc .system-time) (find-active k (sc .active)) in
     let a : Active = scheduled (sc .payload-limit) k w t (suc m) in
     let i : a .stream-id ≡ k = scheduled-id (sc .payload-limit) k w t (suc m) in
@@ -107,16 +124,7 @@ module _ (a : Active) (n : ℕ) (sc : Scheduler) where
   unfolding accept-last
   accept-last-gone l = ap (λ (x : Scheduler). find-active (a .stream-id) (x .active)) (last-is l) ∙ find-remove-same (a .stream-id) (record { payload-limit = sc .payload-limit; current = some (a .stream-id); system-time = moved a n; active = sc .active })
 
-  rest-kept : (j t : ℕ) (as′ : List Active) → is-some (find-active j as′) ≡ true → rest-time t as′ ≡ t
-  unfolding rest-time
-  rest-kept j t [] h = absurd (some-there j [] h (find-nil active-key j))
-  rest-kept j t (b ∷ bs) h = refl
-
-  last-time : (j : ℕ) → is-some (find-active j (without-active (a .stream-id) (sc .active))) ≡ true → (accept-last a n sc) .system-time ≡ moved a n
-  unfolding accept-last remove-stream
-  last-time j h = rest-kept j (moved a n) (without-active (a .stream-id) (sc .active)) h
-
   -- and the system time is its moved start if another stream waits.
   pub accept-last-time : (j : ℕ) → (j ≡ a .stream-id → ⊥) → is-some (find-active j (sc .active)) ≡ true → a .bytes-remaining ≤ n → (accept a n sc) .system-time ≡ moved a n
-  accept-last-time j d h l =
-      ap (λ (x : Scheduler). x .system-time) (last-is l) ∙ last-time j (ap is-some (find-without-other active-key j (a .stream-id) (sc .active) d) ∙ h)
+  unfolding accept-last
+  accept-last-time j d h l = ap (λ (x : Scheduler). x .system-time) (last-is l) ∙ remove-time j (a .stream-id) (record { payload-limit = sc .payload-limit; current = some (a .stream-id); system-time = moved a n; active = sc .active }) d h

@@ -41,16 +41,16 @@ pub record FairQueue (p : ℕ → ℕ) (q : Queue) : Type 0 where
   pub fixed : (k : ℕ) → priority-of q k ≡ p k
   pub times : FairTimes (q .options .payload-limit) p (q .scheduler)
 
--- A step to another, which moves the start of each stream that waits before and after it, beside another one, by what it charges.
+-- A step to another, which moves the start of each stream that waits before it, beside another one, by what it charges.
 pub record Goes (p : ℕ → ℕ) (q : Queue) (s : Step) : Type 0 where
   pub next-on : s .next .interleaving ≡ true
   pub next-fixed : (k : ℕ) → priority-of (s .next) k ≡ p k
   pub next-times : FairTimes (q .options .payload-limit) p (s .next .scheduler)
-  pub moves : (j k : ℕ) → (j ≡ k → ⊥) → is-waiting j q ≡ true → is-waiting k q ≡ true → is-waiting k (s .next) ≡ true → start-at k (s .next .scheduler) ≡ start-at k (q .scheduler) + charge (p k) k (s .outcome .answer)
+  pub moves : (j k : ℕ) → (j ≡ k → ⊥) → is-waiting j q ≡ true → is-waiting k q ≡ true → start-at k (s .next .scheduler) ≡ start-at k (q .scheduler) + charge (p k) k (s .outcome .answer)
 
 -- A refused call.
 goes-refused : (p : ℕ → ℕ) (q : Queue) → FairQueue p q → (r : ℕ) → Goes p q (refuse q r)
-goes-refused p q f r = record { next-on = f .on; next-fixed = f .fixed; next-times = f .times; moves = λ j k d a b c. omega arith }
+goes-refused p q f r = record { next-on = f .on; next-fixed = f .fixed; next-times = f .times; moves = λ j k d a b. omega arith }
 
 goes-checked : (p : ℕ → ℕ) (cs : List Check) (q : Queue) (s : Step) → FairQueue p q → Goes p q s → Goes p q (checked cs q s)
 unfolding checked refused-or
@@ -95,7 +95,7 @@ goes-added p now m q w f = record {
   next-on = f .on;
   next-fixed = λ k. priority-put (q .options) s′ (q .streams) (m .stream-id) k own-id refl ∙ f .fixed k;
   next-times = (go (starts-waiting (s .pause-state)) (has-items s) refl) .0;
-  moves = λ j k d a b c. (go (starts-waiting (s .pause-state)) (has-items s) refl) .1 k b;
+  moves = λ j k d a b. (go (starts-waiting (s .pause-state)) (has-items s) refl) .1 k b;
 }
   where
     s : Stream
@@ -119,7 +119,7 @@ goes-added p now m q w f = record {
           λ k h.
               let d : s .id ≡ k → ⊥ = λ c. some-there k (q .scheduler .active) h (ap (λ (x : ℕ). find-active x (q .scheduler .active)) (sym c) ∙ n′) in
               let a = ap (start-at k) r in
-              let b = start-same k (q .scheduler) (set-bytes-remaining (s .id) (head-size (s′ .items)) (weight-of (q .interleaving) s′) (q .scheduler)) (find-set-other (s .id) (head-size (s′ .items)) (weight-of (q .interleaving) s′) k (q .scheduler) d) in
+              let b = start-same k (q .scheduler) (set-bytes-remaining (s .id) (head-size (s′ .items)) (weight-of (q .interleaving) s′) (q .scheduler)) h (find-set-other (s .id) (head-size (s′ .items)) (weight-of (q .interleaving) s′) k (q .scheduler) d) in
               omega arith,
         )
     go true true e = (f .times, λ k h. omega arith)
@@ -259,18 +259,18 @@ module _ (p : ℕ → ℕ) (q : Queue) (w : Well q) (f : FairQueue p q) (below :
   charge-other : (k : ℕ) → (a .stream-id ≡ k → ⊥) → charge (p k) k (fragment (make-fragment s ((numbered (s .counters) i) .item) turn)) ≡ 0
   charge-other k d = for-other k ((make-fragment s ((numbered (s .counters) i) .item) turn) .stream-id) (cost (weighted (p k)) (length ((make-fragment s ((numbered (s .counters) i) .item) turn) .bytes))) (λ g. d (sym own-stream ∙ sym (fragment-stream s ((numbered (s .counters) i) .item) turn) ∙ g))
 
-  -- A scheduler after it moves starts rightly if others keep their entries and the stream itself, where it waits, has the moved start.
-  moves-by : (sc : Scheduler) (j k : ℕ) → (j ≡ k → ⊥) → is-waiting j q ≡ true → is-some (find-active k (sc .active)) ≡ true
+  -- A scheduler after it moves starts rightly if others keep their entries and the stream itself has the moved start.
+  moves-by : (sc : Scheduler) (j k : ℕ) → (j ≡ k → ⊥) → is-some (find-active k (q .scheduler .active)) ≡ true
       → ((a .stream-id ≡ k → ⊥) → find-active k (sc .active) ≡ find-active k (q .scheduler .active))
-      → (is-some (find-active (a .stream-id) (sc .active)) ≡ true → (j ≡ a .stream-id → ⊥) → start-at (a .stream-id) sc ≡ moved a turn)
+      → ((j ≡ a .stream-id → ⊥) → start-at (a .stream-id) sc ≡ moved a turn)
       → start-at k sc ≡ start-at k (q .scheduler) + charge (p k) k (fragment (make-fragment s ((numbered (s .counters) i) .item) turn))
-  moves-by sc j k d hj hk keeps moved′ = elim (is-own active-key a k) [
+  moves-by sc j k d hk keeps moved′ = elim (is-own active-key a k) [
     | own g ↦ (let x : start-at (a .stream-id) sc ≡ start-at k sc = ap (λ (y : ℕ). start-at y sc) g in
         let y : start-at (a .stream-id) (q .scheduler) ≡ start-at k (q .scheduler) = ap (λ (y : ℕ). start-at y (q .scheduler)) g in
         let u = start-found (a .stream-id) (q .scheduler) a chosen-found in
-        let v = moved′ (subst (λ (y : ℕ). is-some (find-active y (sc .active)) ≡ true) (sym g) hk) (λ z. d (z ∙ g)) in
+        let v = moved′ (λ z. d (z ∙ g)) in
         let m = moved-by in let t = charge-own k g in omega arith)
-    | other n ↦ (let x = start-same k (q .scheduler) sc (keeps n) in let t = charge-other k n in omega arith)
+    | other n ↦ (let x = start-same k (q .scheduler) sc hk (keeps n) in let t = charge-other k n in omega arith)
   ]
 
   -- A fragment that is not the last.
@@ -283,7 +283,7 @@ module _ (p : ℕ → ℕ) (q : Queue) (w : Well q) (f : FairQueue p q) (below :
         next-fixed = λ k. priority-put (q .options) (with-items (with-counters ((numbered (s .counters) i) .counters) s) (s .amount - turn) (moved-on ((numbered (s .counters) i) .item) turn ∷ is)) (q .streams) (a .stream-id) k own-stream
             (own-priority ∙ sym (f .fixed (a .stream-id))) ∙ f .fixed k;
         next-times = fair-part (q .options .payload-limit) p (q .scheduler) a (f .times) e (omega arith);
-        moves = λ j k d hj h hk. moves-by (accept a turn (q .scheduler)) j k d hj hk (accept-other a turn (q .scheduler) k) (λ y x. accept-part-start a turn (q .scheduler) (omega arith));
+        moves = λ j k d hj hk. moves-by (accept a turn (q .scheduler)) j k d hk (accept-other a turn (q .scheduler) k) (λ x. accept-part-start a turn (q .scheduler) (omega arith));
       }
 
   -- A last fragment, after which the stream begins anew or stops.
@@ -302,10 +302,10 @@ module _ (p : ℕ → ℕ) (q : Queue) (w : Well q) (f : FairQueue p q) (below :
         next-fixed = λ k. priority-put (q .options) (with-pause pause (with-items (with-counters ((numbered (s .counters) i) .counters) s) (s .amount - turn) is)) (q .streams) (a .stream-id) k own-stream
             (own-priority ∙ sym (f .fixed (a .stream-id))) ∙ f .fixed k;
         next-times = fair-set (q .options .payload-limit) p (s .id) (next-size pause is) v sc (fair-last (q .options .payload-limit) p (q .scheduler) a (f .times) e (omega arith)) gone′ g;
-        moves = λ j k d hj h hk. moves-by (set-bytes-remaining (s .id) (next-size pause is) v sc) j k d hj hk
+        moves = λ j k d hj hk. moves-by (set-bytes-remaining (s .id) (next-size pause is) v sc) j k d hk
             (λ n. find-set-other (s .id) (next-size pause is) v k sc (λ x. n (sym own-stream ∙ x)) ∙ accept-other a turn (q .scheduler) k n)
-            (λ y x. ap (λ (m : ℕ). start-at m (set-bytes-remaining (s .id) (next-size pause is) v sc)) (sym own-stream)
-            ∙ start-anew (s .id) (next-size pause is) v sc gone′ (subst (λ (m : ℕ). is-some (find-active m ((set-bytes-remaining (s .id) (next-size pause is) v sc) .active)) ≡ true) (sym own-stream) y)
+            (λ x. ap (λ (m : ℕ). start-at m (set-bytes-remaining (s .id) (next-size pause is) v sc)) (sym own-stream)
+            ∙ start-anew j (s .id) (next-size pause is) v sc (λ z. x (z ∙ own-stream)) (ap is-some (accept-other a turn (q .scheduler) j (λ z. x (sym z))) ∙ hj) gone′
             ∙ accept-last-time a turn (q .scheduler) j x hj (omega arith));
       }
 
@@ -324,5 +324,5 @@ module _ (p : ℕ → ℕ) (q : Queue) (w : Well q) (f : FairQueue p q) (below :
 pub goes-produce : (p : ℕ → ℕ) (store places buffer now size : ℕ) (q : Queue) → Well q → FairQueue p q → times-below q ≡ true → size ≡ q .options .payload-limit → none-expired now q ≡ true → Goes p q (Calls.produce store places buffer now size q)
 goes-produce p store places buffer now size q w f b g e =
     produce-is (Goes p q) store places buffer now size q w e (goes-refused p q f)
-    (record { next-on = f .on; next-fixed = f .fixed; next-times = f .times; moves = λ j k d x y z. omega arith })
+    (record { next-on = f .on; next-fixed = f .fixed; next-times = f .times; moves = λ j k d x y. omega arith })
     (λ a s i is h c. subst (λ (n : ℕ). Goes p q (sent-step (min (a .bytes-remaining) n) q a s i is)) (sym g) (goes-sent p q w f b a s i is h c))

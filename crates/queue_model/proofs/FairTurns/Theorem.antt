@@ -20,7 +20,7 @@ use Rattle.queue_model.proofs.Invariant.Well.{Well, amount-le}
 use Rattle.queue_model.proofs.Invariant.Sixteen.{fine-step, reachable-well}
 use Rattle.queue_model.proofs.Invariant.Serving.{waits-above}
 use Rattle.queue_model.proofs.FairTurns.Entries.{Fair, FairTimes, finish-most}
-use Rattle.queue_model.proofs.FairTurns.Starts.{start-at, start-found, some-there}
+use Rattle.queue_model.proofs.FairTurns.Starts.{start-at, start-found, start-missing}
 use Rattle.queue_model.proofs.FairTurns.Steps.{FairQueue, Goes, goes-add, goes-produce}
 
 -- ---- the start: an empty queue
@@ -92,38 +92,30 @@ way-before o p (c ∷ cs) during q y t = way-before o p cs during ((step c q) .n
 -- Over a stretch in which j and k wait, each start moves by what the stream is charged.
 record Moved (o : Options) (p : ℕ → ℕ) (j k : ℕ) (cs : List Call) (q : Queue) : Type 0 where
   way : Way o p (after cs q)
-  j-waits : is-waiting j (after cs q) ≡ true
-  k-waits : is-waiting k (after cs q) ≡ true
   j-moved : start-at j (after cs q .scheduler) ≡ start-at j (q .scheduler) + charged (p j) j (run cs q)
   k-moved : start-at k (after cs q .scheduler) ≡ start-at k (q .scheduler) + charged (p k) k (run cs q)
 
-first-waits : (j k : ℕ) (cs : List Call) (q : Queue) → AlwaysWait j k cs q → (is-waiting j q ≡ true) × (is-waiting k q ≡ true)
-first-waits j k [] q a = a
-first-waits j k (c ∷ cs) q a = a .0
-
 moved-over : (o : Options) (p : ℕ → ℕ) (j k : ℕ) (cs : List Call) (q : Queue) → (j ≡ k → ⊥) → Way o p q → Turns cs q → AlwaysWait j k cs q → Moved o p j k cs q
 unfolding after run charged
-moved-over o p j k [] q d y t a = record { way = y; j-waits = a .0; k-waits = a .1; j-moved = omega arith; k-moved = omega arith }
+moved-over o p j k [] q d y t a = record { way = y; j-moved = omega arith; k-moved = omega arith }
 moved-over o p j k (c ∷ cs) q d y t a =
     let g = goes p c q (y .well) (y .fair) (t .0) in
-    let n = first-waits j k cs ((step c q) .next) (a .1) in
     let m = moved-over o p j k cs ((step c q) .next) d (way-on o p c q y (t .0)) (t .1) (a .1) in
-    let x = g .moves k j (λ e. d (sym e)) (a .0 .1) (a .0 .0) (n .0) in
-    let z = g .moves j k d (a .0 .0) (a .0 .1) (n .1) in
+    let x = g .moves k j (λ e. d (sym e)) (a .0 .1) (a .0 .0) in
+    let z = g .moves j k d (a .0 .0) (a .0 .1) in
     let u = m .j-moved in let v = m .k-moved in
-    record { way = m .way; j-waits = m .j-waits; k-waits = m .k-waits; j-moved = omega arith; k-moved = omega arith }
+    record { way = m .way; j-moved = omega arith; k-moved = omega arith }
 
 -- ---- the bound
 
--- A stream that waits has started by the system time, at most a full fragment before it.
+-- A stream has started by the system time, at most a full fragment before it.
 record Near (o : Options) (p : ℕ → ℕ) (k : ℕ) (q : Queue) : Type 0 where
   low : start-at k (q .scheduler) ≤ q .scheduler .system-time
   high : q .scheduler .system-time ≤ start-at k (q .scheduler) + cost (weighted (p k)) (o .payload-limit)
 
-near : (o : Options) (p : ℕ → ℕ) (k : ℕ) (q : Queue) → Way o p q → is-waiting k q ≡ true → Near o p k q
-unfolding is-waiting
-near o p k q y h = elim (look-up active-key k (q .scheduler .active)) [
-  | missing e ↦ absurd (some-there k (q .scheduler .active) h e)
+near : (o : Options) (p : ℕ → ℕ) (k : ℕ) (q : Queue) → Way o p q → Near o p k q
+near o p k q y = elim (look-up active-key k (q .scheduler .active)) [
+  | missing e ↦ (let s = start-missing k (q .scheduler) e in record { low = omega arith; high = omega arith })
   | found a e ↦ (let f = every-find active-key (Fair (q .scheduler .system-time) (q .options .payload-limit) p) k a (q .scheduler .active) (y .fair .times .each) e in
       let s = start-found k (q .scheduler) a e in
       let l = f .started in let u = f .ahead in
@@ -149,11 +141,10 @@ request11-turns o q before during j k s t a = elim (tri j k) [
         let w = reachable-well (s .reachable) in
         let b = way-before (q .options) (priority-of q) before during q (record { well = w; options = refl; fair = fair-empty q w (s .empty) (s .interleaved) }) t in
         let m = moved-over (q .options) (priority-of q) j k during (after before q) d (b .0) (b .1) a in
-        let n = first-waits j k during (after before q) a in
-        let x = near (q .options) (priority-of q) j (after before q) (b .0) (n .0) in
-        let y = near (q .options) (priority-of q) k (after before q) (b .0) (n .1) in
-        let u = near (q .options) (priority-of q) j (after during (after before q)) (m .way) (m .j-waits) in
-        let v = near (q .options) (priority-of q) k (after during (after before q)) (m .way) (m .k-waits) in
+        let x = near (q .options) (priority-of q) j (after before q) (b .0) in
+        let y = near (q .options) (priority-of q) k (after before q) (b .0) in
+        let u = near (q .options) (priority-of q) j (after during (after before q)) (m .way) in
+        let v = near (q .options) (priority-of q) k (after during (after before q)) (m .way) in
         let x₁ = x .low in let x₂ = x .high in let y₁ = y .low in let y₂ = y .high in
         let u₁ = u .low in let u₂ = u .high in let v₁ = v .low in let v₂ = v .high in
         let m₁ = m .j-moved in let m₂ = m .k-moved in

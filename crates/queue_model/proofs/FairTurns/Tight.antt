@@ -84,7 +84,7 @@ turns = (
 
 pub waits : AlwaysWait 2 3 during (after before start)
 unfolding before during fresh step after is-waiting
-waits = ((refl, refl), ((refl, refl), (refl, refl)))
+waits = ((refl, refl), ((refl, refl), tt))
 
 -- And the costs differ by as much as they may.
 pub bound-reached : charged (priority-of start 2) 2 (run during (after before start)) ≡ charged (priority-of start 3) 3 (run during (after before start)) + (full-cost 2 start + full-cost 3 start)
