@@ -5,16 +5,15 @@ use mathlib.Core.Bool.{Bool, true, not}
 use mathlib.Core.List.{List, [], _∷_, _++_}
 use mathlib.Core.Path.{_≡_, refl}
 use lib.Dec.{leb}
-use lib.ListN.{length}
 use Rattle.queue_model.specs.Logic.{any}
-use Rattle.queue_model.specs.Types.{Item, not-paused, Stream, weighted, Active, Options, Queue, Message, Answer, refused, done, number, flag, ids, fragment, nothing-waits, Outcome, expired}
+use Rattle.queue_model.specs.Types.{Item, not-paused, Stream, weighted, Active, Options, Queue, Message, Answer, Outcome, expired}
 use Rattle.queue_model.specs.Scheduler.{cost}
 use Rattle.queue_model.specs.Streams.{stream-at}
 use Rattle.queue_model.specs.Refusals.{max-word}
 use Rattle.queue_model.specs.Questions.{priority-of, amount-of, is-empty}
 use Rattle.queue_model.specs.Run.{Call, add, produce, step, run, after}
 use Rattle.queue_model.specs.Demands.{Typed, Reachable}
-use Rattle.queue_model.specs.Account.{for-stream}
+use Rattle.queue_model.specs.Account.{for-stream, handed}
 use Rattle.queue_model.specs.Waiting.{is-waiting}
 
 -- ------------------------------------------------------------------ the run
@@ -54,15 +53,9 @@ AlwaysWait j k (c ∷ cs) q = ((is-waiting j q ≡ true) × (is-waiting k q ≡ 
 
 -- ------------------------------------------------------------------ the costs
 
--- What an answer charges to stream k, whose priority is p: the cost of the bytes of its fragment, "bytes × 1,000,000 / weight rounded down, weight 0 counting as 1".
+-- What an answer charges to stream k, whose priority is p: the cost of the bytes that it hands out, "bytes × 1,000,000 / weight rounded down, weight 0 counting as 1".
 abbrev pub charge : ℕ → ℕ → Answer → ℕ
-charge p k (refused r) = 0
-charge p k done = 0
-charge p k (number m) = 0
-charge p k (flag b) = 0
-charge p k (ids ks) = 0
-charge p k (fragment f) = for-stream k (f .stream-id) (cost (weighted p) (length (f .bytes)))
-charge p k nothing-waits = 0
+charge p k a = cost (weighted p) (handed k a)
 
 -- "the costs charged", from what the calls of a list show.
 unfoldable pub charged : ℕ → ℕ → List Outcome → ℕ

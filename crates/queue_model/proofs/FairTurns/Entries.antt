@@ -3,9 +3,9 @@ use mathlib.Core.Path.{_≡_, refl, sym, ap, _∙_, subst}
 use mathlib.Core.Bool.{Bool}
 use mathlib.Core.List.{List, [], _∷_}
 use mathlib.Core.Option.{Option, none, some}
-use Prim.Native.Nat.{ℕ, zero, suc, _+_, _-_, _*_, _≤_, _<_, min, max}
+use Prim.Native.Nat.{ℕ, zero, suc, _+_, _-_, _*_, _/_, _≤_, _<_, min, max}
 use native.Mathlib.Omega.{arith}
-use native.Mathlib.Nat.{div-mul-le-self, le-div-iff-mul-le}
+use native.Mathlib.Nat.{div-mul-le-self, le-div-iff-mul-le, div-lt-iff-lt-mul}
 use Rattle.queue_model.specs.Logic.{if_then_else_}
 use Rattle.queue_model.specs.Types.{Weight, weighted, Active, Scheduler}
 use Rattle.queue_model.specs.Scheduler.{saturating, cost, moved, scheduled, active-key, find-active, without-active, forget, rest-time, remove-stream, start-of, set-bytes-remaining, least, least-of, or-else, remembered, peek, remember, accept-last, accept-part, accept}
@@ -44,6 +44,12 @@ cost-rises w m n h =
     let d = div-mul-le-self (saturating (m * 1000000)) (max w 1) in
     let pos : zero < max w 1 = omega arith in
     (le-div-iff-mul-le pos) .1 (omega arith)
+
+pub cost-nothing : (w : ℕ) → cost (weighted w) 0 ≡ 0
+unfolding cost
+cost-nothing w =
+    let pos : zero < max w 1 = omega arith in
+    let l : saturating (0 * 1000000) / max w 1 < 1 = (div-lt-iff-lt-mul pos) .1 (omega arith) in omega arith
 
 -- A fair entry's finish is at most a full fragment after its start.
 pub finish-most : (t limit : ℕ) (p : ℕ → ℕ) (a : Active) → Fair t limit p a → a .finish ≤ a .start + cost (weighted (p (a .stream-id))) limit

@@ -29,7 +29,7 @@ use Rattle.queue_model.proofs.Invariant.Fine.{no-items}
 use Rattle.queue_model.proofs.Invariant.Sends.{Chosen, head-for, head-of-at, head-kept, head-well, numbers-well}
 use Rattle.queue_model.proofs.Calm.Calm.{HeadAt}
 use Rattle.queue_model.proofs.Account.Ledger.{for-own, for-other}
-use Rattle.queue_model.proofs.FairTurns.Entries.{Fair, FairTimes, fair-set, choice-fair, moved-is, fair-part, fair-last}
+use Rattle.queue_model.proofs.FairTurns.Entries.{Fair, FairTimes, cost-nothing, fair-set, choice-fair, moved-is, fair-part, fair-last}
 use Rattle.queue_model.proofs.FairTurns.Starts.{start-at, start-found, start-same, some-there, find-set-other, start-anew, accept-other, accept-part-start, accept-last-gone, accept-last-time}
 use Rattle.queue_model.specs.Calls
 
@@ -50,7 +50,7 @@ pub record Goes (p : ℕ → ℕ) (q : Queue) (s : Step) : Type 0 where
 
 -- A refused call.
 goes-refused : (p : ℕ → ℕ) (q : Queue) → FairQueue p q → (r : ℕ) → Goes p q (refuse q r)
-goes-refused p q f r = record { next-on = f .on; next-fixed = f .fixed; next-times = f .times; moves = λ j k d a b. omega arith }
+goes-refused p q f r = record { next-on = f .on; next-fixed = f .fixed; next-times = f .times; moves = λ j k d a b. let z = cost-nothing (p k) in omega arith }
 
 goes-checked : (p : ℕ → ℕ) (cs : List Check) (q : Queue) (s : Step) → FairQueue p q → Goes p q s → Goes p q (checked cs q s)
 unfolding checked refused-or
@@ -95,7 +95,7 @@ goes-added p now m q w f = record {
   next-on = f .on;
   next-fixed = λ k. priority-put (q .options) s′ (q .streams) (m .stream-id) k own-id refl ∙ f .fixed k;
   next-times = (go (starts-waiting (s .pause-state)) (has-items s) refl) .0;
-  moves = λ j k d a b. (go (starts-waiting (s .pause-state)) (has-items s) refl) .1 k b;
+  moves = λ j k d a b. let z = cost-nothing (p k) in let y = (go (starts-waiting (s .pause-state)) (has-items s) refl) .1 k b in omega arith;
 }
   where
     s : Stream
@@ -253,11 +253,11 @@ module _ (p : ℕ → ℕ) (q : Queue) (w : Well q) (f : FairQueue p q) (below :
   charge-own k g =
       let z = c .choice-size in
       let l : turn ≤ remaining i = omega arith in
-      for-own k ((make-fragment s ((numbered (s .counters) i) .item) turn) .stream-id) (cost (weighted (p k)) (length ((make-fragment s ((numbered (s .counters) i) .item) turn) .bytes))) (fragment-stream s ((numbered (s .counters) i) .item) turn ∙ own-stream ∙ g)
-      ∙ ap (cost (weighted (p k))) (fragment-length q (a .stream-id) s i is turn w (c .choice-head) l) ∙ ap (λ (x : ℕ). cost (weighted (p x)) turn) (sym g)
+      ap (cost (weighted (p k))) (for-own k ((make-fragment s ((numbered (s .counters) i) .item) turn) .stream-id) (length ((make-fragment s ((numbered (s .counters) i) .item) turn) .bytes)) (fragment-stream s ((numbered (s .counters) i) .item) turn ∙ own-stream ∙ g)
+      ∙ fragment-length q (a .stream-id) s i is turn w (c .choice-head) l) ∙ ap (λ (x : ℕ). cost (weighted (p x)) turn) (sym g)
 
   charge-other : (k : ℕ) → (a .stream-id ≡ k → ⊥) → charge (p k) k (fragment (make-fragment s ((numbered (s .counters) i) .item) turn)) ≡ 0
-  charge-other k d = for-other k ((make-fragment s ((numbered (s .counters) i) .item) turn) .stream-id) (cost (weighted (p k)) (length ((make-fragment s ((numbered (s .counters) i) .item) turn) .bytes))) (λ g. d (sym own-stream ∙ sym (fragment-stream s ((numbered (s .counters) i) .item) turn) ∙ g))
+  charge-other k d = ap (cost (weighted (p k))) (for-other k ((make-fragment s ((numbered (s .counters) i) .item) turn) .stream-id) (length ((make-fragment s ((numbered (s .counters) i) .item) turn) .bytes)) (λ g. d (sym own-stream ∙ sym (fragment-stream s ((numbered (s .counters) i) .item) turn) ∙ g))) ∙ cost-nothing (p k)
 
   -- A scheduler after it moves starts rightly if others keep their entries and the stream itself has the moved start.
   moves-by : (sc : Scheduler) (j k : ℕ) → (j ≡ k → ⊥) → is-some (find-active k (q .scheduler .active)) ≡ true
@@ -324,5 +324,5 @@ module _ (p : ℕ → ℕ) (q : Queue) (w : Well q) (f : FairQueue p q) (below :
 pub goes-produce : (p : ℕ → ℕ) (store places buffer now size : ℕ) (q : Queue) → Well q → FairQueue p q → times-below q ≡ true → size ≡ q .options .payload-limit → none-expired now q ≡ true → Goes p q (Calls.produce store places buffer now size q)
 goes-produce p store places buffer now size q w f b g e =
     produce-is (Goes p q) store places buffer now size q w e (goes-refused p q f)
-    (record { next-on = f .on; next-fixed = f .fixed; next-times = f .times; moves = λ j k d x y. omega arith })
+    (record { next-on = f .on; next-fixed = f .fixed; next-times = f .times; moves = λ j k d x y. let z = cost-nothing (p k) in omega arith })
     (λ a s i is h c. subst (λ (n : ℕ). Goes p q (sent-step (min (a .bytes-remaining) n) q a s i is)) (sym g) (goes-sent p q w f b a s i is h c))
