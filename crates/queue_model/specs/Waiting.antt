@@ -1,7 +1,7 @@
 -- What a host sees of waiting (request 11/13, "any stretch in which two streams always wait"): an open stream waits exactly while its amount is above 0. Assumes nothing.
 use Prim.Native.Nat.{ℕ, _<_}
 use mathlib.Core.Bool.{Bool, true, false}
-use mathlib.Core.List.{List, [], _∷_, _++_}
+use mathlib.Core.List.{List, [], _∷_}
 use mathlib.Core.Option.{none}
 use mathlib.Core.Path.{_≡_, refl}
 use lib.Dec.{ltb}
@@ -35,9 +35,12 @@ Waiting-seen = (o : Options) (q : Queue) (k : ℕ) → Reachable o q → WaitsBy
 
 -- ------------------------------------------------------------------ paused and resetting streams
 
--- A closed stream that gets a message; and then interleaving is switched on.
-closed-first : List Call
-closed-first = close 2305 5 ∷ add 9 0 (record { stream-id = 5; ppid = 0; unordered = false; max-retransmissions = none; lifetime = none; lifecycle-id = 0; payload = 7 ∷ [] }) ∷ []
+-- Stream 5 is closed; it gets a message.
+closes : Call
+closes = close 2305 5
+
+gets : Call
+gets = add 9 0 (record { stream-id = 5; ppid = 0; unordered = false; max-retransmissions = none; lifetime = none; lifecycle-id = 0; payload = 7 ∷ [] })
 
 -- What is shown of stream 5: its state, its amount, whether it waits.
 record Seen : Type 0 where
@@ -49,19 +52,19 @@ seen : List Call → Seen
 unfolding after new-queue find amount-of is-waiting example-options
 seen cs = let q = after cs (new-queue example-options) in record { state = (stream-at q 5) .pause-state; amount = amount-of q 5; waits = is-waiting 5 q }
 
--- Either can be, in both states.
-paused-silent : seen closed-first ≡ record { state = paused; amount = 1; waits = false }
-unfolding seen closed-first
+-- Either can be, in both states: a message added does not start it, a switch of interleaving does.
+paused-silent : seen (closes ∷ gets ∷ []) ≡ record { state = paused; amount = 1; waits = false }
+unfolding seen closes gets
 paused-silent = refl
 
-paused-waiting : seen (closed-first ++ (set-interleaving true ∷ [])) ≡ record { state = paused; amount = 1; waits = true }
-unfolding seen closed-first
+paused-waiting : seen (closes ∷ gets ∷ set-interleaving true ∷ []) ≡ record { state = paused; amount = 1; waits = true }
+unfolding seen closes gets
 paused-waiting = refl
 
-resetting-silent : seen (closed-first ++ (ready-ids ∷ [])) ≡ record { state = resetting; amount = 1; waits = false }
-unfolding seen closed-first
+resetting-silent : seen (closes ∷ ready-ids ∷ gets ∷ []) ≡ record { state = resetting; amount = 1; waits = false }
+unfolding seen closes gets
 resetting-silent = refl
 
-resetting-waiting : seen (closed-first ++ (set-interleaving true ∷ ready-ids ∷ [])) ≡ record { state = resetting; amount = 1; waits = true }
-unfolding seen closed-first
+resetting-waiting : seen (closes ∷ ready-ids ∷ gets ∷ set-interleaving true ∷ []) ≡ record { state = resetting; amount = 1; waits = true }
+unfolding seen closes gets
 resetting-waiting = refl
