@@ -35,7 +35,7 @@ use Rattle.queue_model.proofs.Streams.{at-found, at-new, at-id, unsent-
 use Rattle.queue_model.proofs.Invariant.Messages.{WellItems}
 use Rattle.queue_model.proofs.Invariant.Waits.{Listed, Holds, holds-put-own, holds-put, scheduled-id}
 use Rattle.queue_model.proofs.Invariant.Well.{Kept, Well, inside, kept-at, well-tail}
-use Rattle.queue_model.proofs.Invariant.Fine.{keeps-none, keeps-first, keeps}
+use Rattle.queue_model.proofs.Invariant.Fine.{Alike, paused-alike, reopened-alike, keeps-none, keeps-first, keeps}
 use Rattle.queue_model.proofs.Invariant.Sends.{FineLook, Chosen, headless, headed, heads, head-of-at, head-well, head-for, fine-look}
 use Rattle.queue_model.proofs.Invariant.Sixteen.{fine-step, reachable-well}
 use Rattle.queue_model.proofs.Calm.Calm.{HeadAt}
@@ -437,7 +437,7 @@ serves-close places j q g a =
 -- ---- ready ids, commit, rollback and the whole-queue reset
 
 module _ (f : Stream → Stream) (i : (s : Stream) → (f s) .id ≡ s .id) where
-  pub found-map : (k : ℕ) (ss : List Stream) (s : Stream) → find-stream k ss ≡ some s → find-stream k (map f ss) ≡ some (f s)
+  found-map : (k : ℕ) (ss : List Stream) (s : Stream) → find-stream k ss ≡ some s → find-stream k (map f ss) ≡ some (f s)
   found-map k [] s e = absurd (not-in-nil stream-key k s e)
   found-map k (t ∷ ss) s e = elim (is-own stream-key t k) [
     | own g ↦ (let z : t ≡ s = cc (find-here stream-key k t ss g, e) in find-here stream-key k (f t) (map f ss) (i t ∙ g) ∙ ap (λ (x : Stream). some (f x)) z)
@@ -457,14 +457,6 @@ module _ (f : Stream → Stream) (i : (s : Stream) → (f s) .id ≡ s .id) wher
     | missing g ↦ (let z : _≡_ {A = ℕ} 0 1 = cc (missing-map k ss g, e) in absurd (omega arith))
   ]
 
-pub ready-id : (s : Stream) → (paused-to-resetting s) .id ≡ s .id
-unfolding paused-to-resetting
-ready-id s = go (is-paused s)
-  where
-    go : (b : Bool) → (if b then with-pause resetting s else s) .id ≡ s .id
-    go true = refl
-    go false = refl
-
 served-ready : (as′ : List Active) (k : ℕ) (s : Stream) → Served as′ k (s .pause-state) (s .items) → Served as′ k ((paused-to-resetting s) .pause-state) ((paused-to-resetting s) .items)
 unfolding paused-to-resetting
 served-ready as′ k s h = go (is-paused s)
@@ -475,20 +467,7 @@ served-ready as′ k s h = go (is-paused s)
 
 serves-ready : (q : Queue) → AtEase q → AtEase ((Calls.ready-ids q) .next)
 unfolding Calls.ready-ids
-serves-ready q a = serves-map paused-to-resetting ready-id (q .streams) (q .scheduler) (λ k s e. served-ready (q .scheduler .active) k s (a k s e))
-
-opened-id : (z : Bool) (s : Stream) → (opened z s) .id ≡ s .id
-unfolding opened
-opened-id true s = refl
-opened-id false s = refl
-
-pub reopened-id : (z : Bool) (s : Stream) → (reopened z s) .id ≡ s .id
-unfolding reopened
-reopened-id z s = go (is-resetting s)
-  where
-    go : (b : Bool) → (if b then opened z s else s) .id ≡ s .id
-    go true = opened-id z s
-    go false = refl
+serves-ready q a = serves-map paused-to-resetting (λ s. (paused-alike s) .alike-id) (q .streams) (q .scheduler) (λ k s e. served-ready (q .scheduler .active) k s (a k s e))
 
 served-opened : (as′ : List Active) (k : ℕ) (z : Bool) (s : Stream) → Entered as′ k (s .items) → Served as′ k ((opened z s) .pause-state) ((opened z s) .items)
 unfolding opened
@@ -510,7 +489,7 @@ serves-reopen : (z : Bool) (q : Queue) → Well q → AtEase q → AtEase ((reop
 unfolding reopen
 serves-reopen z q w a =
     let x : Scheduler = reschedule-each (q .interleaving) resets (q .streams) (q .scheduler) in
-    serves-map (reopened z) (reopened-id z) (q .streams) x (λ k s e. served-reopened (q .interleaving) z k s (q .scheduler) x (each-does (q .interleaving) resets (q .streams) (q .scheduler) k s (w .rising) (w .kept) e) (a k s e))
+    serves-map (reopened z) (λ s. (reopened-alike z s) .alike-id) (q .streams) x (λ k s e. served-reopened (q .interleaving) z k s (q .scheduler) x (each-does (q .interleaving) resets (q .streams) (q .scheduler) k s (w .rising) (w .kept) e) (a k s e))
 
 serves-reset : (q : Queue) → Well ((Calls.reset q) .next) → AtEase q → AtEase ((Calls.reset q) .next)
 unfolding Calls.reset
