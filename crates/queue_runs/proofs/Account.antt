@@ -1,5 +1,6 @@
 -- The account of request 11/13, first half, on the code. Assumes nothing.
 use mathlib.Core.Path.{_≡_, refl, sym, ap, ap₂, _∙_, subst}
+use mathlib.Core.Bool.{Bool, true, false}
 use mathlib.Core.List.{List, [], _∷_}
 use mathlib.Core.Option.{Option, Option·getD}
 use Prim.Native.Nat.{ℕ, zero, suc, _+_, _<_}
@@ -7,11 +8,17 @@ use native.Mathlib.Omega.{arith}
 use lib.ListN.{length}
 use Rattle.queue_model.specs.Types as plain
 use Rattle.queue_model.specs.Types.{Stream, Queue}
-use Rattle.queue_model.specs.Streams.{stream-key, new-stream, at, amounts, new-queue}
+use Rattle.queue_model.specs.Streams.{stream-key, new-stream, at, stream-at, waiting, amounts, new-queue}
 use Rattle.queue_model.specs.Questions.{amount-of}
 use Rattle.queue_model.specs.Run as run
 use Rattle.queue_model.specs.Account as model
-use Rattle.queue_model.specs.Account.{for-stream}
+use Rattle.queue_model.specs.Account.{Account, both, for-stream, unless-refused, passed, head-bytes, image-left}
+use Rattle.queue_model.specs.Close.{closing-bytes}
+use Rattle.queue_model.specs.Reset.{put-back}
+use Rattle.queue_model.specs.Reader.{read-image}
+use Rattle.types.specs.Keys.{key-of, key-id}
+use Rattle.types.specs.declared.StreamId.{StreamId}
+use Rattle.linked_sending.specs.Meaning.{producedOf}
 use Rattle.queue_model.proofs.Tests.{less, same, more, tri}
 use Rattle.queue_model.proofs.Table.{find-nil, find-here, find-there, find-after, own, other, is-own, After, Rising, Every, every-weaken}
 use Rattle.queue_model.proofs.Streams.{at-found, at-new}
@@ -21,12 +28,14 @@ use Rattle.queue_model.proofs.Account.Ledger.{for-own, for-other}
 use Rattle.queue_streams.specs.declared.answers.Number.the-variants as number-answer
 use Rattle.queue_questions.specs.Questions.{amountOf}
 use Rattle.queue_state.specs.Promise.{numberOf}
+use Rattle.queue_state.specs.Promise as promise
 use Rattle.linked_streams.proofs.Asks.{amount-asked, total-asked}
-use Rattle.queue_runs.specs.Run.{State, after}
-use Rattle.queue_runs.specs.Meaning.{queueOf, Good, callsOf}
+use Rattle.queue_runs.specs.Calls.{Call, add, produce, discard, close, ready-ids, commit, rollback, reset, set-threshold, set-priority, set-interleaving, restore, ask-priority, ask-amount, ask-threshold, ask-total, ask-empty, ask-has-data, ask-streams-ready, ask-readiness, callOf, Typed, Shown, called, sent}
+use Rattle.queue_runs.specs.Run.{State, step, after}
+use Rattle.queue_runs.specs.Meaning.{queueOf, Good, AllTyped, callsOf}
 use Rattle.queue_runs.specs.Creation.{optionsWith, newState}
-use Rattle.queue_runs.specs.Account.{valueOf, sum-ids, Request11-account}
-use Rattle.queue_runs.proofs.Steps.{typed-call, store-small}
+use Rattle.queue_runs.specs.Account.{valueOf, sum-ids, handed, unlessRefused, account, accounts, Request11-account}
+use Rattle.queue_runs.proofs.Steps.{step-link, typed-call, store-small, meant}
 use Rattle.queue_runs.proofs.Runs.{run-link}
 use Rattle.queue_runs.proofs.News.{new-link}
 use Rattle.queue_runs.proofs.Alike.{all-typed}
@@ -91,6 +100,90 @@ total-sum s g =
     w .total-counted ∙ sym (sum-table (queueOf s .options) (queueOf s .streams) 65536 (w .rising) (every-weaken Kept (λ (x : Stream). x .id < 65536) (queueOf s .streams) (λ x h. h .id-fits) (w .kept)))
     ∙ sym (sum-same (λ (j : ℕ). valueOf (amountOf (s .words) j)) (λ (j : ℕ). (at (queueOf s .options) (queueOf s .streams) j) .amount) 65536 (λ j. value-is s j g))
 
+-- ------------------------------------------------------------------ what a call moves
+
+called-unless : (a : plain.Answer) (m n : ℕ) → unlessRefused (called (promise.callOf a m)) n ≡ unless-refused a n
+called-unless (plain.refused r) m n = refl
+called-unless plain.done m n = refl
+called-unless (plain.number x) m n = refl
+called-unless (plain.flag b) m n = refl
+called-unless (plain.ids l) m n = refl
+called-unless (plain.fragment f) m n = refl
+called-unless plain.nothing-waits m n = refl
+
+sent-unless : (a : plain.Answer) (m n : ℕ) → unlessRefused (sent (producedOf a m)) n ≡ unless-refused a n
+sent-unless (plain.refused r) m n = refl
+sent-unless plain.done m n = refl
+sent-unless (plain.number x) m n = refl
+sent-unless (plain.flag b) m n = refl
+sent-unless (plain.ids l) m n = refl
+sent-unless (plain.fragment f) m n = refl
+sent-unless plain.nothing-waits m n = refl
+
+pub key-same : (u : Bool) (id : StreamId) → key-id (key-of u id) ≡ id
+key-same true id = refl
+key-same false id = refl
+
+sent-handed : (k : ℕ) (a : plain.Answer) (m : ℕ) → handed k (sent (producedOf a m)) ≡ model.handed k a
+sent-handed k (plain.refused r) m = refl
+sent-handed k plain.done m = refl
+sent-handed k (plain.number x) m = refl
+sent-handed k (plain.flag b) m = refl
+sent-handed k (plain.ids l) m = refl
+sent-handed k (plain.fragment f) m = ap (λ (x : StreamId). for-stream k (x .0) (length (f .bytes))) (key-same (f .unordered) (record { 0 = f .stream-id }))
+sent-handed k plain.nothing-waits m = refl
+
+-- A call moves what the model's call moves.
+account-link : (k : ℕ) (c : Call) (s : State) → Good s → Typed c → account k c s ≡ model.account k (callOf (length (s .store)) c) (queueOf s)
+unfolding account model.account
+account-link k (add time m payload) s g t =
+    let o = meant (add time m payload) s .outcome in
+    let n : ℕ = for-stream k (m .«stream_id» .0) (length payload) in
+    ap (λ (x : ℕ). record { accepted = x; handed-out = 0; dropped-unsent = 0; put-back-whole = 0; left-to-send = 0 }) (ap (λ (x : Shown). unlessRefused (x .answer) n) (step-link (add time m payload) s g t .shows-are) ∙ called-unless (o .answer) (length (o .events)) n)
+account-link k (produce es bs time size) s g t =
+    let o = meant (produce es bs time size) s .outcome in
+    let n : ℕ = passed k (suc (waiting (queueOf s .streams))) time (queueOf s) in
+    let e = step-link (produce es bs time size) s g t .shows-are in
+    ap₂ (λ (x y : ℕ). record { accepted = 0; handed-out = x; dropped-unsent = y; put-back-whole = 0; left-to-send = 0 })
+    (ap (λ (x : Shown). handed k (x .answer)) e ∙ sent-handed k (o .answer) (length (o .events))) (ap (λ (x : Shown). unlessRefused (x .answer) n) e ∙ sent-unless (o .answer) (length (o .events)) n)
+account-link k (discard es id m) s g t =
+    let o = meant (discard es id m) s .outcome in
+    let n : ℕ = for-stream k id (head-bytes m ((stream-at (queueOf s) id) .items)) in
+    ap (λ (x : ℕ). record { accepted = 0; handed-out = 0; dropped-unsent = x; put-back-whole = 0; left-to-send = 0 }) (ap (λ (x : Shown). unlessRefused (x .answer) n) (step-link (discard es id m) s g t .shows-are) ∙ called-unless (o .answer) (length (o .events)) n)
+account-link k (close es id) s g t =
+    let o = meant (close es id) s .outcome in
+    let n : ℕ = for-stream k id (closing-bytes ((stream-at (queueOf s) id) .pause-state) ((stream-at (queueOf s) id) .items)) in
+    ap (λ (x : ℕ). record { accepted = 0; handed-out = 0; dropped-unsent = x; put-back-whole = 0; left-to-send = 0 }) (ap (λ (x : Shown). unlessRefused (x .answer) n) (step-link (close es id) s g t .shows-are) ∙ called-unless (o .answer) (length (o .events)) n)
+account-link k ready-ids s g t = refl
+account-link k commit s g t = refl
+account-link k rollback s g t = refl
+account-link k reset s g t =
+    let o = meant reset s .outcome in
+    let n : ℕ = put-back ((stream-at (queueOf s) k) .items) in
+    ap (λ (x : ℕ). record { accepted = 0; handed-out = 0; dropped-unsent = 0; put-back-whole = x; left-to-send = 0 }) (ap (λ (x : Shown). unlessRefused (x .answer) n) (step-link reset s g t .shows-are) ∙ called-unless (o .answer) (length (o .events)) n)
+account-link k (set-threshold es id x) s g t = refl
+account-link k (set-priority id p) s g t = refl
+account-link k (set-interleaving b) s g t = refl
+account-link k (restore time image) s g t =
+    let o = meant (restore time image) s .outcome in
+    let n : ℕ = image-left k (read-image image) in
+    ap (λ (x : ℕ). record { accepted = 0; handed-out = 0; dropped-unsent = 0; put-back-whole = 0; left-to-send = x }) (ap (λ (x : Shown). unlessRefused (x .answer) n) (step-link (restore time image) s g t .shows-are) ∙ called-unless (o .answer) (length (o .events)) n)
+account-link k (ask-priority id) s g t = refl
+account-link k (ask-amount id) s g t = refl
+account-link k (ask-threshold id) s g t = refl
+account-link k ask-total s g t = refl
+account-link k ask-empty s g t = refl
+account-link k ask-has-data s g t = refl
+account-link k ask-streams-ready s g t = refl
+account-link k ask-readiness s g t = refl
+
+accounts-link : (k : ℕ) (cs : List Call) (s : State) → Good s → AllTyped cs → accounts k cs s ≡ model.accounts k (callsOf (length (s .store)) cs) (queueOf s)
+unfolding accounts model.accounts
+accounts-link k [] s g t = refl
+accounts-link k (c ∷ cs) s g t =
+    let h = step-link c s g (t .0) in
+    ap₂ both (account-link k c s g (t .0)) (accounts-link k cs (step c s .next) (h .good) (t .1) ∙ ap₂ (λ (ms : List run.Call) (q : Queue). model.accounts k ms q) (ap (λ (n : ℕ). callsOf n cs) (h .same-store)) (h .next-is))
+
 -- ------------------------------------------------------------------ the theorem
 
 pub request11-account : Request11-account
@@ -105,9 +198,10 @@ request11-account a s cs k h t =
     let m : model.Accounted k (model.accounts k (callsOf len cs) (new-queue o)) (run.after (callsOf len cs) (new-queue o)) =
     ledger.request11-account o (callsOf len cs) k (n .created) (all-typed len cs (λ c d. typed-call len c (store-small (newState a s) (n .good)) d) t) in
     let y : model.Accounted k (model.accounts k (callsOf len cs) (new-queue o)) (queueOf x) = subst (model.Accounted k (model.accounts k (callsOf len cs) (new-queue o))) (sym e) m in
+    let b : accounts k cs (newState a s) ≡ model.accounts k (callsOf len cs) (new-queue o) = accounts-link k cs (newState a s) (n .good) t ∙ ap (model.accounts k (callsOf len cs)) (n .queue-is) in
     record {
       amount = amount-of (queueOf x) k;
       answers = amount-asked (x .words) (x .store) (r .good) k ∙ amount-answer k (queueOf x);
-      amount-is = y .amount-is;
+      amount-is = subst (λ (w : Account). amount-of (queueOf x) k + (w .handed-out + w .dropped-unsent) ≡ w .accepted + (w .put-back-whole + w .left-to-send)) (sym b) (y .amount-is);
       total-is = total-asked (x .words) (x .store) ∙ total-sum x (r .good);
     }

@@ -5,7 +5,6 @@ use mathlib.Core.List.{List, [], _∷_, _++_}
 use Prim.Native.Nat.{ℕ, _+_, _/_, _<_}
 use native.Mathlib.Omega.{arith}
 use lib.ListN.{length}
-use Rattle.types.specs.Keys.{key-of, key-id}
 use Rattle.types.specs.declared.StreamId.{StreamId}
 use Rattle.queue_model.specs.Types as plain
 use Rattle.queue_model.specs.Types.{Queue, Outcome, weighted}
@@ -36,7 +35,7 @@ use Rattle.queue_runs.proofs.Steps.{step-link, typed-call, store-small,
 use Rattle.queue_runs.proofs.Runs.{run-link}
 use Rattle.queue_runs.proofs.Forms.{Quiet, quiet-refused, quiet-done, form-of}
 use Rattle.queue_runs.proofs.Demand3.{stands}
-use Rattle.queue_runs.proofs.Account.{value-is}
+use Rattle.queue_runs.proofs.Account.{value-is, key-same}
 
 -- ------------------------------------------------------------------ one call
 
@@ -54,10 +53,6 @@ turn-link c s g t = record { typed = typed-call (length (s .store)) c (store-sma
 quiet-charge : (p k : ℕ) (o : Outcome) → Quiet o → model.charge p k (o .answer) ≡ 0
 quiet-charge p k o (quiet-refused n) = refl
 quiet-charge p k o quiet-done = refl
-
-key-same : (u : Bool) (id : StreamId) → key-id (key-of u id) ≡ id
-key-same true id = refl
-key-same false id = refl
 
 sent-charge : (p k : ℕ) (a : plain.Answer) (n : ℕ) → chargeSent p k (producedOf a n) ≡ model.charge p k a
 sent-charge p k (plain.refused r) n = refl
