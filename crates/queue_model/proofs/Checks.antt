@@ -58,6 +58,15 @@ pub all-passed : (cs : List Check) → first-refusal cs ≡ none → Passed cs
 all-passed [] e = tt
 all-passed (c ∷ cs) e = let f = first-none c cs e in (f .0, all-passed cs (f .1))
 
+-- What holds of a refusal and, where no check applies, of what the call does, holds of the call.
+pub checked-either : (R : Step → Type 0) (cs : List Check) (q : Queue) (s : Step) → ((r : ℕ) → R (refuse q r)) → (Passed cs → R s) → R (checked cs q s)
+unfolding checked refused-or
+checked-either R cs q s f g = go (first-refusal cs) refl
+  where
+    go : (x : Option ℕ) → first-refusal cs ≡ x → R (refused-or x q s)
+    go none e = g (all-passed cs e)
+    go (some r) e = f r
+
 pub passed-none : (cs : List Check) → Passed cs → first-refusal cs ≡ none
 unfolding first-refusal
 passed-none [] p = refl

@@ -95,8 +95,9 @@ image-left k none = 0
 image-left k (some h) = records-left k (h .messages)
 
 -- What one call moves in stream k. "each counted from the call history": bytes accepted, handed out and left to send in an image are read off the call's arguments and its answer alone. Unsent bytes of dropped
--- messages, and bytes put back, are read off the messages that wait when the call is made (their lengths and offsets), in the queue that the earlier calls lead to; never off an amount. No answer shows them: which
--- expired heads a next fragment drops is told by events only where they have a lifecycle id.
+-- messages, and bytes put back, are read off the messages that wait when the call is made (their lengths and offsets), in the queue that the earlier calls lead to. Which of
+-- them it drops is told by the definitions that the call itself uses (`look`, `closing-bytes`, `head-bytes`); no amount is counted. No single answer shows them, and which expired heads a next fragment drops no list of
+-- answers does: events tell it only where they have a lifecycle id.
 unfoldable pub account : ℕ → Call → Queue → Account
 unfolding step for-stream passed head-bytes closing-bytes image-left read-image find put-back
 account k (add store now m) q = record { accepted = unless-refused ((step (add store now m) q) .outcome .answer) (for-stream k (m .stream-id) (length (m .payload))); handed-out = 0; dropped-unsent = 0; put-back-whole = 0; left-to-send = 0 }

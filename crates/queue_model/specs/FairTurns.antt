@@ -45,11 +45,15 @@ Turns (c ∷ cs) q = Turn c q × Turns cs ((step c q) .next)
 
 -- ------------------------------------------------------------------ the stretch
 
+-- A property of the queue when each call of a list is made.
+abbrev pub Throughout : (Queue → Type 0) → List Call → Queue → Type 0
+Throughout P [] q = Unit {0}
+Throughout P (c ∷ cs) q = P q × Throughout P cs ((step c q) .next)
+
 -- "any stretch in which two streams always wait": when each of its calls is made. So its last call may be the one that ends a stream's waiting; one that hands out a last fragment and lets the stream begin anew with
 -- the message behind it does not end the stretch.
 abbrev pub AlwaysWait : ℕ → ℕ → List Call → Queue → Type 0
-AlwaysWait j k [] q = Unit {0}
-AlwaysWait j k (c ∷ cs) q = ((is-waiting j q ≡ true) × (is-waiting k q ≡ true)) × AlwaysWait j k cs ((step c q) .next)
+AlwaysWait j k cs q = Throughout (λ (r : Queue). (is-waiting j r ≡ true) × (is-waiting k r ≡ true)) cs q
 
 -- ------------------------------------------------------------------ the costs
 
@@ -103,13 +107,12 @@ Request11-turns =
 
 -- The amounts of both are above 0 when each call of the stretch is made.
 abbrev pub AlwaysAbove : ℕ → ℕ → List Call → Queue → Type 0
-AlwaysAbove j k [] q = Unit {0}
-AlwaysAbove j k (c ∷ cs) q = ((0 < amount-of q j) × (0 < amount-of q k)) × AlwaysAbove j k cs ((step c q) .next)
+AlwaysAbove j k cs q = Throughout (λ (r : Queue). (0 < amount-of r j) × (0 < amount-of r k)) cs q
 
 abbrev pub Open : ℕ → Queue → Type 0
 Open k q = (stream-at q k) .pause-state ≡ not-paused
 
--- Two streams that are open where the run starts, as those are that the host has not closed, always wait while their amounts are above 0.
+-- Two streams that are open where the run starts always wait while their amounts are above 0.
 unfoldable pub Request11-seen : Type 0
 unfolding charged cost priority-of is-empty amount-of after run
 Request11-seen =

@@ -120,11 +120,11 @@ sent-unless (plain.ids l) m n = refl
 sent-unless (plain.fragment f) m n = refl
 sent-unless plain.nothing-waits m n = refl
 
-pub key-same : (u : Bool) (id : StreamId) → key-id (key-of u id) ≡ id
+key-same : (u : Bool) (id : StreamId) → key-id (key-of u id) ≡ id
 key-same true id = refl
 key-same false id = refl
 
-sent-handed : (k : ℕ) (a : plain.Answer) (m : ℕ) → handed k (sent (producedOf a m)) ≡ model.handed k a
+pub sent-handed : (k : ℕ) (a : plain.Answer) (m : ℕ) → handed k (sent (producedOf a m)) ≡ model.handed k a
 sent-handed k (plain.refused r) m = refl
 sent-handed k plain.done m = refl
 sent-handed k (plain.number x) m = refl

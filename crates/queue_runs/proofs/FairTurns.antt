@@ -1,17 +1,15 @@
 -- Fair turns (request 11/13, second half) on the code. Assumes nothing.
 use mathlib.Core.Path.{_≡_, refl, sym, ap, ap₂, _∙_, subst}
-use mathlib.Core.Bool.{Bool, true, false}
+use mathlib.Core.Bool.{true}
 use mathlib.Core.List.{List, [], _∷_, _++_}
 use Prim.Native.Nat.{ℕ, _+_, _/_, _<_}
 use native.Mathlib.Omega.{arith}
 use lib.ListN.{length}
-use Rattle.types.specs.declared.StreamId.{StreamId}
 use Rattle.queue_model.specs.Types as plain
 use Rattle.queue_model.specs.Types.{Queue, Outcome, weighted}
 use Rattle.queue_model.specs.Scheduler.{cost}
 use Rattle.queue_model.specs.Questions.{priority-of}
 use Rattle.queue_model.specs.Run as run
-use Rattle.queue_model.specs.Account.{for-stream}
 use Rattle.queue_model.specs.Waiting.{is-waiting}
 use Rattle.queue_model.specs.FairTurns as model
 use Rattle.queue_model.proofs.Invariant.Sixteen.{reachable-options}
@@ -22,20 +20,19 @@ use Rattle.queue_questions.specs.Questions.{priorityOf, amountOf}
 use Rattle.queue_state.specs.Promise.{numberOf}
 use Rattle.queue_state.proofs.Singles.{model-options, model-interleaving}
 use Rattle.linked_streams.proofs.Asks.{priority-asked, empty-asked}
-use Rattle.linked_sending.specs.Meaning.{producedOf}
 use Rattle.linked_adding.specs.Message.{messageOf}
 use Rattle.queue_runs.specs.Calls.{Call, callOf, Shown}
 use Rattle.queue_runs.specs.Run as runs
 use Rattle.queue_runs.specs.Run.{State, step}
 use Rattle.queue_runs.specs.Meaning.{queueOf, Good, AllTyped, callsOf}
 use Rattle.queue_runs.specs.Creation.{optionsWith}
-use Rattle.queue_runs.specs.FairTurns.{Allowed, adds, sends, Turn, Turns, AlwaysWait, AlwaysAbove, chargeSent, charge, charged, Request11-turns, Request11-seen}
+use Rattle.queue_runs.specs.FairTurns.{Allowed, adds, sends, Turn, Turns, AlwaysWait, AlwaysAbove, charge, charged, Request11-turns, Request11-seen}
 use Rattle.queue_runs.specs.Account.{valueOf}
 use Rattle.queue_runs.proofs.Steps.{step-link, typed-call, store-small, meant}
 use Rattle.queue_runs.proofs.Runs.{run-link}
 use Rattle.queue_runs.proofs.Forms.{Quiet, quiet-refused, quiet-done, form-of}
 use Rattle.queue_runs.proofs.Demand3.{stands}
-use Rattle.queue_runs.proofs.Account.{value-is, key-same}
+use Rattle.queue_runs.proofs.Account.{sent-handed, value-is}
 
 -- ------------------------------------------------------------------ one call
 
@@ -50,24 +47,15 @@ turn-link : (c : Call) (s : State) → Good s → Turn c s → model.Turn (callO
 turn-link c s g t = record { typed = typed-call (length (s .store)) c (store-small s g) (t .typed); allowed = allowed-link c s (t .allowed); below = t .below }
 
 -- What it charges is what the model's charges.
-quiet-charge : (p k : ℕ) (o : Outcome) → Quiet o → model.charge p k (o .answer) ≡ 0
+quiet-charge : (p k : ℕ) (o : Outcome) → Quiet o → model.charge p k (o .answer) ≡ cost (weighted p) 0
 quiet-charge p k o (quiet-refused n) = refl
 quiet-charge p k o quiet-done = refl
-
-sent-charge : (p k : ℕ) (a : plain.Answer) (n : ℕ) → chargeSent p k (producedOf a n) ≡ model.charge p k a
-sent-charge p k (plain.refused r) n = refl
-sent-charge p k plain.done n = refl
-sent-charge p k (plain.number m) n = refl
-sent-charge p k (plain.flag b) n = refl
-sent-charge p k (plain.ids l) n = refl
-sent-charge p k (plain.fragment f) n = ap (λ (x : StreamId). for-stream k (x .0) (cost (weighted p) (length (f .bytes)))) (key-same (f .unordered) (record { 0 = f .stream-id }))
-sent-charge p k plain.nothing-waits n = refl
 
 charge-allowed : (p k : ℕ) (c : Call) (s : State) → Good s → Turn c s → Allowed s c → charge p k (step c s .shows .answer) ≡ model.charge p k (meant c s .outcome .answer)
 charge-allowed p k c s g t (adds time m payload) =
     ap (λ (x : Shown). charge p k (x .answer)) (step-link c s g (t .typed) .shows-are) ∙ sym (quiet-charge p k (meant c s .outcome) (form-of (run.add (length (s .store)) time (messageOf m payload)) (queueOf s)))
 charge-allowed p k c s g t (sends es bs time e) =
-    ap (λ (x : Shown). charge p k (x .answer)) (step-link c s g (t .typed) .shows-are) ∙ sent-charge p k (meant c s .outcome .answer) (length (meant c s .outcome .events))
+    ap (λ (x : Shown). charge p k (x .answer)) (step-link c s g (t .typed) .shows-are) ∙ ap (cost (weighted p)) (sent-handed k (meant c s .outcome .answer) (length (meant c s .outcome .events)))
 
 -- ------------------------------------------------------------------ lists of calls
 

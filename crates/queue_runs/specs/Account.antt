@@ -1,5 +1,5 @@
 -- The account of a stream's bytes (request 11/13, first half), of the code's calls and of what they show, on the words that they leave. Assumes nothing.
-use Prim.Native.Nat.{ℕ, zero, suc, _+_}
+use Prim.Native.Nat.{ℕ, zero, suc, _+_, _^_}
 use mathlib.Core.Path.{_≡_}
 use mathlib.Core.List.{List, [], _∷_}
 use lib.ListN.{length}
@@ -87,12 +87,16 @@ unfoldable pub sum-ids : (ℕ → ℕ) → ℕ → ℕ
 sum-ids f zero = 0
 sum-ids f (suc n) = sum-ids f n + f n
 
+-- Stream ids have 16 bits.
+abbrev pub id-count : ℕ
+id-count = 2 ^ 16
+
 -- The question answers the amount that the account gives: what came in less what went out. "the total is the sum over the streams": of what the questions answer, over all ids.
 pub record Accounted (k : ℕ) (a : Account) (s : State) : Type 0 where
   pub amount : ℕ
   pub answers : amountOf (s .words) k ≡ number-answer.Value amount
   pub amount-is : amount + (a .handed-out + a .dropped-unsent) ≡ a .accepted + (a .put-back-whole + a .left-to-send)
-  pub total-is : totalOf (s .words) ≡ sum-ids (λ (j : ℕ). valueOf (amountOf (s .words) j)) 65536
+  pub total-is : totalOf (s .words) ≡ sum-ids (λ (j : ℕ). valueOf (amountOf (s .words) j)) id-count
 
 -- "from a new queue, after any calls, a stream's amount is the payload bytes it accepted, less those handed out, less the unsent ones of dropped messages, plus those put back
 -- and those left to send in an image it restored, each counted from the call history; the total is the sum over the streams."

@@ -3,24 +3,20 @@ use Prim.Native.Nat.{ℕ, _+_, _<_}
 use mathlib.Core.Path.{_≡_}
 use mathlib.Core.Bool.{true}
 use mathlib.Core.List.{List, [], _∷_, _++_}
-use Rattle.types.specs.Keys.{key-id}
 use Rattle.queue_model.specs.Types.{weighted}
 use Rattle.queue_model.specs.Scheduler.{cost}
-use Rattle.queue_model.specs.Account.{for-stream}
 use Rattle.queue_model.specs.Waiting.{is-waiting}
 use Rattle.queue_model.specs.FairTurns.{none-expired, times-below, Within, Open}
 use Rattle.queue_words.specs.Header.{optionsAt, totalsAt}
 use Rattle.queue_questions.specs.Questions.{priorityOf, amountOf, emptyOf}
 use Rattle.queue_streams.specs.declared.answers.Number.the-variants as number-answer
 use Rattle.queue_messages.specs.declared.message.Message.{Message}
-use Rattle.queue_sending.specs.declared.data.Produced.{Produced}
-use Rattle.queue_sending.specs.declared.data.Produced.the-variants as produced
-use Rattle.queue_runs.specs.Calls.{Call, add, produce, Typed, Answer, called, sent, readied, number, flag, count, truth, Shown}
+use Rattle.queue_runs.specs.Calls.{Call, add, produce, Typed, Answer, Shown}
 use Rattle.queue_runs.specs.Run.{State, step, run, after}
 use Rattle.queue_runs.specs.Meaning.{queueOf}
 use Rattle.queue_runs.specs.Creation.{Arguments}
 use Rattle.queue_runs.specs.Demand3.{Reached}
-use Rattle.queue_runs.specs.Account.{valueOf}
+use Rattle.queue_runs.specs.Account.{valueOf, handed}
 
 -- ------------------------------------------------------------------ the run
 
@@ -39,31 +35,24 @@ abbrev pub Turns : List Call → State → Type 0
 Turns [] s = Unit {0}
 Turns (c ∷ cs) s = Turn c s × Turns cs (step c s .next)
 
+-- A property of the state when each call of a list is made.
+abbrev pub Throughout : (State → Type 0) → List Call → State → Type 0
+Throughout P [] s = Unit {0}
+Throughout P (c ∷ cs) s = P s × Throughout P cs (step c s .next)
+
 -- "any stretch in which two streams always wait": when each of its calls is made.
 abbrev pub AlwaysWait : ℕ → ℕ → List Call → State → Type 0
-AlwaysWait j k [] s = Unit {0}
-AlwaysWait j k (c ∷ cs) s = ((is-waiting j (queueOf s) ≡ true) × (is-waiting k (queueOf s) ≡ true)) × AlwaysWait j k cs (step c s .next)
+AlwaysWait j k cs s = Throughout (λ (x : State). (is-waiting j (queueOf x) ≡ true) × (is-waiting k (queueOf x) ≡ true)) cs s
 
 -- ------------------------------------------------------------------ the costs
 
--- What an answer charges to stream k, whose priority is p: the cost of the bytes of its fragment.
-abbrev pub chargeSent : ℕ → ℕ → Produced → ℕ
-chargeSent p k (produced.Nothing n) = 0
-chargeSent p k (produced.Fragment n d) = for-stream k (key-id (d .«data» .«stream_key») .0) (cost (weighted p) (d .«data» .length))
-chargeSent p k (produced.Refused n) = 0
-
+-- What an answer charges to stream k, whose priority is p: the cost of the bytes that it hands out.
 abbrev pub charge : ℕ → ℕ → Answer → ℕ
-charge p k (called a) = 0
-charge p k (sent a) = chargeSent p k a
-charge p k (readied r) = 0
-charge p k (number a) = 0
-charge p k (flag a) = 0
-charge p k (count n) = 0
-charge p k (truth b) = 0
+charge p k a = cost (weighted p) (handed k a)
 
 -- "the costs charged", from what the calls of a list show.
 unfoldable pub charged : ℕ → ℕ → List Shown → ℕ
-unfolding cost for-stream
+unfolding cost
 charged p k [] = 0
 charged p k (o ∷ os) = charge p k (o .answer) + charged p k os
 
@@ -94,10 +83,9 @@ Request11-turns =
 
 -- The question answers an amount above 0 for both when each call of the stretch is made.
 abbrev pub AlwaysAbove : ℕ → ℕ → List Call → State → Type 0
-AlwaysAbove j k [] s = Unit {0}
-AlwaysAbove j k (c ∷ cs) s = ((0 < valueOf (amountOf (s .words) j)) × (0 < valueOf (amountOf (s .words) k))) × AlwaysAbove j k cs (step c s .next)
+AlwaysAbove j k cs s = Throughout (λ (x : State). (0 < valueOf (amountOf (x .words) j)) × (0 < valueOf (amountOf (x .words) k))) cs s
 
--- Two streams that are open where the run starts, as those are that the host has not closed, always wait while their amounts are above 0.
+-- Two streams that are open where the run starts always wait while their amounts are above 0.
 unfoldable pub Request11-seen : Type 0
 unfolding charged cost
 Request11-seen =

@@ -9,7 +9,6 @@ use lib.Dec.{eqb, eqb→eq}
 use Rattle.queue_model.specs.Logic.{if_then_else_, any}
 use Rattle.queue_model.specs.Types.{Item, Counters, Stream, Active, Queue, Message, done, Step, remaining, expired, reply, with-items, with-counters, with-pause}
 use Rattle.queue_model.specs.Streams.{stream-key, stream-at, amounts, with-message}
-use Rattle.queue_model.specs.Refusals.{Check, first-refusal, refused-or, checked}
 use Rattle.queue_model.specs.Questions.{is-empty}
 use Rattle.queue_model.specs.Add.{expiry, new-item, added, add-checks}
 use Rattle.queue_model.specs.Produce.{give-numbers, numbered-in, numbered, end-pending, moved-on, handed-out-last, handed-out-part, handed-out}
@@ -18,6 +17,7 @@ use Rattle.queue_model.specs.Demands.{Typed}
 use Rattle.queue_model.specs.FairTurns.{none-expired, Allowed, adds, sends, times-below, Turns}
 use Rattle.queue_model.proofs.Tests.{holds}
 use Rattle.queue_model.proofs.Table.{Every, every-put, every-find, every-weaken}
+use Rattle.queue_model.proofs.Checks.{checked-either}
 use Rattle.queue_model.proofs.Streams.{every-at, unsent-bytes}
 use Rattle.queue_model.proofs.Invariant.Messages.{WellItems}
 use Rattle.queue_model.proofs.Invariant.Well.{Kept, Well}
@@ -77,21 +77,13 @@ every-snoc : (is : List Item) (i : Item) → Every Lasting is → Lasting i → 
 every-snoc [] i e h = (h, tt)
 every-snoc (j ∷ is) i e h = (e .0, every-snoc is i (e .1) h)
 
-lasting-checked : (cs : List Check) (q : Queue) (s : Step) → Every AllLasting (q .streams) → Every AllLasting (s .next .streams) → Every AllLasting ((checked cs q s) .next .streams)
-unfolding checked refused-or
-lasting-checked cs q s e h = go (first-refusal cs)
-  where
-    go : (x : Option ℕ) → Every AllLasting ((refused-or x q s) .next .streams)
-    go none = h
-    go (some r) = e
-
 lasting-add : (store now : ℕ) (m : Message) (q : Queue) → m .lifetime ≡ none → Every AllLasting (q .streams) → Every AllLasting ((Calls.add store now m q) .next .streams)
 unfolding Calls.add added new-item expiry
 lasting-add store now m q n e =
     let s : Stream = stream-at q (m .stream-id) in
     let h : AllLasting s = every-at AllLasting (q .options) (m .stream-id) (q .streams) e tt in
-    lasting-checked (add-checks store now m q) q (reply done [] (added now m q)) e
-    (every-put stream-key AllLasting (with-message s (new-item now (q .next-message-id) m)) (q .streams) (every-snoc (s .items) (new-item now (q .next-message-id) m) h (ap (expiry now) n)) e)
+    checked-either (λ (x : Step). Every AllLasting (x .next .streams)) (add-checks store now m q) q (reply done [] (added now m q)) (λ r. e)
+    (λ p. every-put stream-key AllLasting (with-message s (new-item now (q .next-message-id) m)) (q .streams) (every-snoc (s .items) (new-item now (q .next-message-id) m) h (ap (expiry now) n)) e)
 
 -- ---- next fragment
 

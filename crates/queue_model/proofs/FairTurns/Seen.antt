@@ -9,7 +9,6 @@ use lib.Dec.{eqb, ltb}
 use Rattle.queue_model.specs.Logic.{if_then_else_}
 use Rattle.queue_model.specs.Types.{Item, PauseState, not-paused, Stream, Active, Options, Queue, Message, done, Step, remaining, reply, with-items, with-pause, with-counters}
 use Rattle.queue_model.specs.Streams.{stream-key, put-stream, find-stream, new-stream, at, stream-at, with-message}
-use Rattle.queue_model.specs.Refusals.{Check, first-refusal, refused-or, checked}
 use Rattle.queue_model.specs.Questions.{amount-of}
 use Rattle.queue_model.specs.Add.{new-item, added, add-checks}
 use Rattle.queue_model.specs.Produce.{numbered, end-pending, moved-on, handed-out-last, handed-out-part, handed-out}
@@ -19,6 +18,7 @@ use Rattle.queue_model.specs.Waiting.{is-waiting, WaitsBy, Waiting-seen}
 use Rattle.queue_model.specs.FairTurns.{Allowed, adds, sends, Turn, Turns, AlwaysWait, AlwaysAbove, Open, Request11-turns, Request11-seen}
 use Rattle.queue_model.proofs.Tests.{ltb-true}
 use Rattle.queue_model.proofs.Table.{own, other, is-own, find-key, find-put-same, find-put-other}
+use Rattle.queue_model.proofs.Checks.{checked-either}
 use Rattle.queue_model.proofs.Streams.{at-found, at-id}
 use Rattle.queue_model.proofs.Invariant.Well.{Well}
 use Rattle.queue_model.proofs.Invariant.Sends.{Chosen}
@@ -40,20 +40,12 @@ open-put o s ss k f h = elim (is-own stream-key s k) [
   | other n ↦ subst (λ (x : Option Stream). IsOpen (Option·getD x (new-stream o k))) (sym (find-put-other stream-key k s ss n)) h
 ]
 
-open-checked : (k : ℕ) (cs : List Check) (q : Queue) (s : Step) → Open k q → Open k (s .next) → Open k ((checked cs q s) .next)
-unfolding checked refused-or
-open-checked k cs q s h g = go (first-refusal cs)
-  where
-    go : (x : Option ℕ) → Open k ((refused-or x q s) .next)
-    go none = g
-    go (some r) = h
-
 open-add : (k store now : ℕ) (m : Message) (q : Queue) → Open k q → Open k ((Calls.add store now m q) .next)
 unfolding Calls.add added
 open-add k store now m q h =
     let s : Stream = stream-at q (m .stream-id) in
-    open-checked k (add-checks store now m q) q (reply done [] (added now m q)) h
-    (open-put (q .options) (with-message s (new-item now (q .next-message-id) m)) (q .streams) k
+    checked-either (λ (x : Step). Open k (x .next)) (add-checks store now m q) q (reply done [] (added now m q)) (λ r. h)
+    (λ p. open-put (q .options) (with-message s (new-item now (q .next-message-id) m)) (q .streams) k
     (λ g i. subst (λ (x : ℕ). IsOpen (at (q .options) (q .streams) x)) (sym g ∙ at-id (q .options) (q .streams) (m .stream-id)) i) h)
 
 open-sent : (k n : ℕ) (q : Queue) (a : Active) (s : Stream) (i : Item) (is : List Item) → Chosen q a s i is → Open k q → Open k (handed-out q a s i is n)

@@ -11,7 +11,7 @@ use Rattle.queue_model.specs.Logic.{if_then_else_, any, is-some}
 use Rattle.queue_model.specs.Types.{Item, PauseState, Stream, Weight, weighted, Active, Scheduler, Options, Queue, Event, Message, done, fragment, nothing-waits, Step, remaining, expired, refuse, reply, with-items, with-pause, with-counters}
 use Rattle.queue_model.specs.Scheduler.{cost, moved, active-key, find-active, set-bytes-remaining, peek, accept}
 use Rattle.queue_model.specs.Streams.{stream-key, find-stream, put-stream, new-stream, at, stream-at, waiting, some-items, has-items, head-size, weight-of, reschedule, with-message}
-use Rattle.queue_model.specs.Refusals.{Check, max-word, first-refusal, refused-or, checked, short-of-head}
+use Rattle.queue_model.specs.Refusals.{max-word, first-refusal, refused-or, checked, short-of-head}
 use Rattle.queue_model.specs.Amounts.{sent-events}
 use Rattle.queue_model.specs.Questions.{priority-of}
 use Rattle.queue_model.specs.Add.{new-item, starts-waiting, started, added, add-checks}
@@ -20,7 +20,7 @@ use Rattle.queue_model.specs.Waiting.{is-waiting}
 use Rattle.queue_model.specs.FairTurns.{none-expired, times-below, charge}
 use Rattle.queue_model.proofs.Tests.{less, same, more, tri, holds, eqb-true}
 use Rattle.queue_model.proofs.Table.{found, missing, look-up, own, other, is-own, find-key, find-put-same, find-put-other, Every, every-find, every-own}
-use Rattle.queue_model.proofs.Checks.{or-left, or-right, not-most}
+use Rattle.queue_model.proofs.Checks.{or-left, or-right, not-most, checked-either}
 use Rattle.queue_model.proofs.Scheduler.{reschedule-of}
 use Rattle.queue_model.proofs.Streams.{at-found, at-id, size-at, size-at-at}
 use Rattle.queue_model.proofs.Invariant.Waits.{Listed, peek-in}
@@ -51,14 +51,6 @@ pub record Goes (p : ℕ → ℕ) (q : Queue) (s : Step) : Type 0 where
 -- A refused call.
 goes-refused : (p : ℕ → ℕ) (q : Queue) → FairQueue p q → (r : ℕ) → Goes p q (refuse q r)
 goes-refused p q f r = record { next-on = f .on; next-fixed = f .fixed; next-times = f .times; moves = λ j k d a b. let z = cost-nothing (p k) in omega arith }
-
-goes-checked : (p : ℕ → ℕ) (cs : List Check) (q : Queue) (s : Step) → FairQueue p q → Goes p q s → Goes p q (checked cs q s)
-unfolding checked refused-or
-goes-checked p cs q s f g = go (first-refusal cs)
-  where
-    go : (x : Option ℕ) → Goes p q (refused-or x q s)
-    go none = g
-    go (some r) = goes-refused p q f r
 
 -- ---- priorities
 
@@ -128,7 +120,7 @@ goes-added p now m q w f = record {
 
 pub goes-add : (p : ℕ → ℕ) (store now : ℕ) (m : Message) (q : Queue) → Well q → FairQueue p q → Goes p q (Calls.add store now m q)
 unfolding Calls.add
-goes-add p store now m q w f = goes-checked p (add-checks store now m q) q (reply done [] (added now m q)) f (goes-added p now m q w f)
+goes-add p store now m q w f = checked-either (Goes p q) (add-checks store now m q) q (reply done [] (added now m q)) (goes-refused p q f) (λ x. goes-added p now m q w f)
 
 -- ---- next fragment: what it can be where nothing has expired
 

@@ -12,7 +12,7 @@ use Rattle.queue_model.specs.Logic.{if_then_else_, same-bool, is-some}
 use Rattle.queue_model.specs.Types.{Item, PauseState, not-paused, pending, paused, resetting, Stream, Active, Weight, Scheduler, Options, Queue, Event, done, fragment, Step, remaining, expired, with-items, with-pause, with-threshold, with-priority, refuse, reply, Message}
 use Rattle.queue_model.specs.Scheduler.{active-key, find-active, put-active, scheduled, start-of, moved, remove-stream, set-bytes-remaining, peek, accept-last, accept-part, accept}
 use Rattle.queue_model.specs.Streams.{find-stream, put-stream, stream-at, waiting, know, stream-key, with-message, some-items, has-items, head-size, weight-of, reschedule, reschedule-each, new-queue}
-use Rattle.queue_model.specs.Refusals.{Check, first-refusal, refused-or, checked, short-of, short-of-head, max-payload}
+use Rattle.queue_model.specs.Refusals.{Check, checked, short-of, short-of-head, max-payload}
 use Rattle.queue_model.specs.Amounts.{sent-events, drop-head-events}
 use Rattle.queue_model.specs.Add.{starts-waiting, started, added, add-checks, new-item}
 use Rattle.queue_model.specs.Produce.{Head, head-of, drop-head, Look, nothing, broken, dropped, chosen, look-expired, look-at, look-for, look, numbered, make-fragment, end-pending, next-size, moved-on, handed-out-last, handed-out-part, handed-out, hand-out, after-look, pass-over, produce-checks}
@@ -29,7 +29,7 @@ use Rattle.queue_model.specs.Demands.{Typed, Reachable, created, called}
 use Rattle.queue_model.specs.Waiting.{is-waiting, WaitsBy, Waiting-seen}
 use Rattle.queue_model.proofs.Table.{find-here, find-there, find-key, find-put-same, find-put-other, find-without-other, find-after, own, other, is-own, not-in-nil, found, missing, look-up, Rising, Every, every-find}
 use Rattle.queue_model.proofs.Tests.{eqb-true, ltb-true}
-use Rattle.queue_model.proofs.Checks.{Passed, all-passed, checked-past}
+use Rattle.queue_model.proofs.Checks.{Passed, checked-past, checked-either}
 use Rattle.queue_model.proofs.Scheduler.{set-none, set-some, each-nil, each-cons}
 use Rattle.queue_model.proofs.Streams.{at-found, at-new, at-id, unsent-bytes}
 use Rattle.queue_model.proofs.Invariant.Messages.{WellItems}
@@ -196,12 +196,7 @@ each-items il ss sc r w k s e =
 -- ---- calls
 
 serves-checked : (cs : List Check) (q : Queue) (s : Step) → Serves (q .streams) (q .scheduler) → (Passed cs → Serves (s .next .streams) (s .next .scheduler)) → Serves ((checked cs q s) .next .streams) ((checked cs q s) .next .scheduler)
-unfolding checked refused-or
-serves-checked cs q s a h = go (first-refusal cs) refl
-  where
-    go : (x : Option ℕ) → first-refusal cs ≡ x → Serves ((refused-or x q s) .next .streams) ((refused-or x q s) .next .scheduler)
-    go none e = h (all-passed cs e)
-    go (some n) e = a
+serves-checked cs q s a h = checked-either (λ (x : Step). Serves (x .next .streams) (x .next .scheduler)) cs q s (λ r. a) h
 
 -- the stream of an id, known or new
 serves-at : (q : Queue) (j : ℕ) → Serves (q .streams) (q .scheduler) → Served (q .scheduler .active) ((stream-at q j) .id) ((stream-at q j) .pause-state) ((stream-at q j) .items)
