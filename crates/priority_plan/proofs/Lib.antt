@@ -1,0 +1,10 @@
+pub mod LeastSet
+pub mod Loops
+pub mod Sends
+pub mod More
+pub mod Turns
+pub mod Loading
+pub mod Request
+pub mod Live
+pub mod Only
+pub mod OwnJob
