@@ -4,7 +4,7 @@ use mathlib.Core.Logic.{_↔_}
 use mathlib.Core.Bool.{Bool, true, false, not, _&&_, _||_}
 use mathlib.Core.List.{List, [], _∷_}
 use mathlib.Core.Option.{Option, none, some, Option·getD}
-use Prim.Native.Nat.{ℕ, suc, _*_, _/_, _≤_, _<_, min, max}
+use Prim.Native.Nat.{ℕ, suc, _*_, _/_, _≤_, _<_, max}
 use native.Mathlib.Nat.{mul-comm, mul-le-mul-left, div-lt-iff-lt-mul, le-div-iff-mul-le, div-mul-le-self, div-le-self}
 use native.Mathlib.Omega.{arith}
 use lib.Dec.{eqb, ltb, ltb→lt, eqb→eq}
@@ -12,15 +12,15 @@ use lib.ListN.{length}
 use Rattle.queue_model.specs.Logic.{if_then_else_, outside, any, is-nil}
 use Rattle.queue_model.specs.Types.{Active}
 use Rattle.queue_model.specs.Scheduler.{cost, scheduled, comes-before, saturating}
-use Rattle.queue_model.specs.Refusals.{_when_, first-refusal, max-payload}
+use Rattle.queue_model.specs.Refusals.{limit-wrong, _when_, first-refusal, max-payload}
 use Rattle.queue_model.proofs.Tests.{holds, ltb-true, ltb-false, eqb-true, less, same, more, tri}
 use Rattle.queue_model.proofs.Checks.{or-left, or-right, not-less, not-false}
 use Rattle.priority_plan.specs.declared.plan.PlannedPriorities.{PlannedPriorities}
 use Rattle.queue_streams.specs.Answers.{callNumber}
 use Rattle.queue_streams.specs.declared.answers.Call.the-variants.{Accepted, Refused}
-use Rattle.priority_plan.specs.Works.{PlannedStream, planned-streams, first-entry, entries, All, InOrder, IsPriority, Works, AtMostEach}
-use Rattle.priority_plan.specs.Least.{bound, least-priority, least-set}
-use Rattle.priority_plan.specs.Lists.{named-twice, size-outside, list-wrong}
+use Rattle.priority_plan.specs.Works.{PlannedStream, planned-streams, first-entry, entries, All, InOrder, IsPriority, Works, AtMostEach, max-priority}
+use Rattle.priority_plan.specs.Least.{bound, least-priority, least-set, max-limit, byte-cost, full-cost, no-bound}
+use Rattle.priority_plan.specs.Lists.{named-twice, size-outside, list-wrong, max-planned}
 use Rattle.priority_plan.specs.Plan.{none-works, plan-checks, refused-plan, made-plan, plan-or, planned}
 use Rattle.priority_plan.specs.Request.{Right, least-given, none-given, Request13-answer}
 
@@ -39,31 +39,27 @@ quotient-falls c p q hp h =
 
 -- ---- finish times
 
--- The cost of a stream's first fragment at priority 1.
-abbrev pub full : ℕ → ℕ → ℕ
-full limit size = min size limit * 1000000
-
 -- A limit and a size as the request allows them.
 abbrev pub GoodLimit : ℕ → Type 0
-GoodLimit limit = (1 ≤ limit) × (limit ≤ 65535)
+GoodLimit limit = (1 ≤ limit) × (limit ≤ max-limit)
 
 abbrev pub GoodStream : PlannedStream → Type 0
 GoodStream h = 1 ≤ h .size
 
-pub full-fits : (limit size : ℕ) → limit ≤ 65535 → full limit size ≤ 65535000000
+pub full-fits : (limit size : ℕ) → limit ≤ max-limit → full-cost limit size < no-bound
 full-fits limit size h = omega arith
 
-pub full-some : (limit size : ℕ) → 1 ≤ limit → 1 ≤ size → 1000000 ≤ full limit size
+pub full-some : (limit size : ℕ) → 1 ≤ limit → 1 ≤ size → byte-cost ≤ full-cost limit size
 full-some limit size h k = omega arith
 
-pub finish-is : (limit : ℕ) (h : PlannedStream) (p : ℕ) → limit ≤ 65535 → 1 ≤ p → (first-entry limit h p) .finish ≡ full limit (h .size) / p
+pub finish-is : (limit : ℕ) (h : PlannedStream) (p : ℕ) → limit ≤ max-limit → 1 ≤ p → (first-entry limit h p) .finish ≡ full-cost limit (h .size) / p
 unfolding first-entry scheduled cost
 finish-is limit h p l k =
-    let c : ℕ = full limit (h .size) in
-    let a : saturating (min (h .size) limit * 1000000) ≡ full limit (h .size) = omega arith in
+    let c : ℕ = full-cost limit (h .size) in
+    let a : saturating (full-cost limit (h .size)) ≡ full-cost limit (h .size) = omega arith in
     let m : max p 1 ≡ p = omega arith in
-    let d : full limit (h .size) / p ≤ full limit (h .size) = div-le-self c p in
-    let e : saturating (min (h .size) limit * 1000000) / max p 1 ≡ full limit (h .size) / p = ap (λ (x : ℕ). x / max p 1) a ∙ ap (λ (x : ℕ). full limit (h .size) / x) m in
+    let d : full-cost limit (h .size) / p ≤ full-cost limit (h .size) = div-le-self c p in
+    let e : saturating (full-cost limit (h .size)) / max p 1 ≡ full-cost limit (h .size) / p = ap (λ (x : ℕ). x / max p 1) a ∙ ap (λ (x : ℕ). full-cost limit (h .size) / x) m in
     omega arith
 
 pub entry-id : (limit : ℕ) (h : PlannedStream) (p : ℕ) → (first-entry limit h p) .stream-id ≡ h .stream-id
@@ -75,7 +71,7 @@ finish-some limit h p l g a =
     let l₁ = l .0 in let l₂ = l .1 in let a₁ = a .0 in let a₂ = a .1 in
     let e = finish-is limit h p l₂ a₁ in
     let f = full-some limit (h .size) l₁ g in
-    let d : 1 ≤ full limit (h .size) / p = (le-div-iff-mul-le a₁) .1 (omega arith) in
+    let d : 1 ≤ full-cost limit (h .size) / p = (le-div-iff-mul-le a₁) .1 (omega arith) in
     omega arith
 
 -- ---- the order of entries
@@ -183,30 +179,30 @@ first-below limit h p (k ∷ hs) (q ∷ ps) b =
     (subst (λ (i : ℕ). (first-entry limit h p) .finish < limit-for i (first-entry limit k q)) (sym (entry-id limit h p))
     (subst (λ (i : ℕ). (first-entry limit h p) .finish < (if ltb (h .stream-id) i then suc ((first-entry limit k q) .finish) else (first-entry limit k q) .finish)) (sym (entry-id limit k q)) b))
 
-below-first : (limit : ℕ) (h : PlannedStream) (p : ℕ) (hs : List PlannedStream) (ps : List ℕ) → limit ≤ 65535 → 1 ≤ p → First (first-entry limit h p) (entries limit hs ps) → (first-entry limit h p) .finish < bound limit (h .stream-id) hs ps
+below-first : (limit : ℕ) (h : PlannedStream) (p : ℕ) (hs : List PlannedStream) (ps : List ℕ) → limit ≤ max-limit → 1 ≤ p → First (first-entry limit h p) (entries limit hs ps) → (first-entry limit h p) .finish < bound limit (h .stream-id) hs ps
 unfolding bound entries
-below-first limit h p [] ps l k b = let e = finish-is limit h p l k in let d = div-le-self (full limit (h .size)) p in let f = full-fits limit (h .size) l in omega arith
-below-first limit h p (j ∷ hs) [] l k b = let e = finish-is limit h p l k in let d = div-le-self (full limit (h .size)) p in let f = full-fits limit (h .size) l in omega arith
+below-first limit h p [] ps l k b = let e = finish-is limit h p l k in let d = div-le-self (full-cost limit (h .size)) p in let f = full-fits limit (h .size) l in omega arith
+below-first limit h p (j ∷ hs) [] l k b = let e = finish-is limit h p l k in let d = div-le-self (full-cost limit (h .size)) p in let f = full-fits limit (h .size) l in omega arith
 below-first limit h p (j ∷ hs) (q ∷ ps) l k b =
     subst (λ (i : ℕ). (first-entry limit h p) .finish < (if ltb (h .stream-id) i then suc ((first-entry limit j q) .finish) else (first-entry limit j q) .finish)) (entry-id limit j q)
     (subst (λ (i : ℕ). (first-entry limit h p) .finish < limit-for i (first-entry limit j q)) (entry-id limit h p) (below-limit (first-entry limit h p) (first-entry limit j q) b))
 
-least-allowed : (limit : ℕ) (hs : List PlannedStream) → any (ltb 65535) (least-set limit hs) ≡ false → All IsPriority (least-set limit hs)
+least-allowed : (limit : ℕ) (hs : List PlannedStream) → any (ltb max-priority) (least-set limit hs) ≡ false → All IsPriority (least-set limit hs)
 unfolding least-set any
 least-allowed limit [] e = tt
 least-allowed limit (h ∷ hs) e =
     let p : ℕ = least-priority limit (h .size) (bound limit (h .stream-id) hs (least-set limit hs)) in (
-      (least-positive limit (h .size) (bound limit (h .stream-id) hs (least-set limit hs)), not-less 65535 p (or-left (ltb 65535 p) (any (ltb 65535) (least-set limit hs)) e)),
-      least-allowed limit hs (or-right (ltb 65535 p) (any (ltb 65535) (least-set limit hs)) e),
+      (least-positive limit (h .size) (bound limit (h .stream-id) hs (least-set limit hs)), not-less max-priority p (or-left (ltb max-priority p) (any (ltb max-priority) (least-set limit hs)) e)),
+      least-allowed limit hs (or-right (ltb max-priority p) (any (ltb max-priority) (least-set limit hs)) e),
     )
 
-priority-fits : (limit : ℕ) (h : PlannedStream) (b : ℕ) → limit ≤ 65535 → 0 < b → (first-entry limit h (least-priority limit (h .size) b)) .finish < b
+priority-fits : (limit : ℕ) (h : PlannedStream) (b : ℕ) → limit ≤ max-limit → 0 < b → (first-entry limit h (least-priority limit (h .size) b)) .finish < b
 unfolding least-priority
 priority-fits limit h b l z =
     let p : ℕ = least-priority limit (h .size) b in
     let e = finish-is limit h p l (least-positive limit (h .size) b) in
-    let k : full limit (h .size) / b < least-priority limit (h .size) b = omega arith in
-    let d : full limit (h .size) / least-priority limit (h .size) b < b = under (full limit (h .size)) b p z (least-positive limit (h .size) b) k in
+    let k : full-cost limit (h .size) / b < least-priority limit (h .size) b = omega arith in
+    let d : full-cost limit (h .size) / least-priority limit (h .size) b < b = under (full-cost limit (h .size)) b p z (least-positive limit (h .size) b) k in
     omega arith
 
 least-chain : (limit : ℕ) (hs : List PlannedStream) → GoodLimit limit → All GoodStream hs → All IsPriority (least-set limit hs) → Chain (entries limit hs (least-set limit hs))
@@ -218,7 +214,7 @@ least-chain limit (h ∷ hs) l g a =
     let p : ℕ = least-priority limit (h .size) b in
     (first-below limit h p hs ps (priority-fits limit h b (l .1) (bound-some limit (h .stream-id) hs ps l (g .1) (a .1))), least-chain limit hs l (g .1) (a .1))
 
-pub least-works : (limit : ℕ) (hs : List PlannedStream) → GoodLimit limit → All GoodStream hs → any (ltb 65535) (least-set limit hs) ≡ false → Works limit hs (least-set limit hs)
+pub least-works : (limit : ℕ) (hs : List PlannedStream) → GoodLimit limit → All GoodStream hs → any (ltb max-priority) (least-set limit hs) ≡ false → Works limit hs (least-set limit hs)
 least-works limit hs l g e =
     let a = least-allowed limit hs e in
     record { count = least-count limit hs; allowed = a; order = in-order (entries limit hs (least-set limit hs)) (least-chain limit hs l g a) }
@@ -226,7 +222,7 @@ least-works limit hs l g e =
 -- ---- and is the least
 
 -- The bound falls where priorities rise.
-bound-falls : (limit id : ℕ) (hs : List PlannedStream) (ps qs : List ℕ) → limit ≤ 65535 → All (λ (p : ℕ). 1 ≤ p) ps → length ps ≡ length hs → length qs ≡ length hs → AtMostEach ps qs → bound limit id hs qs ≤ bound limit id hs ps
+bound-falls : (limit id : ℕ) (hs : List PlannedStream) (ps qs : List ℕ) → limit ≤ max-limit → All (λ (p : ℕ). 1 ≤ p) ps → length ps ≡ length hs → length qs ≡ length hs → AtMostEach ps qs → bound limit id hs qs ≤ bound limit id hs ps
 unfolding bound
 bound-falls limit id [] ps qs l a m n h = omega arith
 bound-falls limit id (k ∷ hs) [] qs l a m n h = absurd (omega arith)
@@ -234,7 +230,7 @@ bound-falls limit id (k ∷ hs) (p ∷ ps) [] l a m n h = absurd h
 bound-falls limit id (k ∷ hs) (p ∷ ps) (q ∷ qs) l a m n h =
     let p₁ = a .0 in let pq = h .0 in
     let e₁ = finish-is limit k p l p₁ in let e₂ = finish-is limit k q l (omega arith) in
-    let f : full limit (k .size) / q ≤ full limit (k .size) / p = quotient-falls (full limit (k .size)) p q p₁ pq in
+    let f : full-cost limit (k .size) / q ≤ full-cost limit (k .size) / p = quotient-falls (full-cost limit (k .size)) p q p₁ pq in
     go (ltb id (k .stream-id)) (omega arith)
   where
     go : (x : Bool) → (first-entry limit k q) .finish ≤ (first-entry limit k p) .finish → (if x then suc ((first-entry limit k q) .finish) else (first-entry limit k q) .finish) ≤ (if x then suc ((first-entry limit k p) .finish) else (first-entry limit k p) .finish)
@@ -251,15 +247,15 @@ order-first : (a : Active) (as′ : List Active) → All (λ (b : Active). comes
 order-first a [] h = tt
 order-first a (b ∷ bs) h = before a b (h .0)
 
-priority-least : (limit : ℕ) (h : PlannedStream) (q b : ℕ) → limit ≤ 65535 → 1 ≤ q → (first-entry limit h q) .finish < b → least-priority limit (h .size) b ≤ q
+priority-least : (limit : ℕ) (h : PlannedStream) (q b : ℕ) → limit ≤ max-limit → 1 ≤ q → (first-entry limit h q) .finish < b → least-priority limit (h .size) b ≤ q
 unfolding least-priority
 priority-least limit h q b l k z =
     let e = finish-is limit h q l k in
-    let d : full limit (h .size) / q < b = omega arith in
-    let f : full limit (h .size) / b < q = under (full limit (h .size)) q b k (omega arith) d in
+    let d : full-cost limit (h .size) / q < b = omega arith in
+    let f : full-cost limit (h .size) / b < q = under (full-cost limit (h .size)) q b k (omega arith) d in
     omega arith
 
-least-below : (limit : ℕ) (hs : List PlannedStream) (qs : List ℕ) → limit ≤ 65535 → length qs ≡ length hs → All IsPriority qs → InOrder (entries limit hs qs) → AtMostEach (least-set limit hs) qs
+least-below : (limit : ℕ) (hs : List PlannedStream) (qs : List ℕ) → limit ≤ max-limit → length qs ≡ length hs → All IsPriority qs → InOrder (entries limit hs qs) → AtMostEach (least-set limit hs) qs
 unfolding least-set entries
 least-below limit [] qs l n a o = tt
 least-below limit (h ∷ hs) [] l n a o = absurd (omega arith)
@@ -271,26 +267,26 @@ least-below limit (h ∷ hs) (q ∷ qs) l n a o =
     let g : bound limit (h .stream-id) hs qs ≤ bound limit (h .stream-id) hs (least-set limit hs) = bound-falls limit (h .stream-id) hs ps qs l (all-positive limit hs) (least-count limit hs) m ih in
     (priority-least limit h q (bound limit (h .stream-id) hs ps) l (a .0 .0) (omega arith), ih)
 
-pub working-above : (limit : ℕ) (hs : List PlannedStream) (qs : List ℕ) → limit ≤ 65535 → Works limit hs qs → AtMostEach (least-set limit hs) qs
+pub working-above : (limit : ℕ) (hs : List PlannedStream) (qs : List ℕ) → limit ≤ max-limit → Works limit hs qs → AtMostEach (least-set limit hs) qs
 working-above limit hs qs l w = least-below limit hs qs l (w .count) (w .allowed) (w .order)
 
 -- ---- 29
 
-none-above : (ps qs : List ℕ) → AtMostEach ps qs → All IsPriority qs → any (ltb 65535) ps ≡ false
+none-above : (ps qs : List ℕ) → AtMostEach ps qs → All IsPriority qs → any (ltb max-priority) ps ≡ false
 unfolding any
 none-above [] qs h a = refl
 none-above (p ∷ ps) [] h a = absurd h
 none-above (p ∷ ps) (q ∷ qs) h a =
-    let u = h .0 in let v = a .0 .1 in let k : p ≤ 65535 = omega arith in
-    ap (λ (x : Bool). x || any (ltb 65535) ps) (ltb-false k) ∙ none-above ps qs (h .1) (a .1)
+    let u = h .0 in let v = a .0 .1 in let k : p ≤ max-priority = omega arith in
+    ap (λ (x : Bool). x || any (ltb max-priority) ps) (ltb-false k) ∙ none-above ps qs (h .1) (a .1)
 
-pub none-works-right : (limit : ℕ) (hs : List PlannedStream) → limit ≤ 65535 → any (ltb 65535) (least-set limit hs) ≡ true → (qs : List ℕ) → Works limit hs qs → ⊥
+pub none-works-right : (limit : ℕ) (hs : List PlannedStream) → limit ≤ max-limit → any (ltb max-priority) (least-set limit hs) ≡ true → (qs : List ℕ) → Works limit hs qs → ⊥
 none-works-right limit hs l e qs w = holds false (sym (none-above (least-set limit hs) qs (working-above limit hs qs l w) (w .allowed)) ∙ e)
 
 -- ---- the answer
 
-pub good-limit : (limit : ℕ) → outside 1 65535 limit ≡ false → GoodLimit limit
-good-limit limit e = (not-less limit 1 (or-left (ltb limit 1) (ltb 65535 limit) e), not-less 65535 limit (or-right (ltb limit 1) (ltb 65535 limit) e))
+pub good-limit : (limit : ℕ) → limit-wrong limit .applies ≡ false → GoodLimit limit
+good-limit limit e = (not-less limit 1 (or-left (ltb limit 1) (ltb max-limit limit) e), not-less max-limit limit (or-right (ltb limit 1) (ltb max-limit limit) e))
 
 pub good-streams : (ids sizes : List ℕ) → size-outside sizes ≡ false → All GoodStream (planned-streams ids sizes)
 unfolding planned-streams size-outside any
@@ -303,7 +299,7 @@ good-streams (i ∷ is) (n ∷ ns) e =
 -- A list that is not refused.
 pub record GoodList (ids sizes : List ℕ) : Type 0 where
   pub some-id : is-nil ids ≡ false
-  pub few : length ids ≤ 32
+  pub few : length ids ≤ max-planned
   pub same-count : length ids ≡ length sizes
   pub distinct : named-twice ids ≡ false
   pub sizes-fit : size-outside sizes ≡ false
@@ -311,14 +307,14 @@ pub record GoodList (ids sizes : List ℕ) : Type 0 where
 pub good-list : (ids sizes : List ℕ) → list-wrong ids sizes ≡ false → GoodList ids sizes
 unfolding list-wrong
 good-list ids sizes e =
-    let x₁ : Bool = is-nil ids in let x₂ : Bool = ltb 32 (length ids) in let x₃ : Bool = not (eqb (length ids) (length sizes)) in
+    let x₁ : Bool = is-nil ids in let x₂ : Bool = ltb max-planned (length ids) in let x₃ : Bool = not (eqb (length ids) (length sizes)) in
     let x₄ : Bool = named-twice ids in let x₅ : Bool = size-outside sizes in
     let e₂ : (x₂ || (x₃ || (x₄ || x₅))) ≡ false = or-right x₁ (x₂ || (x₃ || (x₄ || x₅))) e in
     let e₃ : (x₃ || (x₄ || x₅)) ≡ false = or-right x₂ (x₃ || (x₄ || x₅)) e₂ in
     let e₄ : (x₄ || x₅) ≡ false = or-right x₃ (x₄ || x₅) e₃ in
     record {
       some-id = or-left x₁ (x₂ || (x₃ || (x₄ || x₅))) e;
-      few = not-less 32 (length ids) (or-left x₂ (x₃ || (x₄ || x₅)) e₂);
+      few = not-less max-planned (length ids) (or-left x₂ (x₃ || (x₄ || x₅)) e₂);
       same-count = eqb→eq (length ids) (length sizes) (holds (eqb (length ids) (length sizes)) (not-false (eqb (length ids) (length sizes)) (or-left x₃ (x₄ || x₅) e₃)));
       distinct = or-left x₄ x₅ e₄;
       sizes-fit = or-right x₄ x₅ e₄;
@@ -331,9 +327,9 @@ by-checks false true z ps = refused-plan 28
 by-checks false false true ps = refused-plan 29
 by-checks false false false ps = made-plan ps
 
-pub planned-is : (limit : ℕ) (ids sizes : List ℕ) → planned limit ids sizes ≡ by-checks (outside 1 65535 limit) (list-wrong ids sizes) (none-works limit (planned-streams ids sizes)) (least-set limit (planned-streams ids sizes))
+pub planned-is : (limit : ℕ) (ids sizes : List ℕ) → planned limit ids sizes ≡ by-checks (limit-wrong limit .applies) (list-wrong ids sizes) (none-works limit (planned-streams ids sizes)) (least-set limit (planned-streams ids sizes))
 unfolding planned plan-or first-refusal
-planned-is limit ids sizes = go (outside 1 65535 limit) (list-wrong ids sizes) (none-works limit (planned-streams ids sizes))
+planned-is limit ids sizes = go (limit-wrong limit .applies) (list-wrong ids sizes) (none-works limit (planned-streams ids sizes))
   where
     go : (x y z : Bool) → plan-or (first-refusal ((1 when x) ∷ (28 when y) ∷ (29 when z) ∷ [])) (least-set limit (planned-streams ids sizes)) ≡ by-checks x y z (least-set limit (planned-streams ids sizes))
     go true y z = refl
@@ -374,12 +370,12 @@ request13-answer limit ids sizes = record {
     ls : List ℕ
     ls = least-set limit hs
 
-    is : planned limit ids sizes ≡ by-checks (outside 1 65535 limit) (list-wrong ids sizes) (none-works limit hs) ls
+    is : planned limit ids sizes ≡ by-checks (limit-wrong limit .applies) (list-wrong ids sizes) (none-works limit hs) ls
     is = planned-is limit ids sizes
 
-    go : (b : Bool) → any (ltb 65535) ls ≡ b → GoodLimit limit → All GoodStream hs → planned limit ids sizes ≡ by-checks false false (any (ltb 65535) ls) ls → Right limit hs (planned limit ids sizes)
+    go : (b : Bool) → any (ltb max-priority) ls ≡ b → GoodLimit limit → All GoodStream hs → planned limit ids sizes ≡ by-checks false false (any (ltb max-priority) ls) ls → Right limit hs (planned limit ids sizes)
     go true e l g r = none-given (none-works-right limit hs (l .1) e) (r ∙ ap (λ (b : Bool). by-checks false false b ls) e)
     go false e l g r = least-given ls (record { works = least-works limit hs l g e; least = λ qs w. working-above limit hs qs (l .1) w }) (r ∙ ap (λ (b : Bool). by-checks false false b ls) e)
 
-    judged : outside 1 65535 limit ≡ false → list-wrong ids sizes ≡ false → Right limit hs (planned limit ids sizes)
-    judged e f = go (any (ltb 65535) ls) refl (good-limit limit e) (good-streams ids sizes (good-list ids sizes f .sizes-fit)) (is ∙ ap₂ (λ (x y : Bool). by-checks x y (none-works limit hs) ls) e f)
+    judged : limit-wrong limit .applies ≡ false → list-wrong ids sizes ≡ false → Right limit hs (planned limit ids sizes)
+    judged e f = go (any (ltb max-priority) ls) refl (good-limit limit e) (good-streams ids sizes (good-list ids sizes f .sizes-fit)) (is ∙ ap₂ (λ (x y : Bool). by-checks x y (none-works limit hs) ls) e f)

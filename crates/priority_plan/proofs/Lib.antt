@@ -1,5 +1,7 @@
+-- The least set, what it does in runs of the model, and the loops of the code. Assumes nothing.
 pub mod LeastSet
 pub mod Loops
+pub mod Lasting
 pub mod Sends
 pub mod More
 pub mod Turns

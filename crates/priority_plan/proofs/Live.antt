@@ -21,8 +21,9 @@ use Rattle.queue_model.proofs.Invariant.Fine.{Fine, sixteen}
 use Rattle.queue_model.proofs.Invariant.Sends.{fine-produce}
 use Rattle.priority_plan.specs.Works.{All}
 use Rattle.priority_plan.specs.Jobs.{Asking, ask, later-call}
-use Rattle.priority_plan.specs.Turns.{says-nothing, ends, NoneExpired}
+use Rattle.priority_plan.specs.Turns.{says-nothing, ends}
 use Rattle.priority_plan.specs.Runs.{Accepts}
+use Rattle.priority_plan.proofs.Lasting.{NoneExpired}
 use Rattle.priority_plan.proofs.Sends.{Produced, stayed, sent, produced, Looked, idle, picked, looked}
 
 -- ---- one call

@@ -25,8 +25,8 @@ use Rattle.queue_model.proofs.Invariant.Well.{Well, well-new}
 use Rattle.queue_model.proofs.Invariant.Fine.{Fine}
 use Rattle.queue_model.proofs.Invariant.Sixteen.{fine-step}
 use Rattle.priority_plan.specs.Works.{PlannedStream, first-entry, All}
-use Rattle.priority_plan.specs.Jobs.{Setting, priority, interleaving, setting-call, Adding, adding-call, last-priority, last-interleaving, first-size, Accepted, Prepared, set-up, loaded}
-use Rattle.priority_plan.specs.Turns.{NoneExpired}
+use Rattle.priority_plan.specs.Jobs.{Setting, priority, interleaving, setting-call, Adding, adding-call, last-priority, last-interleaving, first-size, Accepted, Prepared, set-up, loaded, Job}
+use Rattle.priority_plan.proofs.Lasting.{NoneExpired}
 
 -- ---- accepted calls
 
@@ -383,24 +383,23 @@ full o (x ∷ xs) q l t a =
 
 -- ---- the job
 
-module _ (o : Options) (ss : List Setting) (as′ : List Adding) (c : Created o) (ts : AllTyped (map setting-call ss)) (ta : AllTyped (map adding-call as′)) (on : last-interleaving false ss ≡ true)
-    (ds : Accepted (run (map setting-call ss) (new-queue o))) (da : Accepted (run (map adding-call as′) (set-up o ss))) where
+module _ (o : Options) (hs : List PlannedStream) (ps : List ℕ) (ss : List Setting) (as′ : List Adding) (j : Job o hs ps ss as′) where
   up : Settled o ss (new-queue o) (set-up o ss)
-  up = settled o ss (new-queue o) (fresh-new o c) ts ds
+  up = settled o ss (new-queue o) (fresh-new o (j .created)) (j .settings-typed) (j .settings-accepted)
 
   up-loading : Loading o (set-up o ss)
   unfolding new-queue
   up-loading = record {
     well = up .fresh .well;
     options-same = up .fresh .options-same;
-    on = up .choice ∙ on;
+    on = up .choice ∙ j .interleaves;
     free = up .fresh .resting .free;
     time-zero = up .fresh .resting .time-zero;
     opened = every-weaken Unused Opened ((set-up o ss) .streams) (λ s u. u .opened) (up .fresh .unused);
   }
 
   loaded-full : Full o as′ (set-up o ss) (loaded o ss as′)
-  loaded-full = full o as′ (set-up o ss) up-loading ta da
+  loaded-full = full o as′ (set-up o ss) up-loading (j .messages-typed) (j .messages-accepted)
 
   -- No message waits yet, so none is expired.
   pub up-lasting : (time : ℕ) → NoneExpired time ((set-up o ss) .streams)

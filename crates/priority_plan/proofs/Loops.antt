@@ -2,7 +2,7 @@
 use mathlib.Core.Path.{_≡_, refl, sym, ap, ap₂, _∙_, subst}
 use mathlib.Core.Bool.{Bool, true, false, not, _||_}
 use mathlib.Core.List.{List, [], _∷_, _++_}
-use Prim.Native.Nat.{ℕ, zero, suc, _+_, _-_, _*_, _/_, _≤_, _<_, min}
+use Prim.Native.Nat.{ℕ, zero, suc, _+_, _-_, _/_, _≤_, _<_}
 use native.Mathlib.Nat.{div-le-self}
 use native.Mathlib.Numerals.{add-one}
 use native.Mathlib.Omega.{arith}
@@ -10,16 +10,16 @@ use lib.Dec.{eqb, ltb}
 use lib.ListN.{length, getD, drop, set, replicate, replicate-append-replicate, drop-of-length-le}
 use lib.Seq.{drop-cons}
 use Rattle.queue_model.specs.Logic.{if_then_else_, outside, any, is-nil}
-use Rattle.queue_model.specs.Refusals.{_when_, first-refusal, max-payload}
+use Rattle.queue_model.specs.Refusals.{limit-wrong, _when_, first-refusal, max-payload}
 use Rattle.queue_model.proofs.Tests.{ltb-true, ltb-false, eqb-true, eqb-false}
 use Rattle.queue_model.proofs.Checks.{or-left, or-right, not-less}
 use Rattle.priority_plan.specs.declared.plan.PlannedPriorities.{PlannedPriorities}
 use Rattle.queue_streams.specs.declared.answers.Call.the-variants.{Accepted}
-use Rattle.priority_plan.specs.Works.{PlannedStream, planned-streams, first-entry}
-use Rattle.priority_plan.specs.Least.{no-bound, bound, least-priority, least-set}
-use Rattle.priority_plan.specs.Lists.{named-twice, size-outside, list-wrong}
+use Rattle.priority_plan.specs.Works.{PlannedStream, planned-streams, first-entry, max-priority}
+use Rattle.priority_plan.specs.Least.{no-bound, bound, least-priority, least-set, max-limit, full-cost, bound-before}
+use Rattle.priority_plan.specs.Lists.{named-twice, size-outside, list-wrong, max-planned}
 use Rattle.priority_plan.specs.Plan.{none-works, refused-plan, made-plan, plan-or, least-plan, planned}
-use Rattle.priority_plan.proofs.LeastSet.{full, full-fits, finish-is, finish-some, least-count, good-list}
+use Rattle.priority_plan.proofs.LeastSet.{full-fits, finish-is, finish-some, least-count, good-list}
 
 -- ---- tests on the rest of a list
 
@@ -137,39 +137,39 @@ rest-set limit ids sizes i = least-set limit (rest-planned ids sizes i)
 -- The streams from i on have their priorities; the next stream to come is bounded by this finish time and id.
 pub record State (limit : ℕ) (ids sizes values : List ℕ) (finish next i : ℕ) : Type 0 where
   pub within : i ≤ length ids
-  pub filled : values ≡ replicate i 0 ++ (rest-set limit ids sizes i ++ replicate (32 - length ids) 0)
-  pub small : any (ltb 65535) (rest-set limit ids sizes i) ≡ false
-  pub bounds : (id : ℕ) → (if ltb id next then suc finish else finish) ≡ bound limit id (rest-planned ids sizes i) (rest-set limit ids sizes i)
+  pub filled : values ≡ replicate i 0 ++ (rest-set limit ids sizes i ++ replicate (max-planned - length ids) 0)
+  pub small : any (ltb max-priority) (rest-set limit ids sizes i) ≡ false
+  pub bounds : (id : ℕ) → bound-before id next finish ≡ bound limit id (rest-planned ids sizes i) (rest-set limit ids sizes i)
   pub positive : 0 < finish
   pub below : finish ≤ no-bound
 
 -- What the call may take for granted of its lists.
 abbrev pub Given : ℕ → List ℕ → List ℕ → Type 0
-Given limit ids sizes = ((0 < limit) × (limit ≤ 65535)) × ((length ids ≤ 32) × ((length ids ≡ length sizes) × (size-outside sizes ≡ false)))
+Given limit ids sizes = ((0 < limit) × (limit ≤ max-limit)) × ((length ids ≤ max-planned) × ((length ids ≡ length sizes) × (size-outside sizes ≡ false)))
 
 module _ (limit : ℕ) (ids sizes : List ℕ) (g : Given limit ids sizes) where
   count-same : length ids ≡ length sizes
   count-same = g .1 .1 .0
 
-  pub state-start : State limit ids sizes (replicate 32 0) 65535000001 0 (length ids)
+  pub state-start : State limit ids sizes (replicate max-planned 0) no-bound 0 (length ids)
   unfolding least-set bound any
   state-start =
       let e : rest-planned ids sizes (length ids) ≡ [] = planned-end ids sizes count-same in
       let few = g .1 .0 in
-      let n : length ids + (32 - length ids) ≡ 32 = omega arith in
+      let n : length ids + (max-planned - length ids) ≡ max-planned = omega arith in
       record {
         within = omega arith;
         filled =
-            ap (λ (k : ℕ). replicate k 0) (sym n) ∙ sym (replicate-append-replicate (length ids) (32 - length ids) 0)
-            ∙ ap (λ (hs : List PlannedStream). replicate (length ids) 0 ++ (least-set limit hs ++ replicate (32 - length ids) 0)) (sym e);
-        small = ap (λ (hs : List PlannedStream). any (ltb 65535) (least-set limit hs)) e;
-        bounds = λ id. let z : 0 ≤ id = omega arith in ap (λ (b : Bool). if b then suc 65535000001 else 65535000001) (ltb-false z) ∙ ap (λ (hs : List PlannedStream). bound limit id hs (least-set limit hs)) (sym e);
+            ap (λ (k : ℕ). replicate k 0) (sym n) ∙ sym (replicate-append-replicate (length ids) (max-planned - length ids) 0)
+            ∙ ap (λ (hs : List PlannedStream). replicate (length ids) 0 ++ (least-set limit hs ++ replicate (max-planned - length ids) 0)) (sym e);
+        small = ap (λ (hs : List PlannedStream). any (ltb max-priority) (least-set limit hs)) e;
+        bounds = λ id. let z : 0 ≤ id = omega arith in ap (λ (b : Bool). if b then suc no-bound else no-bound) (ltb-false z) ∙ ap (λ (hs : List PlannedStream). bound limit id hs (least-set limit hs)) (sym e);
         positive = omega arith;
         below = omega arith;
       }
 
   module _ (values : List ℕ) (finish next i at id size b p : ℕ) (s : State limit ids sizes values finish next i) (hi : 0 < i) (ea : at ≡ i - 1)
-      (ed : id ≡ getD ids at 0) (ez : size ≡ getD sizes at 0) (eb : b ≡ (if ltb id next then suc finish else finish)) (ep : p ≡ least-priority limit size b) where
+      (ed : id ≡ getD ids at 0) (ez : size ≡ getD sizes at 0) (eb : b ≡ bound-before id next finish) (ep : p ≡ least-priority limit size b) where
     this : PlannedStream
     this = record { stream-id = id; size = size }
 
@@ -199,12 +199,12 @@ module _ (limit : ℕ) (ids sizes : List ℕ) (g : Given limit ids sizes) where
         go false z = z
 
     -- One priority above 65,535.
-    pub state-none : 65535 < p → refused-plan 29 ≡ least-plan limit (planned-streams ids sizes)
+    pub state-none : max-priority < p → refused-plan 29 ≡ least-plan limit (planned-streams ids sizes)
     unfolding least-plan none-works any
     state-none h =
         let l : List ℕ = least-set limit (planned-streams ids sizes) in
-        let e : any (ltb 65535) (rest-set limit ids sizes at) ≡ true = ap (any (ltb 65535)) set-is ∙ ap (λ (x : Bool). x || any (ltb 65535) (rest-set limit ids sizes i)) (ltb-true h) in
-        let f : any (ltb 65535) (least-set limit (planned-streams ids sizes)) ≡ true = any-drop (ltb 65535) at l (ap (any (ltb 65535)) (sym (least-drop limit at ids sizes count-same)) ∙ e) in
+        let e : any (ltb max-priority) (rest-set limit ids sizes at) ≡ true = ap (any (ltb max-priority)) set-is ∙ ap (λ (x : Bool). x || any (ltb max-priority) (rest-set limit ids sizes i)) (ltb-true h) in
+        let f : any (ltb max-priority) (least-set limit (planned-streams ids sizes)) ≡ true = any-drop (ltb max-priority) at l (ap (any (ltb max-priority)) (sym (least-drop limit at ids sizes count-same)) ∙ e) in
         ap (λ (x : Bool). if x then refused-plan 29 else made-plan (least-set limit (planned-streams ids sizes))) (sym f)
 
     size-some : 1 ≤ size
@@ -217,24 +217,24 @@ module _ (limit : ℕ) (ids sizes : List ℕ) (g : Given limit ids sizes) where
     unfolding least-priority
     priority-some = omega arith
 
-    pub state-next : (f : ℕ) → p ≤ 65535 → f ≡ min size limit * 1000000 / p → State limit ids sizes (set values at p) f id at
+    pub state-next : (f : ℕ) → p ≤ max-priority → f ≡ full-cost limit size / p → State limit ids sizes (set values at p) f id at
     unfolding bound any this
     state-next f h ef =
         let w = s .within in let l₁ = g .0 .0 in let l₂ = g .0 .1 in
         let z : i ≡ suc at = omega arith in
-        let e : (first-entry limit this p) .finish ≡ full limit size / p = finish-is limit this p l₂ priority-some in
+        let e : (first-entry limit this p) .finish ≡ full-cost limit size / p = finish-is limit this p l₂ priority-some in
         let fe : f ≡ (first-entry limit this p) .finish = ef ∙ sym e in
         let pos : 0 < (first-entry limit this p) .finish = finish-some limit this p (l₁, l₂) size-some (priority-some, h) in
-        let d : full limit size / p ≤ full limit size = div-le-self (full limit size) p in
+        let d : full-cost limit size / p ≤ full-cost limit size = div-le-self (full-cost limit size) p in
         let ff = full-fits limit size l₂ in
         let r : List ℕ = rest-set limit ids sizes i in
         record {
           within = omega arith;
           filled =
-              ap (λ (v : List ℕ). set v at p) (s .filled ∙ ap (λ (k : ℕ). replicate k 0 ++ (rest-set limit ids sizes i ++ replicate (32 - length ids) 0)) z)
-              ∙ set-before at p (r ++ replicate (32 - length ids) 0)
-              ∙ ap (λ (l : List ℕ). replicate at 0 ++ (l ++ replicate (32 - length ids) 0)) (sym set-is);
-          small = ap (any (ltb 65535)) set-is ∙ ap (λ (x : Bool). x || any (ltb 65535) r) (ltb-false h) ∙ s .small;
+              ap (λ (v : List ℕ). set v at p) (s .filled ∙ ap (λ (k : ℕ). replicate k 0 ++ (rest-set limit ids sizes i ++ replicate (max-planned - length ids) 0)) z)
+              ∙ set-before at p (r ++ replicate (max-planned - length ids) 0)
+              ∙ ap (λ (l : List ℕ). replicate at 0 ++ (l ++ replicate (max-planned - length ids) 0)) (sym set-is);
+          small = ap (any (ltb max-priority)) set-is ∙ ap (λ (x : Bool). x || any (ltb max-priority) r) (ltb-false h) ∙ s .small;
           bounds = λ j. ap (λ (x : ℕ). if ltb j id then suc x else x) fe ∙ ap₂ (λ (hs : List PlannedStream) (ps : List ℕ). bound limit j hs ps) (sym rest-is) (sym set-is);
           positive = omega arith;
           below = omega arith;
@@ -245,10 +245,10 @@ module _ (limit : ℕ) (ids sizes : List ℕ) (g : Given limit ids sizes) where
   state-end values finish next i s h =
       let z : i ≡ 0 = omega arith in
       let ls : List ℕ = least-set limit (planned-streams ids sizes) in
-      let n : any (ltb 65535) (least-set limit (planned-streams ids sizes)) ≡ false = ap (λ (k : ℕ). any (ltb 65535) (rest-set limit ids sizes k)) (sym z) ∙ s .small in
-      let v : values ≡ least-set limit (planned-streams ids sizes) ++ replicate (32 - length ids) 0 = s .filled ∙ ap (λ (k : ℕ). replicate k 0 ++ (rest-set limit ids sizes k ++ replicate (32 - length ids) 0)) z in
+      let n : any (ltb max-priority) (least-set limit (planned-streams ids sizes)) ≡ false = ap (λ (k : ℕ). any (ltb max-priority) (rest-set limit ids sizes k)) (sym z) ∙ s .small in
+      let v : values ≡ least-set limit (planned-streams ids sizes) ++ replicate (max-planned - length ids) 0 = s .filled ∙ ap (λ (k : ℕ). replicate k 0 ++ (rest-set limit ids sizes k ++ replicate (max-planned - length ids) 0)) z in
       let c : length ids ≡ length (least-set limit (planned-streams ids sizes)) = sym (least-count limit (planned-streams ids sizes) ∙ planned-count ids sizes count-same) in
-      ap₂ made-of c (v ∙ ap (λ (k : ℕ). ls ++ replicate (32 - k) 0) c) ∙ ap (λ (x : Bool). if x then refused-plan 29 else made-plan (least-set limit (planned-streams ids sizes))) (sym n)
+      ap₂ made-of c (v ∙ ap (λ (k : ℕ). ls ++ replicate (max-planned - k) 0) c) ∙ ap (λ (x : Bool). if x then refused-plan 29 else made-plan (least-set limit (planned-streams ids sizes))) (sym n)
     where
       made-of : ℕ → List ℕ → PlannedPriorities
       made-of n vs = record { answer = Accepted 0; count = n; values = vs }
@@ -268,24 +268,24 @@ nil-some (x ∷ xs) n = refl
 module _ (ids sizes : List ℕ) where
   pub list-empty : length ids ≡ 0 → true ≡ list-wrong ids sizes
   unfolding list-wrong
-  list-empty e = sym (ap (λ (b : Bool). b || (ltb 32 (length ids) || (not (eqb (length ids) (length sizes)) || (named-twice ids || size-outside sizes)))) (nil-empty ids e))
+  list-empty e = sym (ap (λ (b : Bool). b || (ltb max-planned (length ids) || (not (eqb (length ids) (length sizes)) || (named-twice ids || size-outside sizes)))) (nil-empty ids e))
 
-  pub list-long : 32 < length ids → true ≡ list-wrong ids sizes
+  pub list-long : max-planned < length ids → true ≡ list-wrong ids sizes
   unfolding list-wrong
   list-long h = sym (or-true (is-nil ids) _ (ap (λ (b : Bool). b || (not (eqb (length ids) (length sizes)) || (named-twice ids || size-outside sizes))) (ltb-true h)))
 
   pub list-unlike : (length ids ≡ length sizes → ⊥) → true ≡ list-wrong ids sizes
   unfolding list-wrong
-  list-unlike n = sym (or-true (is-nil ids) _ (or-true (ltb 32 (length ids)) _ (ap (λ (b : Bool). not b || (named-twice ids || size-outside sizes)) (eqb-false n))))
+  list-unlike n = sym (or-true (is-nil ids) _ (or-true (ltb max-planned (length ids)) _ (ap (λ (b : Bool). not b || (named-twice ids || size-outside sizes)) (eqb-false n))))
 
   pub list-twice : named-twice ids ≡ true → true ≡ list-wrong ids sizes
   unfolding list-wrong
-  list-twice e = sym (or-true (is-nil ids) _ (or-true (ltb 32 (length ids)) _ (or-true (not (eqb (length ids) (length sizes))) _ (ap (λ (b : Bool). b || size-outside sizes) e))))
+  list-twice e = sym (or-true (is-nil ids) _ (or-true (ltb max-planned (length ids)) _ (or-true (not (eqb (length ids) (length sizes))) _ (ap (λ (b : Bool). b || size-outside sizes) e))))
 
-  pub list-rest : (length ids ≡ 0 → ⊥) → length ids ≤ 32 → length ids ≡ length sizes → named-twice ids ≡ false → size-outside sizes ≡ list-wrong ids sizes
+  pub list-rest : (length ids ≡ 0 → ⊥) → length ids ≤ max-planned → length ids ≡ length sizes → named-twice ids ≡ false → size-outside sizes ≡ list-wrong ids sizes
   unfolding list-wrong
   list-rest n h e t =
-      sym (ap (λ (b : Bool). b || (ltb 32 (length ids) || (not (eqb (length ids) (length sizes)) || (named-twice ids || size-outside sizes)))) (nil-some ids n)
+      sym (ap (λ (b : Bool). b || (ltb max-planned (length ids) || (not (eqb (length ids) (length sizes)) || (named-twice ids || size-outside sizes)))) (nil-some ids n)
       ∙ ap (λ (b : Bool). b || (not (eqb (length ids) (length sizes)) || (named-twice ids || size-outside sizes))) (ltb-false h)
       ∙ ap (λ (b : Bool). not b || (named-twice ids || size-outside sizes)) (eqb-true e)
       ∙ ap (λ (b : Bool). b || size-outside sizes) t)
@@ -296,18 +296,18 @@ module _ (limit : ℕ) (ids sizes : List ℕ) where
   abbrev rest-plan : Bool → Bool → PlannedPriorities
   rest-plan x y = plan-or (first-refusal ((1 when x) ∷ (28 when y) ∷ (29 when none-works limit (planned-streams ids sizes)) ∷ [])) (least-set limit (planned-streams ids sizes))
 
-  plan-limit : outside 1 65535 limit ≡ true → refused-plan 1 ≡ planned limit ids sizes
+  plan-limit : limit-wrong limit .applies ≡ true → refused-plan 1 ≡ planned limit ids sizes
   unfolding planned first-refusal plan-or
   plan-limit e = sym (ap (λ (x : Bool). rest-plan x (list-wrong ids sizes)) e)
 
   pub plan-low : limit < 1 → refused-plan 1 ≡ planned limit ids sizes
-  plan-low h = plan-limit (ap (λ (b : Bool). b || ltb 65535 limit) (ltb-true h))
+  plan-low h = plan-limit (ap (λ (b : Bool). b || ltb max-limit limit) (ltb-true h))
 
-  pub plan-high : 65535 < limit → refused-plan 1 ≡ planned limit ids sizes
-  plan-high h = plan-limit (or-true (ltb limit 1) (ltb 65535 limit) (ltb-true h))
+  pub plan-high : max-limit < limit → refused-plan 1 ≡ planned limit ids sizes
+  plan-high h = plan-limit (or-true (ltb limit 1) (ltb max-limit limit) (ltb-true h))
 
-  module _ (l : 1 ≤ limit) (k : limit ≤ 65535) where
-    inside-limit : outside 1 65535 limit ≡ false
+  module _ (l : 1 ≤ limit) (k : limit ≤ max-limit) where
+    inside-limit : limit-wrong limit .applies ≡ false
     inside-limit = ap₂ _||_ (ltb-false l) (ltb-false k)
 
     pub plan-list : list-wrong ids sizes ≡ true → refused-plan 28 ≡ planned limit ids sizes

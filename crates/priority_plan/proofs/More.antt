@@ -19,7 +19,8 @@ use Rattle.queue_model.proofs.Invariant.Waits as waits
 use Rattle.queue_model.proofs.Invariant.Well.{Well}
 use Rattle.priority_plan.specs.Works.{All}
 use Rattle.priority_plan.specs.Jobs.{Adding, adding-call}
-use Rattle.priority_plan.specs.Turns.{shown, says-nothing, NoneExpired, Lasting}
+use Rattle.priority_plan.specs.Turns.{shown, says-nothing, Lasting}
+use Rattle.priority_plan.proofs.Lasting.{NoneExpired}
 use Rattle.priority_plan.proofs.Sends.{to-every, to-all, Others, set-others}
 
 -- ---- expiry times

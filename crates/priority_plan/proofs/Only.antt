@@ -12,15 +12,18 @@ use Rattle.queue_model.specs.Logic.{if_then_else_, any}
 use Rattle.queue_model.specs.Types.{Active, Options, Queue, expired}
 use Rattle.queue_model.specs.Scheduler.{find-active, comes-before}
 use Rattle.queue_model.specs.Add.{expiry}
+use Rattle.queue_model.specs.FairTurns.{none-expired}
+use Rattle.queue_model.specs.Demands.{AllTyped}
 use Rattle.queue_model.specs.Run.{run}
 use Rattle.queue_model.proofs.Tests.{holds, ltb-false, eqb-true, eqb-false, less, same, more, tri}
 use Rattle.queue_model.proofs.Checks.{or-left, or-right}
 use Rattle.queue_model.proofs.Invariant.Well.{Well}
 use Rattle.priority_plan.specs.Works.{PlannedStream, entries, All, InOrder}
 use Rattle.priority_plan.specs.Lists.{named-twice}
-use Rattle.priority_plan.specs.Jobs.{Adding, Asking, ask, later-call, times, added-later, Prepared, AllPairs, set-up, loaded}
-use Rattle.priority_plan.specs.Turns.{remove, streams-shown, firsts, still-without, ends, NoneExpired, Lasting, stream-ids}
-use Rattle.priority_plan.specs.Runs.{Accepts, Request13-entries, Request13-order, Request13-served, Request13-only}
+use Rattle.priority_plan.specs.Jobs.{Adding, Asking, ask, later-call, times, added-later, Prepared, AllPairs, set-up, loaded, adding-call}
+use Rattle.priority_plan.specs.Turns.{remove, streams-shown, firsts, still-without, ends, Lasting, stream-ids}
+use Rattle.priority_plan.specs.Runs.{Accepts, Request13-entries, Request13-order, Request13-served, Request13-only, Listed}
+use Rattle.priority_plan.proofs.Lasting.{all-last, none-expires}
 use Rattle.priority_plan.proofs.LeastSet.{Before, sooner, level, comes}
 use Rattle.priority_plan.proofs.Turns.{Ready, ids-of, Timely, turns}
 use Rattle.priority_plan.proofs.Loading.{loaded-well, loaded-on, loaded-free, loaded-options, up-lasting}
@@ -34,7 +37,7 @@ none-added : (xs : List Asking) → added-later (map ask xs) ≡ []
 none-added [] = refl
 none-added (x ∷ xs) = none-added xs
 
-asked-times : (q : Queue) (xs : List Asking) → All (λ (x : Asking). NoneExpired (x .now) (q .streams)) xs → All (λ (t : ℕ). NoneExpired t (q .streams)) (times (map ask xs))
+asked-times : (q : Queue) (xs : List Asking) → All (λ (x : Asking). none-expired (x .now) q ≡ true) xs → All (λ (t : ℕ). none-expired t q ≡ true) (times (map ask xs))
 asked-times q [] n = tt
 asked-times q (x ∷ xs) n = (n .0, asked-times q xs (n .1))
 
@@ -42,10 +45,10 @@ nothing-lasts : (ts : List ℕ) → All (λ (t : ℕ). Lasting t []) ts
 nothing-lasts [] = tt
 nothing-lasts (t ∷ ts) = (tt, nothing-lasts ts)
 
-timely-asks : (q : Queue) (xs : List Asking) → All (λ (x : Asking). NoneExpired (x .now) (q .streams)) xs → Timely (map ask xs) q
+timely-asks : (q : Queue) (xs : List Asking) → All (λ (x : Asking). none-expired (x .now) q ≡ true) xs → Timely (map ask xs) q
 timely-asks q xs n = record {
-  typed = subst (λ (l : List Adding). Rattle.queue_model.specs.Demands.AllTyped (map Rattle.priority_plan.specs.Jobs.adding-call l)) (sym (none-added xs)) tt;
-  waiting-last = asked-times q xs n;
+  typed = subst (λ (l : List Adding). AllTyped (map adding-call l)) (sym (none-added xs)) tt;
+  waiting-last = all-last (λ (t : ℕ). t) q (times (map ask xs)) (asked-times q xs n);
   added-last = subst (λ (l : List Adding). All (λ (t : ℕ). Lasting t l) (times (map ask xs))) (sym (none-added xs)) (nothing-lasts (times (map ask xs)));
 }
 
@@ -59,11 +62,11 @@ unfolding Request13-served Request13-order
 request13-served o hs ps ss as′ xs j w a n h =
     let q : Queue = loaded o ss as′ in
     let t = timely-asks q xs n in
-    let it = request13-order o hs ps ss as′ (map ask xs) j w (t .typed) (t .waiting-last) (t .added-last) in
+    let it = request13-order o hs ps ss as′ (map ask xs) j w (t .typed) (asked-times q xs n) (t .added-last) in
     let sh : List ℕ = streams-shown (run (map later-call (map ask xs)) (loaded o ss as′)) in
     let e : ends (run (map later-call (map ask xs)) (loaded o ss as′)) ≡ true =
-    live xs q (loaded-well o ss as′ (j .created) (j .settings-typed) (j .messages-typed) (j .interleaves) (j .settings-accepted) (j .messages-accepted)) (loaded-on o ss as′ (j .created) (j .settings-typed) (j .messages-typed) (j .interleaves) (j .settings-accepted) (j .messages-accepted)) (loaded-free o ss as′ (j .created) (j .settings-typed) (j .messages-typed) (j .interleaves) (j .settings-accepted) (j .messages-accepted))
-    (subst (λ (z : Options). All (Accepts z) xs) (sym (loaded-options o ss as′ (j .created) (j .settings-typed) (j .messages-typed) (j .interleaves) (j .settings-accepted) (j .messages-accepted))) a) n h in
+    live xs q (loaded-well o hs ps ss as′ j) (loaded-on o hs ps ss as′ j) (loaded-free o hs ps ss as′ j)
+    (subst (λ (z : Options). All (Accepts z) xs) (sym (loaded-options o hs ps ss as′ j)) a) (all-last (λ (x : Asking). x .now) q xs n) h in
     sym (it .in-turn ∙ ap (λ (l : List ℕ). firsts (stream-ids hs) (streams-shown (run (map later-call (map ask xs)) (loaded o ss as′))) ++ l) (it .all-served e) ∙ append-nil (firsts (stream-ids hs) sh))
 
 -- ---- which of two streams is shown first
@@ -235,23 +238,23 @@ request13-only o hs ps ss as′ j al d every =
     q : Queue
     q = loaded o ss as′
 
-    l : Rattle.priority_plan.specs.Runs.Listed (o .payload-limit) hs ps (loaded o ss as′)
+    l : Listed (o .payload-limit) hs ps (loaded o ss as′)
     l = request13-entries o hs ps ss as′ j
 
     Here : Active → Type 0
     Here e = find-active (e .stream-id) ((loaded o ss as′) .scheduler .active) ≡ some e
 
     well : Well (loaded o ss as′)
-    well = loaded-well o ss as′ (j .created) (j .settings-typed) (j .messages-typed) (j .interleaves) (j .settings-accepted) (j .messages-accepted)
+    well = loaded-well o hs ps ss as′ j
 
     on : (loaded o ss as′) .interleaving ≡ true
-    on = loaded-on o ss as′ (j .created) (j .settings-typed) (j .messages-typed) (j .interleaves) (j .settings-accepted) (j .messages-accepted)
+    on = loaded-on o hs ps ss as′ j
 
     free : (loaded o ss as′) .scheduler .current ≡ none
-    free = loaded-free o ss as′ (j .created) (j .settings-typed) (j .messages-typed) (j .interleaves) (j .settings-accepted) (j .messages-accepted)
+    free = loaded-free o hs ps ss as′ j
 
     same-options : (loaded o ss as′) .options ≡ o
-    same-options = loaded-options o ss as′ (j .created) (j .settings-typed) (j .messages-typed) (j .interleaves) (j .settings-accepted) (j .messages-accepted)
+    same-options = loaded-options o hs ps ss as′ j
 
     xs : List Asking
     xs = replicate (suc ((loaded o ss as′) .total)) (one-byte o)
@@ -259,13 +262,13 @@ request13-only o hs ps ss as′ j al d every =
     accepts : All (Accepts o) xs
     accepts = all-same (Accepts o) (one-byte o) (suc ((loaded o ss as′) .total)) (record { store-same = refl; places-enough = omega arith; time-fits = omega arith; size-low = omega arith; size-high = omega arith; buffer-fits = omega arith })
 
-    lasting : All (λ (x : Asking). NoneExpired (x .now) ((loaded o ss as′) .streams)) xs
+    lasting : All (λ (x : Asking). none-expired (x .now) (loaded o ss as′) ≡ true) xs
     lasting =
-        all-same (λ (x : Asking). NoneExpired (x .now) ((loaded o ss as′) .streams)) (one-byte o) (suc ((loaded o ss as′) .total))
-        (lasting-adds 0 as′ (set-up o ss) (up-lasting o ss as′ (j .created) (j .settings-typed) (j .messages-typed) (j .interleaves) (j .settings-accepted) (j .messages-accepted) 0) (never-at-zero as′))
+        all-same (λ (x : Asking). none-expired (x .now) (loaded o ss as′) ≡ true) (one-byte o) (suc ((loaded o ss as′) .total))
+        (none-expires 0 (loaded o ss as′) (lasting-adds 0 as′ (set-up o ss) (up-lasting o hs ps ss as′ j 0) (never-at-zero as′)))
 
     ended : ends (run (map later-call (map ask xs)) (loaded o ss as′)) ≡ true
-    ended = let n = length-replicate (suc ((loaded o ss as′) .total)) (one-byte o) in live xs (loaded o ss as′) well on free (subst (λ (z : Options). All (Accepts z) xs) (sym same-options) accepts) lasting (omega arith)
+    ended = let n = length-replicate (suc ((loaded o ss as′) .total)) (one-byte o) in live xs (loaded o ss as′) well on free (subst (λ (z : Options). All (Accepts z) xs) (sym same-options) accepts) (all-last (λ (x : Asking). x .now) (loaded o ss as′) xs lasting) (omega arith)
 
     pair : (a b : Active) → Here a → Here b → Precedes (a .stream-id) (b .stream-id) (stream-ids hs) → comes-before a b ≡ true
     pair a b ha hb p = go (comes-before a b) refl

@@ -8,24 +8,27 @@ use native.Mathlib.Omega.{arith}
 use lib.Dec.{eqb, ltb, leb}
 use lib.ListN.{length, take, replicate}
 use lib.Seq.{take-append-seam}
-use Rattle.queue_model.specs.Logic.{if_then_else_, outside, any, is-some, same-bool}
+use Rattle.queue_model.specs.Logic.{if_then_else_, any, is-some, same-bool}
 use Rattle.queue_model.specs.Table.{put}
 use Rattle.queue_model.specs.Types.{Stream, Options, Queue, done, reply, with-priority}
 use Rattle.queue_model.specs.Streams.{stream-key, find-stream, stream-at, too-many, know, new-queue}
 use Rattle.queue_model.specs.Settings.{priority-checks, switched}
+use Rattle.queue_model.specs.Refusals.{limit-wrong}
+use Rattle.queue_model.specs.FairTurns.{none-expired}
 use Rattle.queue_model.specs.Run.{step, run, set-priority}
 use Rattle.queue_model.specs.Demands.{AllTyped}
 use Rattle.queue_model.proofs.Tests.{holds, leb-false, eqb-true, eqb-false, less, same, more, tri}
 use Rattle.queue_model.proofs.Table.{put-end, put-later, put-here, put-before}
 use Rattle.queue_model.proofs.Checks.{or-left, or-right, checked-past}
 use Rattle.priority_plan.specs.declared.plan.PlannedPriorities.{PlannedPriorities}
-use Rattle.priority_plan.specs.Works.{PlannedStream, planned-streams, All, IsPriority, Works}
+use Rattle.priority_plan.specs.Works.{PlannedStream, planned-streams, All, IsPriority, Works, max-priority}
 use Rattle.priority_plan.specs.Least.{least-set}
-use Rattle.priority_plan.specs.Lists.{named-twice, list-wrong}
+use Rattle.priority_plan.specs.Lists.{named-twice, list-wrong, max-planned}
 use Rattle.priority_plan.specs.Plan.{none-works, refused-plan, made-plan, planned}
 use Rattle.priority_plan.specs.Jobs.{Setting, priority, interleaving, setting-call, Adding, last-priority, last-interleaving, first-size, Accepted, Prepared, AllPairs, set-up, loaded, Job, later-call, times, added-later}
-use Rattle.priority_plan.specs.Turns.{InTurn, NoneExpired, Lasting, stream-ids}
+use Rattle.priority_plan.specs.Turns.{InTurn, Lasting, stream-ids}
 use Rattle.priority_plan.specs.Runs.{priorities-of, plan-settings, Request13-plan, Request13-order}
+use Rattle.priority_plan.proofs.Lasting.{none-expires}
 use Rattle.priority_plan.proofs.LeastSet.{by-checks, planned-is, good-limit, good-list, GoodList, good-streams, least-works}
 use Rattle.priority_plan.proofs.More.{lasting-adds}
 use Rattle.priority_plan.proofs.Loading.{up-lasting}
@@ -36,8 +39,8 @@ use Rattle.priority_plan.proofs.Request.{request13-order}
 made-same : (ps qs : List ℕ) → made-plan ps ≡ made-plan qs → ps ≡ qs
 made-same ps qs e =
     let c : length ps ≡ length qs = ap (λ (r : PlannedPriorities). r .count) e in
-    let v : ps ++ replicate (32 - length ps) 0 ≡ qs ++ replicate (32 - length qs) 0 = ap (λ (r : PlannedPriorities). r .values) e in
-    sym (take-append-seam ps (replicate (32 - length ps) 0)) ∙ ap₂ take c v ∙ take-append-seam qs (replicate (32 - length qs) 0)
+    let v : ps ++ replicate (max-planned - length ps) 0 ≡ qs ++ replicate (max-planned - length qs) 0 = ap (λ (r : PlannedPriorities). r .values) e in
+    sym (take-append-seam ps (replicate (max-planned - length ps) 0)) ∙ ap₂ take c v ∙ take-append-seam qs (replicate (max-planned - length qs) 0)
 
 record Made-of (limit : ℕ) (is ns ps : List ℕ) : Type 0 where
   good : GoodList is ns
@@ -45,7 +48,7 @@ record Made-of (limit : ℕ) (is ns ps : List ℕ) : Type 0 where
 
 made-of : (limit : ℕ) (is ns ps : List ℕ) → planned limit is ns ≡ made-plan ps → Made-of limit is ns ps
 unfolding none-works
-made-of limit is ns ps e = go (outside 1 65535 limit) refl (list-wrong is ns) refl (any (ltb 65535) (least-set limit (planned-streams is ns))) refl (sym (planned-is limit is ns) ∙ e)
+made-of limit is ns ps e = go (limit-wrong limit .applies) refl (list-wrong is ns) refl (any (ltb max-priority) (least-set limit (planned-streams is ns))) refl (sym (planned-is limit is ns) ∙ e)
   where
     ls : List ℕ
     ls = least-set limit (planned-streams is ns)
@@ -53,7 +56,7 @@ made-of limit is ns ps e = go (outside 1 65535 limit) refl (list-wrong is ns) re
     never : (n : ℕ) → refused-plan n ≡ made-plan ps → ⊥
     never n z = let a = ap (λ (r : PlannedPriorities). r .answer) z in let y : _≡_ {A = ℕ} 0 1 = cc in omega arith
 
-    go : (x : Bool) → outside 1 65535 limit ≡ x → (y : Bool) → list-wrong is ns ≡ y → (z : Bool) → any (ltb 65535) (least-set limit (planned-streams is ns)) ≡ z → by-checks x y z (least-set limit (planned-streams is ns)) ≡ made-plan ps → Made-of limit is ns ps
+    go : (x : Bool) → limit-wrong limit .applies ≡ x → (y : Bool) → list-wrong is ns ≡ y → (z : Bool) → any (ltb max-priority) (least-set limit (planned-streams is ns)) ≡ z → by-checks x y z (least-set limit (planned-streams is ns)) ≡ made-plan ps → Made-of limit is ns ps
     go true ex y ey z ez r = absurd (never 1 r)
     go false ex true ey z ez r = absurd (never 28 r)
     go false ex false ey true ez r = absurd (never 29 r)
@@ -180,10 +183,10 @@ planned-few (i ∷ is) (n ∷ ns) = let ih = planned-few is ns in omega arith
 
 -- ---- expiry times
 
-job-lasting : (o : Options) (hs : List PlannedStream) (ps : List ℕ) (ss : List Setting) (as′ bs : List Adding) → Job o hs ps ss as′ → (ts : List ℕ) → All (λ (t : ℕ). Lasting t as′ × Lasting t bs) ts → All (λ (t : ℕ). NoneExpired t ((loaded o ss as′) .streams)) ts
+job-lasting : (o : Options) (hs : List PlannedStream) (ps : List ℕ) (ss : List Setting) (as′ bs : List Adding) → Job o hs ps ss as′ → (ts : List ℕ) → All (λ (t : ℕ). Lasting t as′ × Lasting t bs) ts → All (λ (t : ℕ). none-expired t (loaded o ss as′) ≡ true) ts
 job-lasting o hs ps ss as′ bs j [] l = tt
 job-lasting o hs ps ss as′ bs j (t ∷ ts) l =
-    (lasting-adds t as′ (set-up o ss) (up-lasting o ss as′ (j .created) (j .settings-typed) (j .messages-typed) (j .interleaves) (j .settings-accepted) (j .messages-accepted) t) (l .0 .0), job-lasting o hs ps ss as′ bs j ts (l .1))
+    (none-expires t (loaded o ss as′) (lasting-adds t as′ (set-up o ss) (up-lasting o hs ps ss as′ j t) (l .0 .0)), job-lasting o hs ps ss as′ bs j ts (l .1))
 
 later-lasting : (as′ bs : List Adding) (ts : List ℕ) → All (λ (t : ℕ). Lasting t as′ × Lasting t bs) ts → All (λ (t : ℕ). Lasting t bs) ts
 later-lasting as′ bs [] l = tt

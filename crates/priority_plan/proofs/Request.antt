@@ -7,11 +7,12 @@ use Rattle.queue_model.specs.Types.{Active, Queue}
 use Rattle.queue_model.specs.Scheduler.{find-active}
 use Rattle.queue_model.specs.Run.{run}
 use Rattle.priority_plan.specs.Works.{PlannedStream, first-entry, entries, All}
-use Rattle.priority_plan.specs.Jobs.{later-call, Prepared, AllPairs, loaded}
+use Rattle.priority_plan.specs.Jobs.{times, later-call, Prepared, AllPairs, loaded}
 use Rattle.priority_plan.specs.Turns.{InTurn, stream-ids}
 use Rattle.priority_plan.specs.Runs.{Request13-entries, Request13-order}
 use Rattle.priority_plan.proofs.LeastSet.{entry-id}
 use Rattle.priority_plan.proofs.Turns.{ids-of, turns}
+use Rattle.priority_plan.proofs.Lasting.{all-last}
 use Rattle.priority_plan.proofs.Loading.{loaded-well, loaded-on, loaded-free, loaded-time, loaded-entry}
 
 pub pairs-map : (P Q : PlannedStream → ℕ → Type 0) (hs : List PlannedStream) (ps : List ℕ) → ((h : PlannedStream) (p : ℕ) → P h p → Q h p) → AllPairs P hs ps → AllPairs Q hs ps
@@ -25,9 +26,9 @@ pub request13-entries : Request13-entries
 unfolding Request13-entries
 request13-entries o hs ps ss as′ j = record {
   all-listed = pairs-map (Prepared ss as′) (λ h p. find-active (h .stream-id) ((loaded o ss as′) .scheduler .active) ≡ some (first-entry (o .payload-limit) h p)) hs ps
-      (λ h p r. loaded-entry o ss as′ (j .created) (j .settings-typed) (j .messages-typed) (j .interleaves) (j .settings-accepted) (j .messages-accepted) h p r) (j .prepared);
-  none-remembered = loaded-free o ss as′ (j .created) (j .settings-typed) (j .messages-typed) (j .interleaves) (j .settings-accepted) (j .messages-accepted);
-  time-zero = loaded-time o ss as′ (j .created) (j .settings-typed) (j .messages-typed) (j .interleaves) (j .settings-accepted) (j .messages-accepted);
+      (λ h p r. loaded-entry o hs ps ss as′ j h p r) (j .prepared);
+  none-remembered = loaded-free o hs ps ss as′ j;
+  time-zero = loaded-time o hs ps ss as′ j;
 }
 
 -- Entries by their pairs.
@@ -54,10 +55,10 @@ request13-order o hs ps ss as′ xs j w tx n la =
     subst (λ (is : List ℕ). InTurn is (run (map later-call xs) (loaded o ss as′))) (entries-ids (o .payload-limit) (Prepared ss as′) hs ps (j .prepared))
     (turns xs (entries (o .payload-limit) hs ps) q
     (record {
-      well = loaded-well o ss as′ (j .created) (j .settings-typed) (j .messages-typed) (j .interleaves) (j .settings-accepted) (j .messages-accepted);
-      on = loaded-on o ss as′ (j .created) (j .settings-typed) (j .messages-typed) (j .interleaves) (j .settings-accepted) (j .messages-accepted);
+      well = loaded-well o hs ps ss as′ j;
+      on = loaded-on o hs ps ss as′ j;
       free = l .none-remembered;
       listed = entries-listed (o .payload-limit) (q .scheduler .active) hs ps (l .all-listed);
       order = w .order;
     })
-    (record { typed = tx; waiting-last = n; added-last = la }))
+    (record { typed = tx; waiting-last = all-last (λ (t : ℕ). t) q (times xs) n; added-last = la }))

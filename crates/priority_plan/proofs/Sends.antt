@@ -19,8 +19,9 @@ use Rattle.queue_model.proofs.Invariant.Well.{Well}
 use Rattle.queue_model.proofs.Invariant.Sends.{Head-for, head-for, head-of-at}
 use Rattle.queue_model.proofs.Calm.Calm.{HeadAt}
 use Rattle.priority_plan.specs.Works.{All}
-use Rattle.priority_plan.specs.Turns.{shown, says-nothing, NoneExpired}
+use Rattle.priority_plan.specs.Turns.{shown, says-nothing}
 use Rattle.queue_model.proofs.Invariant.Waits as waits
+use Rattle.priority_plan.proofs.Lasting.{NoneExpired}
 
 -- ---- a property of every row, by either name
 

@@ -21,7 +21,8 @@ use Rattle.queue_model.proofs.Invariant.Sends.{fine-produce}
 use Rattle.queue_model.proofs.Invariant.Sixteen.{fine-step}
 use Rattle.priority_plan.specs.Works.{All, InOrder}
 use Rattle.priority_plan.specs.Jobs.{Asking, Adding, adding-call, Later, ask, more, later-call, times, added-later}
-use Rattle.priority_plan.specs.Turns.{Lasting, shown, says-nothing, remove, and-shown, streams-shown, firsts, still-without, ends, InTurn, NoneExpired}
+use Rattle.priority_plan.specs.Turns.{Lasting, shown, says-nothing, remove, and-shown, streams-shown, firsts, still-without, ends, InTurn}
+use Rattle.priority_plan.proofs.Lasting.{NoneExpired}
 use Rattle.priority_plan.proofs.LeastSet.{Before, sooner, level, before}
 use Rattle.priority_plan.proofs.More.{lasting-step, more-keeps, more-shows, entry-stays}
 use Rattle.priority_plan.proofs.Sends.{Others, Produced, stayed, sent, produced}

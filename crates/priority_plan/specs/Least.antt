@@ -16,17 +16,21 @@ byte-cost = 1000000
 abbrev pub full-cost : ℕ → ℕ → ℕ
 full-cost limit size = min size limit * byte-cost
 
--- Above every finish time: 65,535 bytes at priority 1 cost 65,535,000,000.
+-- Above every finish time: no first fragment costs more than 65,535 bytes at priority 1.
 abbrev pub no-bound : ℕ
-no-bound = 65535000001
+no-bound = max-limit * byte-cost + 1
 
--- What the finish time of a stream must stay below to come before the next stream: the next finish time, or one more where its own id is the smaller one.
+-- "the smallest finish time, then the smallest id": what the finish time of a stream must stay below to come before the next one, that is the next finish time, or one more
+-- where its own id is the smaller one.
+abbrev pub bound-before : ℕ → ℕ → ℕ → ℕ
+bound-before id next finish = if ltb id next then suc finish else finish
+
 -- The last stream has no bound.
 unfoldable pub bound : ℕ → ℕ → List PlannedStream → List ℕ → ℕ
 unfolding first-entry
 bound limit id [] ps = no-bound
 bound limit id (h ∷ hs) [] = no-bound
-bound limit id (h ∷ hs) (p ∷ ps) = let f = (first-entry limit h p) .finish in if ltb id (h .stream-id) then suc f else f
+bound limit id (h ∷ hs) (p ∷ ps) = bound-before id (h .stream-id) ((first-entry limit h p) .finish)
 
 -- The least priority with which a first fragment's cost, rounded down, is below a bound.
 unfoldable pub least-priority : ℕ → ℕ → ℕ → ℕ

@@ -1,9 +1,9 @@
 -- What is wrong with a list. Assumes nothing.
 use mathlib.Core.Bool.{Bool, false, not, _||_}
 use mathlib.Core.List.{List, [], _∷_}
-use Prim.Native.Nat.{ℕ}
+use Prim.Native.Nat.{ℕ, _+_}
 use lib.Dec.{eqb, ltb}
-use lib.ListN.{length}
+use lib.ListN.{length, getD, drop}
 use Rattle.queue_model.specs.Logic.{outside, any, is-nil}
 use Rattle.queue_model.specs.Refusals.{max-payload}
 
@@ -11,7 +11,10 @@ use Rattle.queue_model.specs.Refusals.{max-payload}
 abbrev pub max-planned : ℕ
 max-planned = 32
 
--- "names one twice".
+-- "names one twice": the id at a place is named again behind it.
+abbrev pub named-later : List ℕ → ℕ → Bool
+named-later ids at = any (eqb (getD ids at 0)) (drop (at + 1) ids)
+
 unfoldable pub named-twice : List ℕ → Bool
 unfolding any
 named-twice [] = false

@@ -12,12 +12,13 @@ use Rattle.queue_model.specs.Streams.{new-queue}
 use Rattle.queue_model.specs.Refusals.{max-time, max-payload, event-places}
 use Rattle.queue_model.specs.Add.{expiry}
 use Rattle.queue_model.specs.Run.{run, after}
+use Rattle.queue_model.specs.FairTurns.{none-expired}
 use Rattle.queue_model.specs.Demands.{AllTyped, Created}
 use Rattle.priority_plan.specs.Works.{PlannedStream, planned-streams, first-entry, All, IsPriority, Works}
 use Rattle.priority_plan.specs.Lists.{named-twice}
 use Rattle.priority_plan.specs.Plan.{made-plan, planned}
 use Rattle.priority_plan.specs.Jobs.{Setting, priority, interleaving, setting-call, Adding, adding-call, Asking, Later, ask, later-call, times, added-later, first-size, Accepted, AllPairs, set-up, loaded, Job}
-use Rattle.priority_plan.specs.Turns.{streams-shown, firsts, still-without, ends, InTurn, NoneExpired, stream-ids, Lasting}
+use Rattle.priority_plan.specs.Turns.{streams-shown, firsts, still-without, ends, InTurn, stream-ids, Lasting}
 
 -- ------------------------------------------------------------------ the entries
 
@@ -36,11 +37,11 @@ Request13-entries = (o : Options) (hs : List PlannedStream) (ps : List ℕ) (ss 
 -- "make the scheduler's finish times and ids put those first fragments in that order": in any run of next fragments, of whatever sizes, and of more messages, refused calls
 -- included, in which no message has expired when a fragment is asked for.
 unfoldable pub Request13-order : Type 0
-unfolding after new-queue run streams-shown firsts still-without ends expiry
+unfolding after new-queue run streams-shown firsts still-without ends expiry none-expired
 Request13-order =
     (o : Options) (hs : List PlannedStream) (ps : List ℕ) (ss : List Setting) (as′ : List Adding) (xs : List Later)
     → Job o hs ps ss as′ → Works (o .payload-limit) hs ps → AllTyped (map adding-call (added-later xs))
-    → All (λ (t : ℕ). NoneExpired t ((loaded o ss as′) .streams)) (times xs)
+    → All (λ (t : ℕ). none-expired t (loaded o ss as′) ≡ true) (times xs)
     → All (λ (t : ℕ). Lasting t (added-later xs)) (times xs)
     → InTurn (stream-ids hs) (run (map later-call xs) (loaded o ss as′))
 
@@ -55,22 +56,22 @@ pub record Accepts (o : Options) (x : Asking) : Type 0 where
 
 -- More such calls than bytes wait serve every listed stream.
 unfoldable pub Request13-served : Type 0
-unfolding after new-queue run streams-shown firsts
+unfolding after new-queue run streams-shown firsts none-expired
 Request13-served =
     (o : Options) (hs : List PlannedStream) (ps : List ℕ) (ss : List Setting) (as′ : List Adding) (xs : List Asking)
     → Job o hs ps ss as′ → Works (o .payload-limit) hs ps
-    → All (Accepts o) xs → All (λ (x : Asking). NoneExpired (x .now) ((loaded o ss as′) .streams)) xs
+    → All (Accepts o) xs → All (λ (x : Asking). none-expired (x .now) (loaded o ss as′) ≡ true) xs
     → (loaded o ss as′) .total < length xs
     → firsts (stream-ids hs) (streams-shown (run (map later-call (map ask xs)) (loaded o ss as′))) ≡ stream-ids hs
 
 -- The converse: allowed priorities of different streams that put the first fragments in the list's order in every such run have finish times and ids in that order. So
 -- "any working set" means the same by finish times and by runs.
 unfoldable pub Request13-only : Type 0
-unfolding after new-queue run streams-shown firsts still-without ends named-twice
+unfolding after new-queue run streams-shown firsts still-without ends named-twice none-expired
 Request13-only =
     (o : Options) (hs : List PlannedStream) (ps : List ℕ) (ss : List Setting) (as′ : List Adding)
     → Job o hs ps ss as′ → All IsPriority ps → named-twice (stream-ids hs) ≡ false
-    → ((xs : List Asking) → All (Accepts o) xs → All (λ (x : Asking). NoneExpired (x .now) ((loaded o ss as′) .streams)) xs → InTurn (stream-ids hs) (run (map later-call (map ask xs)) (loaded o ss as′)))
+    → ((xs : List Asking) → All (Accepts o) xs → All (λ (x : Asking). none-expired (x .now) (loaded o ss as′) ≡ true) xs → InTurn (stream-ids hs) (run (map later-call (map ask xs)) (loaded o ss as′)))
     → Works (o .payload-limit) hs ps
 
 -- ------------------------------------------------------------------ the plan's own job

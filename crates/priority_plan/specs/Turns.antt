@@ -6,7 +6,7 @@ use mathlib.Core.Option.{Option, none, some}
 use Prim.Native.Nat.{ℕ}
 use lib.Dec.{eqb}
 use Rattle.queue_model.specs.Logic.{if_then_else_, any}
-use Rattle.queue_model.specs.Types.{Item, Stream, Answer, refused, done, number, flag, ids, fragment, nothing-waits, Outcome, expired}
+use Rattle.queue_model.specs.Types.{Answer, refused, done, number, flag, ids, fragment, nothing-waits, Outcome, expired}
 use Rattle.queue_model.specs.Add.{expiry}
 use Rattle.priority_plan.specs.Works.{PlannedStream, All}
 use Rattle.priority_plan.specs.Jobs.{Adding}
@@ -67,10 +67,6 @@ ends (o ∷ os) = says-nothing (o .answer) || ends os
 pub record InTurn (is : List ℕ) (os : List Outcome) : Type 0 where
   pub in-turn : is ≡ firsts is (streams-shown os) ++ still-without is (streams-shown os)
   pub all-served : ends os ≡ true → still-without is (streams-shown os) ≡ []
-
--- No waiting message is expired at this time.
-abbrev pub NoneExpired : ℕ → List Stream → Type 0
-NoneExpired now ss = All (λ (s : Stream). All (λ (i : Item). expired now (i .expires-at) ≡ false) (s .items)) ss
 
 abbrev pub stream-ids : List PlannedStream → List ℕ
 stream-ids hs = map (λ (h : PlannedStream). h .stream-id) hs

@@ -1,9 +1,7 @@
 // One stream's finish time, and the least priority that keeps it below a bound.
 ghost use mathlib.Core.Path.{_≡_};
-ghost use Prim.Native.Nat.{suc, _/_, _<_, _≤_};
-ghost use lib.Dec.{ltb};
-ghost use Rattle.queue_model.specs.Logic.{if_then_else_};
-ghost use Rattle.priority_plan.specs.Least.{max-limit, full-cost, no-bound, least-priority};
+ghost use Prim.Native.Nat.{_/_, _<_, _≤_};
+ghost use Rattle.priority_plan.specs.Least.{max-limit, full-cost, no-bound, bound-before, least-priority};
 
 // "bytes × 1,000,000 / weight": what a byte costs at priority 1.
 const BYTE_COST: u64 = 1000000;
@@ -30,7 +28,7 @@ pub fn finish_time(limit: u64, size: u64, priority: u64) -> u64
 // What a finish time must stay below to come before the next one: "the smallest finish time, then the smallest id".
 pub fn bound_before(id: u16, next: u16, finish: u64) -> u64
     requires { ⌜ finish ≤ no-bound ⌝ }
-    ensures { λ r. ⌜ r ≡ (if ltb id next then suc finish else finish) ⌝ }
+    ensures { λ r. ⌜ r ≡ bound-before id next finish ⌝ }
 {
     if id < next {
         return finish + 1;

@@ -1,10 +1,8 @@
 // The list that the planner gives: what is wrong with it.
 ghost use mathlib.Core.Path.{_≡_};
-ghost use Prim.Native.Nat.{_+_, _<_};
-ghost use lib.Dec.{eqb};
-ghost use lib.ListN.{length, getD, drop};
-ghost use Rattle.queue_model.specs.Logic.{any};
-ghost use Rattle.priority_plan.specs.Lists.{named-twice, size-outside, list-wrong};
+ghost use Prim.Native.Nat.{_<_};
+ghost use lib.ListN.{length};
+ghost use Rattle.priority_plan.specs.Lists.{named-later, named-twice, size-outside, list-wrong};
 
 // "up to 32 heads".
 pub const MAX_PLANNED: usize = 32;
@@ -14,7 +12,7 @@ const MAX_PAYLOAD: u64 = 262144;
 // Whether the id at a place is named again behind it.
 fn named_later(ids: &[u16], at: usize) -> bool
     requires { ⌜ at < length (now ids) ⌝ }
-    ensures { λ r. ⌜ r ≡ any (eqb (getD (now (ids .entry)) at 0)) (drop (at + 1) (now (ids .entry))) ⌝ }
+    ensures { λ r. ⌜ r ≡ named-later (now (ids .entry)) at ⌝ }
 {
     let id = ids[at];
     let mut i = at + 1;
