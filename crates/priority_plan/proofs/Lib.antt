@@ -1,5 +1,6 @@
 -- The least set, what it does in runs of the model, and the loops of the code. Assumes nothing.
 pub mod LeastSet
+pub mod Answer
 pub mod Loops
 pub mod Lasting
 pub mod Sends

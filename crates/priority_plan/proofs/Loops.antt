@@ -19,7 +19,8 @@ use Rattle.priority_plan.specs.Works.{PlannedStream, planned-streams, fi
 use Rattle.priority_plan.specs.Least.{no-bound, bound, least-priority, least-set, max-limit, full-cost, bound-before}
 use Rattle.priority_plan.specs.Lists.{named-twice, size-outside, list-wrong, max-planned}
 use Rattle.priority_plan.specs.Plan.{none-works, refused-plan, made-plan, plan-or, least-plan, planned}
-use Rattle.priority_plan.proofs.LeastSet.{full-fits, finish-is, finish-some, least-count, good-list}
+use Rattle.priority_plan.proofs.LeastSet.{full-fits, finish-is, finish-some, least-count}
+use Rattle.priority_plan.proofs.Answer.{good-list}
 
 -- ---- tests on the rest of a list
 

@@ -29,7 +29,8 @@ use Rattle.priority_plan.specs.Jobs.{Setting, priority, interleaving, se
 use Rattle.priority_plan.specs.Turns.{InTurn, Lasting, stream-ids}
 use Rattle.priority_plan.specs.Runs.{priorities-of, plan-settings, Request13-plan, Request13-order}
 use Rattle.priority_plan.proofs.Lasting.{none-expires}
-use Rattle.priority_plan.proofs.LeastSet.{by-checks, planned-is, good-limit, good-list, GoodList, good-streams, least-works}
+use Rattle.priority_plan.proofs.LeastSet.{least-works}
+use Rattle.priority_plan.proofs.Answer.{good-limit, good-streams, GoodList, good-list, listed-few, by-checks, planned-is}
 use Rattle.priority_plan.proofs.More.{lasting-adds}
 use Rattle.priority_plan.proofs.Loading.{up-lasting}
 use Rattle.priority_plan.proofs.Request.{request13-order}
@@ -174,13 +175,6 @@ ids-typed [] (n ∷ ns) a = tt
 ids-typed (i ∷ is) [] a = tt
 ids-typed (i ∷ is) (n ∷ ns) a = (a .0, ids-typed is ns (a .1))
 
-planned-few : (is ns : List ℕ) → length (planned-streams is ns) ≤ length is
-unfolding planned-streams
-planned-few [] [] = omega arith
-planned-few [] (n ∷ ns) = omega arith
-planned-few (i ∷ is) [] = omega arith
-planned-few (i ∷ is) (n ∷ ns) = let ih = planned-few is ns in omega arith
-
 -- ---- expiry times
 
 job-lasting : (o : Options) (hs : List PlannedStream) (ps : List ℕ) (ss : List Setting) (as′ bs : List Adding) → Job o hs ps ss as′ → (ts : List ℕ) → All (λ (t : ℕ). Lasting t as′ × Lasting t bs) ts → All (λ (t : ℕ). none-expired t (loaded o ss as′) ≡ true) ts
@@ -199,7 +193,7 @@ request13-plan o is ns ps as′ xs c t e ta da f tx n =
     let hs : List PlannedStream = planned-streams is ns in
     let ss : List Setting = plan-settings (planned-streams is ns) ps in
     let m = made-of (o .payload-limit) is ns ps e in
-    let g = m .good in let few = g .few in let hf = planned-few is ns in
+    let g = m .good in let few = g .few in let hf = listed-few is ns in
     let si : stream-ids (planned-streams is ns) ≡ is = ids-are is ns (g .same-count) in
     let ds : Accepted (run (map setting-call (plan-settings (planned-streams is ns) ps)) (new-queue o)) = settings-accepted o hs ps (omega arith) in
     let j : Job o (planned-streams is ns) ps (plan-settings (planned-streams is ns) ps) as′ = record {

@@ -3,5 +3,6 @@ pub mod least;
 pub mod lists;
 pub mod plan;
 
+pub use lists::MAX_PLANNED;
 pub use plan::PlannedPriorities;
 pub use plan::plan_priorities;

@@ -1,4 +1,4 @@
-// The send queue (tx/send_queue.rs): all its calls, under one name. Each contract has two promises: what the
+// The send queue (tx/send_queue.rs): all its calls, under one name. Each contract of a call on a queue has two promises: what the
 // call leaves on the words, for every input (`words`), and that on the words of a queue it is the step of document 01's model
 // (`model`).
 //
@@ -26,6 +26,10 @@ pub use queue_restarts::ReadyStreams;
 pub use linked_restarts::enable_message_interleaving;
 pub use linked_streams::set_buffered_amount_low_threshold;
 pub use linked_streams::set_priority;
+// Priorities for a wanted order.
+pub use priority_plan::MAX_PLANNED;
+pub use priority_plan::PlannedPriorities;
+pub use priority_plan::plan_priorities;
 // The questions.
 pub use linked_streams::buffered_amount;
 pub use linked_streams::buffered_amount_low_threshold;

@@ -7,6 +7,7 @@ use Rattle.queue_streams.specs.declared.answers.Call.{Call}
 use Rattle.queue_streams.specs.declared.answers.Flag.{Flag}
 use Rattle.queue_streams.specs.declared.answers.Number.{Number}
 use Rattle.queue_messages.specs.Add.{Added, added}
+use Rattle.priority_plan.specs.declared.plan.PlannedPriorities.{PlannedPriorities}
 use Rattle.queue_restarts.specs.Ready.{Readied, readied}
 use Rattle.queue_restarts.specs.declared.ready.ReadyStreams.{ReadyStreams}
 use Rattle.queue_sending.specs.Data.{ProducedWith, producedWith}
@@ -15,8 +16,8 @@ use Rattle.saving.specs.Save.{SavedAs, savedAs}
 use Rattle.saving.specs.declared.image.Saved.{Saved}
 use Rattle.queue_streams.specs.Answers.{callNumber, numberNumber, flagNumber}
 use Rattle.queue_sending.specs.Data.{producedNumber}
-use Rattle.send_queue_c.specs.Numbers.{callOut, numberOut, flagOut, producedOut, readyNumber, readyIds, readyOut, savedNumber, savedOut}
-use Rattle.send_queue_c.specs.Given.{Gives, GivesEvents, GivesStore, GivesFragment, GivesIds, GivesNumber, GivesFlag, GivesImage}
+use Rattle.send_queue_c.specs.Numbers.{callOut, numberOut, flagOut, producedOut, readyNumber, readyIds, readyOut, plannedPlaces, savedNumber, savedOut}
+use Rattle.send_queue_c.specs.Given.{Gives, GivesEvents, GivesStore, GivesFragment, GivesIds, GivesPriorities, GivesNumber, GivesFlag, GivesImage}
 
 pub gives : (d : Called) (c : Call) (r : ℕ) (ws′ : List ℕ) → called c ws′ ≡ d → r ≡ callNumber c → Gives d r ws′
 gives d c r ws′ e n = rw (← e) (record { number = n; queue = refl })
@@ -41,3 +42,6 @@ gives-flag d a out r out′ e t = rw (← e) (record { number = t .0; places = t
 
 pub gives-image : (d : SavedAs) (s : Saved) (out : List ℕ) (r : ℕ) (b′ out′ : List ℕ) → savedAs s b′ ≡ d → (r ≡ savedNumber s) × (out′ ≡ savedOut out s) → GivesImage d out r b′ out′
 gives-image d s out r b′ out′ e t = rw (← e) (record { number = t .0; image = refl; places = t .1 })
+
+pub gives-priorities : (d a : PlannedPriorities) (places : List ℕ) (r : ℕ) (places′ : List ℕ) → a ≡ d → (r ≡ callNumber (a .answer)) × (places′ ≡ plannedPlaces places a) → GivesPriorities d places r places′
+gives-priorities d a places r places′ e t = rw (← e) (record { number = t .0; priorities = t .1 })

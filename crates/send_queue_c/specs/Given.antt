@@ -6,12 +6,13 @@ use Rattle.queue_streams.specs.Settings.{Called, CalledWith}
 use Rattle.queue_streams.specs.declared.answers.Flag.{Flag}
 use Rattle.queue_streams.specs.declared.answers.Number.{Number}
 use Rattle.queue_messages.specs.Add.{Added}
+use Rattle.priority_plan.specs.declared.plan.PlannedPriorities.{PlannedPriorities}
 use Rattle.queue_restarts.specs.Ready.{Readied}
 use Rattle.queue_sending.specs.Data.{ProducedWith}
 use Rattle.saving.specs.Save.{SavedAs}
 use Rattle.queue_streams.specs.Answers.{callNumber, numberNumber, flagNumber}
 use Rattle.queue_sending.specs.Data.{producedNumber}
-use Rattle.send_queue_c.specs.Numbers.{callOut, numberOut, flagOut, producedOut, readyNumber, readyIds, readyOut, savedNumber, savedOut}
+use Rattle.send_queue_c.specs.Numbers.{callOut, numberOut, flagOut, producedOut, readyNumber, readyIds, readyOut, plannedPlaces, savedNumber, savedOut}
 
 -- A call that changes the words alone.
 pub record Gives (d : Called) (r : ℕ) (ws′ : List ℕ) : Type 0 where
@@ -45,6 +46,11 @@ pub record GivesIds (d : Readied) (ids out : List ℕ) (r : ℕ) (ws′ ids′ o
   pub queue : ws′ ≡ d .next
   pub ready : ids′ ≡ readyIds ids (d .answer)
   pub places : out′ ≡ readyOut out (d .answer)
+
+-- Priorities for a wanted order.
+pub record GivesPriorities (d : PlannedPriorities) (places : List ℕ) (r : ℕ) (places′ : List ℕ) : Type 0 where
+  pub number : r ≡ callNumber (d .answer)
+  pub priorities : places′ ≡ plannedPlaces places d
 
 -- A question for a number, and one for yes or no.
 pub record GivesNumber (d : Number) (out : List ℕ) (r : ℕ) (out′ : List ℕ) : Type 0 where

@@ -19,6 +19,7 @@ use Rattle.queue_messages.specs.declared.message.Lifetime.the-variants as life
 use Rattle.queue_messages.specs.declared.message.MaxRetransmissions.{MaxRetransmissions}
 use Rattle.queue_messages.specs.declared.message.MaxRetransmissions.the-variants as retr
 use Rattle.queue_messages.specs.declared.message.Message.{Message}
+use Rattle.priority_plan.specs.declared.plan.PlannedPriorities.{PlannedPriorities}
 use Rattle.queue_restarts.specs.declared.ready.ReadyStreams.{ReadyStreams}
 use Rattle.queue_sending.specs.declared.data.DataToSend.{DataToSend}
 use Rattle.queue_sending.specs.declared.data.Expiry.{Expiry}
@@ -103,11 +104,20 @@ accepted (Accepted k) a b = a
 accepted (Refused n) a b = b
 
 -- the first `count` places; the others stay
+abbrev pub withFirst : List ℕ → ℕ → List ℕ → List ℕ
+withFirst to count from = take count from ++ drop count to
+
 abbrev pub readyIds : List ℕ → ReadyStreams → List ℕ
-readyIds ids a = accepted (a .answer) (take (a .count) (a .ids) ++ drop (a .count) ids) ids
+readyIds ids a = accepted (a .answer) (withFirst ids (a .count) (a .ids)) ids
 
 abbrev pub readyOut : List ℕ → ReadyStreams → List ℕ
 readyOut out a = accepted (a .answer) (set out 0 (a .count)) out
+
+-- ------------------------------------------------------------------ priorities for a wanted order
+
+-- as many as the list has ids; the other places stay, and all of them where the call is refused
+abbrev pub plannedPlaces : List ℕ → PlannedPriorities → List ℕ
+plannedPlaces places a = accepted (a .answer) (withFirst places (a .count) (a .values)) places
 
 -- ------------------------------------------------------------------ the image
 

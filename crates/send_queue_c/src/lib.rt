@@ -1,8 +1,10 @@
 // The send queue for a host in C or Rust (header: c/send_queue.h): all its calls, with numbers, slices and arrays in and a number out.
-// 0 says accepted, any other number is document 01's refusal. A refused call changes nothing, in no array.
+// 0 says accepted, any other number is a refusal of document 01 or 02. A refused call changes nothing, in no array.
+pub mod copying;
 pub mod images;
 pub mod messages;
 pub mod numbers;
+pub mod planning;
 pub mod questions;
 pub mod sending;
 pub mod streams;

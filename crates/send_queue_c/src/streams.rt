@@ -1,8 +1,7 @@
 // Closing and restarting streams, and the settings.
 ghost use mathlib.Core.Path.{_≡_};
 ghost use mathlib.Core.Bool.{true, false};
-ghost use mathlib.Core.List.{_++_};
-ghost use lib.ListN.{length, take, drop};
+ghost use lib.ListN.{length};
 ghost use Prim.Native.Nat.{_≤_};
 ghost use Rattle.queue_closing.specs.Close.{close};
 ghost use Rattle.queue_restarts.specs.Ready.{ready};
@@ -11,6 +10,7 @@ ghost use Rattle.queue_streams.specs.Restart.{reopen, setInterleaving};
 ghost use Rattle.queue_streams.specs.Settings.{setPriority, setThreshold};
 ghost use Rattle.send_queue_c.specs.Numbers.{isYes, readyNumber, readyIds, readyOut};
 ghost use Rattle.send_queue_c.specs.Given.{Gives, GivesEvents, GivesIds};
+use crate::copying::copy_first;
 use crate::numbers::OUT_WORDS;
 use crate::numbers::VALUE;
 use crate::numbers::call_number;
@@ -42,18 +42,6 @@ pub extern "C" fn dsq_prepare_reset_stream(
     tell_call(out, c)
 }
 
-// The first `count` ids; the others stay.
-fn copy_ids(to: &mut [u16], from: &[u16], count: usize)
-    requires { ⌜ (count ≤ length (now to)) × (count ≤ length (now from)) ⌝ }
-    ensures { λ _. ⌜ now (to .exit) ≡ take count (now (from .entry)) ++ drop count (now (to .entry)) ⌝ }
-{
-    let mut i = 0;
-    while i < count {
-        to[i] = from[i];
-        i += 1;
-    }
-}
-
 // Does nothing at run time; gives a proof that there are 256 places.
 fn whole(ids: &[u16; 256])
     ensures { λ _. ⌜ length (now (ids .entry)) ≡ 256 ⌝ }
@@ -71,7 +59,7 @@ fn tell_ready(ids: &mut [u16; 256], out: &mut [u64; OUT_WORDS], a: ReadyStreams)
             let from = a.ids;
             whole(&*ids);
             whole(&from);
-            copy_ids(ids, &from, a.count);
+            copy_first(ids, &from, a.count);
             out[VALUE] = a.count as u64;
             0
         }

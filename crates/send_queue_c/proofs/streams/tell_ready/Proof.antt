@@ -5,8 +5,8 @@ use native.Mathlib.Omega.{arith}
 use Rattle.send_queue_c.proofs.streams.tell_ready.Statement.{statement}
 use Rattle.send_queue_c.proofs.streams.tell_ready.Tie as tie
 
-copy-ids-requires : tie.Need-copy-ids-requires
-copy-ids-requires c κs =
+copy-first-requires : tie.Need-copy-first-requires
+copy-first-requires c κs =
     let few = c .before .before .before .before .before .before .before .before .before .pre in
     (omega (arith, few, c .before .before .before .before .whole .ensures), omega (arith, few, c .before .before .whole2 .ensures))
 
@@ -14,7 +14,7 @@ returns : tie.Need-returns
 returns c =
     rw (
       c .before .before .before .before .before .before .before .before .enum-told .given .1,
-      ← (c .copy-ids .ensures),
+      ← (c .copy-first .ensures),
     ) (refl, refl, refl)
 
 pub tell-ready-spec : {M : Type 1} → statement M
@@ -25,7 +25,7 @@ tell-ready-spec =
     (λ c κs. search needs)
     (λ c κs. search needs)
     (λ c. search needs)
-    copy-ids-requires
+    copy-first-requires
     (λ c. search needs)
     (λ c. search needs)
     returns

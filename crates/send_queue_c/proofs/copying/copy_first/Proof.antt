@@ -1,12 +1,12 @@
--- `send_queue_c::streams::copy_ids` meets its contract: the first i places are copied, the others are as they were. Assumes nothing.
+-- `send_queue_c::copying::copy_first` meets its contract: the first i places are copied, the others are as they were. Assumes nothing.
 use mathlib.Core.Path.{_≡_, refl, _∙_}
 use mathlib.Core.List.{_++_}
 use Prim.Native.Nat.{_≤_, _-_}
 use native.Mathlib.Omega.{arith}
 use lib.ListN.{length, take, drop, length-set}
 use Rattle.queue_sending.proofs.Passes.{turn}
-use Rattle.send_queue_c.proofs.streams.copy_ids.Statement.{statement}
-use Rattle.send_queue_c.proofs.streams.copy_ids.Tie as tie
+use Rattle.send_queue_c.proofs.copying.copy_first.Statement.{statement}
+use Rattle.send_queue_c.proofs.copying.copy_first.Tie as tie
 
 abbrev Inv-loop : tie.InvT-loop
 Inv-loop to₀ from count i₀ to i = (i ≤ count) × (length to ≡ length to₀) × (to ≡ take i from ++ drop i to₀)
@@ -24,8 +24,8 @@ returns c =
     let e : c .before .loop .i ≡ c .before .before .args .count = omega arith in
     c .before .loop .inv .2 ∙ rw e
 
-pub copy-ids-spec : {M : Type 1} → statement M
-copy-ids-spec =
+pub copy-first-spec : {M : Type 1} → statement M
+copy-first-spec =
     tie.close
     (tie.spec
     Inv-loop
