@@ -38,6 +38,8 @@ extern "C" {
 #define DSQ_MAX_PAYLOAD_LIMIT 65535
 #define DSQ_MAX_EVENTS 2305
 #define DSQ_MAX_TIME UINT64_C(4611686018427387903)
+/* The most streams that a wanted order names. */
+#define DSQ_MAX_PLANNED 32
 
 /* So many bytes hold every image of a queue with a store of this length: 20 and, at most, 256 records of 14 bytes, 1,024 of 44, and
  * the payloads. */
@@ -46,7 +48,7 @@ extern "C" {
 /* What a function returns: 0 for accepted, else the refusal. Of several that apply the first is given. */
 enum dsq_refusal {
     DSQ_ACCEPTED = 0,
-    /* At creation, the payload limit is outside 1 to 65,535. */
+    /* At creation, or where priorities are planned, the payload limit is outside 1 to 65,535. */
     DSQ_PAYLOAD_LIMIT_WRONG = 1,
     /* The store is outside 1 to 2,000,000 bytes at creation, or not of its creation length later. */
     DSQ_STORE_WRONG = 2,
@@ -77,7 +79,12 @@ enum dsq_refusal {
     /* The image, with the streams that only messages name, passes 256 streams, 1,024 messages or the store. */
     DSQ_IMAGE_LARGE = 15,
     /* The words are not those of a queue: somebody else wrote into them. From creation on no call of these functions leads to it. */
-    DSQ_WORDS_BROKEN = 16
+    DSQ_WORDS_BROKEN = 16,
+    /* The wanted order is empty, has more than 32 ids or names one twice, or a size is outside 1 to 262,144, or ids and sizes differ in
+     * count. */
+    DSQ_ORDER_WRONG = 28,
+    /* No set of priorities works for the wanted order. */
+    DSQ_ORDER_IMPOSSIBLE = 29
 };
 
 /* The places of an out-array. An accepted call writes those that are named at it; the others stay. */
@@ -176,6 +183,14 @@ uint8_t dsq_set_priority(uint64_t queue[DSQ_QUEUE_WORDS], uint16_t stream_id, ui
 /* Sets the amount at which a stream is low. Tells EVENTS: 1 if a threshold below the amount is raised to or past it. (3, 6, 16) */
 uint8_t dsq_set_buffered_amount_low_threshold(uint64_t queue[DSQ_QUEUE_WORDS], uint64_t *events, size_t events_length,
                                               uint64_t out[DSQ_OUT_WORDS], uint16_t stream_id, uint64_t threshold);
+
+/* ---------------------------------------------------------------- priorities for a wanted order; no queue is looked at */
+
+/* The least priorities, from 1 to 65,535, that give the streams their first fragments in the order of ids: set on a new queue with this
+ * payload limit, interleaving on, before the messages are added, if these are all accepted. sizes: of each stream's first message. One
+ * priority is written for each id, in the same order; the other places stay. (1, 28, 29) */
+uint8_t dsq_plan_priorities(const uint16_t *ids, size_t ids_length, const uint64_t *sizes, size_t sizes_length,
+                            uint16_t priorities[DSQ_MAX_PLANNED], uint64_t payload_limit);
 
 /* ---------------------------------------------------------------- questions; they change nothing */
 

@@ -788,6 +788,136 @@ static void refusals(void)
     give_back(h);
 }
 
+/* ---------------------------------------------------------------- priorities for a wanted order */
+
+enum { MARK = 0x5A5A };
+
+/* A list lent to the call, with the places for its answer full of marks. */
+struct order {
+    uint16_t *ids;
+    size_t ids_length;
+    uint64_t *sizes;
+    size_t sizes_length;
+    uint16_t *priorities;
+};
+
+/* Ids from `first` on, each `step` more than the one before, and sizes alike. */
+static struct order *ordered(size_t ids, uint16_t first, int step, size_t sizes, uint64_t size)
+{
+    struct order *o = allocate(sizeof *o, 0);
+    size_t i;
+    o->ids = allocate(ids * sizeof *o->ids, 0);
+    o->ids_length = ids;
+    for (i = 0; i < ids; i++)
+        o->ids[i] = (uint16_t)(first + (int)i * step);
+    o->sizes = allocate(sizes * sizeof *o->sizes, 0);
+    o->sizes_length = sizes;
+    for (i = 0; i < sizes; i++)
+        o->sizes[i] = size;
+    o->priorities = allocate(DSQ_MAX_PLANNED * sizeof *o->priorities, 0);
+    for (i = 0; i < DSQ_MAX_PLANNED; i++)
+        o->priorities[i] = MARK;
+    return o;
+}
+
+static uint8_t plan(struct order *o, uint64_t payload_limit)
+{
+    return dsq_plan_priorities(o->ids, o->ids_length, o->sizes, o->sizes_length, o->priorities, payload_limit);
+}
+
+/* Whether the places from one on are as they were. */
+static int marked_from(const struct order *o, size_t from)
+{
+    size_t i;
+    for (i = from; i < DSQ_MAX_PLANNED; i++)
+        if (o->priorities[i] != MARK)
+            return 0;
+    return 1;
+}
+
+static void give_order_back(struct order *o)
+{
+    free(o->ids);
+    free(o->sizes);
+    free(o->priorities);
+    free(o);
+}
+
+/* The call is refused with this number, and no place is written. */
+#define NO_PLAN(number, limit, order_)                       \
+    do {                                                     \
+        struct order *o_ = (order_);                         \
+        CHECK(plan(o_, (limit)) == (number));                \
+        CHECK(marked_from(o_, 0));                           \
+        give_order_back(o_);                                 \
+    } while (0)
+
+/* The same with one size that is another. */
+static struct order *with_size(struct order *o, size_t at, uint64_t size)
+{
+    o->sizes[at] = size;
+    return o;
+}
+
+static void planning_refusals(void)
+{
+    /* 1, before 28 and 29 */
+    NO_PLAN(DSQ_PAYLOAD_LIMIT_WRONG, 0, ordered(1, 1, 1, 1, 1));
+    NO_PLAN(DSQ_PAYLOAD_LIMIT_WRONG, DSQ_MAX_PAYLOAD_LIMIT + 1, ordered(1, 1, 1, 1, 1));
+    NO_PLAN(DSQ_PAYLOAD_LIMIT_WRONG, UINT64_MAX, ordered(1, 1, 1, 1, 1));
+    NO_PLAN(DSQ_PAYLOAD_LIMIT_WRONG, 0, ordered(0, 1, 1, 0, 1));
+    NO_PLAN(DSQ_PAYLOAD_LIMIT_WRONG, DSQ_MAX_PAYLOAD_LIMIT + 1, with_size(ordered(2, 2, -1, 2, 65535), 1, 1));
+
+    /* 28, each reason of it */
+    NO_PLAN(DSQ_ORDER_WRONG, 1000, ordered(0, 1, 1, 0, 1));
+    NO_PLAN(DSQ_ORDER_WRONG, 1000, ordered(DSQ_MAX_PLANNED + 1, 1, 1, DSQ_MAX_PLANNED + 1, 1));
+    NO_PLAN(DSQ_ORDER_WRONG, 1000, ordered(2, 7, 0, 2, 1));
+    NO_PLAN(DSQ_ORDER_WRONG, 1000, with_size(ordered(3, 1, 1, 3, 1), 2, 0));
+    NO_PLAN(DSQ_ORDER_WRONG, 1000, with_size(ordered(3, 1, 1, 3, 1), 0, DSQ_MAX_PAYLOAD + 1));
+    NO_PLAN(DSQ_ORDER_WRONG, 1000, with_size(ordered(1, 1, 1, 1, 1), 0, UINT64_MAX));
+    NO_PLAN(DSQ_ORDER_WRONG, 1000, ordered(2, 1, 1, 3, 1));
+    NO_PLAN(DSQ_ORDER_WRONG, 1000, ordered(3, 1, 1, 2, 1));
+    NO_PLAN(DSQ_ORDER_WRONG, 1000, ordered(0, 1, 1, 1, 1));
+
+    /* 29, and 28 before it: the first of two streams has 65,535 times the cost of the second and the larger id */
+    NO_PLAN(DSQ_ORDER_IMPOSSIBLE, 65535, with_size(ordered(2, 2, -1, 2, 65535), 1, 1));
+    NO_PLAN(DSQ_ORDER_WRONG, 65535, with_size(ordered(2, 2, -1, 3, 65535), 1, 1));
+}
+
+static void planning(void)
+{
+    struct order *o = ordered(2, 5, -2, 2, 1500);
+    struct host *h;
+    size_t i;
+
+    /* equal costs, the larger id first */
+    CHECK(plan(o, 1000) == DSQ_ACCEPTED && o->priorities[0] == 2 && o->priorities[1] == 1 && marked_from(o, 2));
+    give_order_back(o);
+
+    /* the most streams, the largest size, the largest priority */
+    o = ordered(DSQ_MAX_PLANNED, 65535, -1, DSQ_MAX_PLANNED, DSQ_MAX_PAYLOAD);
+    CHECK(plan(o, 1) == DSQ_ACCEPTED && o->priorities[DSQ_MAX_PLANNED - 1] == 1 && o->priorities[0] == DSQ_MAX_PLANNED);
+    give_order_back(o);
+    o = with_size(ordered(2, 1, 1, 2, 65535), 1, 1);
+    CHECK(plan(o, 65535) == DSQ_ACCEPTED && o->priorities[0] == 65535 && o->priorities[1] == 1 && marked_from(o, 2));
+    give_order_back(o);
+
+    /* a whole job: eight streams, the largest id first; the messages are added in another order */
+    o = ordered(8, 8, -1, 8, 700);
+    CHECK(plan(o, 1000) == DSQ_ACCEPTED && marked_from(o, 8));
+    h = new_queue(SMALL_STORE);
+    CHECK(dsq_enable_message_interleaving(h->queue, 1) == DSQ_ACCEPTED);
+    for (i = 0; i < o->ids_length; i++)
+        CHECK(dsq_set_priority(h->queue, o->ids[i], o->priorities[i]) == DSQ_ACCEPTED);
+    for (i = 0; i < o->ids_length; i++)
+        CHECK(plain(h, (uint16_t)(1 + (3 * i) % 8), 700) == DSQ_ACCEPTED);
+    for (i = 0; i < o->ids_length; i++)
+        CHECK(sends(h, 1000, o->ids[i], 700, 0, 1, 1));
+    CHECK(sends_nothing(h));
+    give_back(h);
+    give_order_back(o);
+}
+
 /* ---------------------------------------------------------------- words that no queue has */
 
 static uint64_t seed = 88172645463325252u;
@@ -892,6 +1022,8 @@ int main(void)
     examples();
     limits();
     refusals();
+    planning();
+    planning_refusals();
     broken_words();
     damaged_words();
     if (failed) {

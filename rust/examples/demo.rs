@@ -1,7 +1,8 @@
 //! A small job of a card feeder: profiles go to eight writing heads, one stream a head, through the send queue.
 //!
-//! The heads' backlogs run low, a head's job is closed in the middle of a profile, and half-way the queue is carried to a second host as
-//! an image. At the end every profile is compared byte for byte with what was queued.
+//! First the heads get their first packets in a wanted order. Then comes the job: the heads' backlogs run low, a head's job is closed in the
+//! middle of a profile, and half-way the queue is carried to a second host as an image. At the end every profile is compared byte for byte
+//! with what was queued.
 
 use desqariy::*;
 use std::collections::BTreeMap;
@@ -125,7 +126,33 @@ fn new_queue() -> Result<SendQueue, Refusal> {
     Ok(queue)
 }
 
+/// The planner's order of the heads' first packets, set and seen.
+fn wanted_order() -> Outcome<()> {
+    let wanted = [4, 8, 1, 6, 3, 7, 2, 5].map(StreamId);
+    let sizes = wanted.map(|head| profile(number(head.0, 1)).len());
+    let priorities = plan_priorities(PACKET, &wanted, &sizes)?;
+    println!("planner: heads wanted in the order {wanted:?}; priorities {priorities:?}");
+    let mut queue = new_queue()?;
+    for (head, priority) in wanted.iter().zip(&priorities) {
+        queue.set_priority(*head, *priority)?;
+    }
+    let now = SocketTime::zero();
+    for head in STREAMS {
+        let payload = profile(number(head, 1));
+        queue.add(now, Message::new(StreamId(head), PpId(53), &payload), &SendOptions::default())?;
+    }
+    let mut seen = Vec::new();
+    while let Some(d) = queue.produce(now, PACKET)? {
+        if d.data.is_beginning {
+            seen.push(d.data.stream_key.id());
+        }
+    }
+    println!("  seen: first packets of the heads {seen:?}");
+    if seen == wanted { Ok(()) } else { Err("the heads came in another order".into()) }
+}
+
 fn main() -> Outcome<()> {
+    wanted_order()?;
     println!("first host: profiles for eight heads, interleaved; head 1 has double weight; the mark is {MARK} bytes");
     let mut feeder = Feeder {
         queue: new_queue()?,

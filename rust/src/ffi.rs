@@ -7,6 +7,7 @@
 //! It never unwinds. With too little stack the process ends at the guard page: large frames touch their pages in order.
 
 use crate::limits::EVENT_WORDS;
+use crate::limits::MAX_PLANNED;
 use crate::limits::MAX_STREAMS;
 use crate::limits::OUT_WORDS;
 use crate::limits::QUEUE_WORDS;
@@ -19,6 +20,8 @@ pub(crate) type EventWords = [u64; EVENT_WORDS];
 pub(crate) type Out = [u64; OUT_WORDS];
 /// Room for all ready ids.
 pub(crate) type ReadyIds = [u16; MAX_STREAMS];
+/// Room for the priorities of a wanted order.
+pub(crate) type Priorities = [u16; MAX_PLANNED];
 
 mod c {
     unsafe extern "C" {
@@ -85,6 +88,14 @@ mod c {
         ) -> u8;
         pub fn dsq_set_priority(queue: *mut u64, stream_id: u16, priority: u16) -> u8;
         pub fn dsq_enable_message_interleaving(queue: *mut u64, enabled: u8) -> u8;
+        pub fn dsq_plan_priorities(
+            ids: *const u16,
+            ids_length: usize,
+            sizes: *const u64,
+            sizes_length: usize,
+            priorities: *mut u16,
+            payload_limit: u64,
+        ) -> u8;
         pub fn dsq_get_streams_ready_to_reset(queue: *mut u64, ids: *mut u16, out: *mut u64) -> u8;
         pub fn dsq_commit_reset_streams(queue: *mut u64) -> u8;
         pub fn dsq_rollback_reset_streams(queue: *mut u64) -> u8;
@@ -248,6 +259,20 @@ pub(crate) fn set_priority(queue: &mut Words, stream_id: u16, priority: u16) -> 
 pub(crate) fn enable_message_interleaving(queue: &mut Words, enabled: bool) -> u8 {
     // SAFETY: queue is a reference.
     unsafe { c::dsq_enable_message_interleaving(queue.as_mut_ptr(), u8::from(enabled)) }
+}
+
+pub(crate) fn plan_priorities(ids: &[u16], sizes: &[u64], priorities: &mut Priorities, payload_limit: u64) -> u8 {
+    // SAFETY: all three are references, the lists' lengths are their own; there is room for every list that is not refused.
+    unsafe {
+        c::dsq_plan_priorities(
+            ids.as_ptr(),
+            ids.len(),
+            sizes.as_ptr(),
+            sizes.len(),
+            priorities.as_mut_ptr(),
+            payload_limit,
+        )
+    }
 }
 
 pub(crate) fn get_streams_ready_to_reset(queue: &mut Words, ids: &mut ReadyIds, out: &mut Out) -> u8 {

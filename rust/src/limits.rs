@@ -12,6 +12,8 @@ pub const MAX_STREAMS: usize = 256;
 pub const MAX_MESSAGES: usize = 1_024;
 /// The latest time, and the longest lifetime, in nanoseconds.
 pub const MAX_TIME: u64 = 4_611_686_018_427_387_903;
+/// The most streams that a wanted order names ([`plan_priorities`](crate::plan_priorities)).
+pub const MAX_PLANNED: usize = 32;
 
 /// Words of a queue's state.
 pub(crate) const QUEUE_WORDS: usize = 20_768;

@@ -41,10 +41,15 @@ pub enum Refusal {
     ImageLarge = 15,
     /// The queue's words are not those of a queue. Proved never to happen to one that only its own calls have changed.
     WordsBroken = 16,
+    /// The wanted order is empty, has more than 32 ids or names one twice, or a size is outside 1 to 262,144, or ids and sizes differ in
+    /// count.
+    OrderWrong = 28,
+    /// No set of priorities works for the wanted order.
+    OrderImpossible = 29,
 }
 
 impl Refusal {
-    const ALL: [Self; 16] = [
+    const ALL: [Self; 18] = [
         Self::PayloadLimitWrong,
         Self::StoreWrong,
         Self::EventListShort,
@@ -61,22 +66,23 @@ impl Refusal {
         Self::PriorityOther,
         Self::ImageLarge,
         Self::WordsBroken,
+        Self::OrderWrong,
+        Self::OrderImpossible,
     ];
 
-    /// Its number, 1 to 16.
+    /// Its number: 1 to 16, 28 or 29.
     pub fn number(self) -> u8 {
         self as u8
     }
 
     /// The refusal of this number.
     pub fn from_number(number: u8) -> Option<Self> {
-        let place = usize::from(number).checked_sub(1)?;
-        Self::ALL.get(place).copied()
+        Self::ALL.into_iter().find(|refusal| refusal.number() == number)
     }
 
     /// What a call's number says: 0 is accepted.
     pub(crate) fn judge(number: u8) -> Result<(), Self> {
-        if number == 0 { Ok(()) } else { Err(Self::from_number(number).expect("a refusal's number is from 1 to 16")) }
+        if number == 0 { Ok(()) } else { Err(Self::from_number(number).expect("the number is a refusal's")) }
     }
 }
 
@@ -103,6 +109,11 @@ impl fmt::Display for Refusal {
                 "the image, with the streams that only messages name, passes 256 streams, 1,024 messages or the store"
             }
             Self::WordsBroken => "the words are not those of a queue",
+            Self::OrderWrong => {
+                "the wanted order is empty, has more than 32 ids or names one twice, or a size is outside 1 to 262,144, or ids and \
+                 sizes differ in count"
+            }
+            Self::OrderImpossible => "no set of priorities works for the wanted order",
         })
     }
 }

@@ -99,7 +99,7 @@ fn of_parameter(name: &str, kind: &str, list: &mut Vec<String>) {
 
 fn of_source() -> Functions {
     let mut functions = Functions::new();
-    for file in ["images", "messages", "questions", "sending", "streams"] {
+    for file in ["images", "messages", "planning", "questions", "sending", "streams"] {
         for part in text(&format!("../crates/send_queue_c/src/{file}.rt")).split("pub extern \"C\" fn ").skip(1) {
             let (name, rest) = part.split_once('(').unwrap();
             let (parameters, rest) = rest.split_once(") -> ").unwrap();
@@ -135,6 +135,7 @@ fn the_lengths_and_places_are_the_proved_ones() {
     let words = text("../crates/queue_words/src/lib.rt");
     let events = text("../crates/queue_streams/src/events.rt");
     let places = text("../crates/send_queue_c/src/numbers.rt");
+    let lists = text("../crates/priority_plan/src/lists.rt");
     for (define, source, constant) in [
         ("#define DSQ_QUEUE_WORDS", &words, "const QUEUE_WORDS: usize"),
         ("#define DSQ_QUEUE_WORDS", &limits, "const QUEUE_WORDS: usize"),
@@ -142,6 +143,8 @@ fn the_lengths_and_places_are_the_proved_ones() {
         ("#define DSQ_EVENT_WORDS", &limits, "const EVENT_WORDS: usize"),
         ("DSQ_OUT_WORDS =", &places, "const OUT_WORDS: usize"),
         ("DSQ_OUT_WORDS =", &limits, "const OUT_WORDS: usize"),
+        ("#define DSQ_MAX_PLANNED", &lists, "const MAX_PLANNED: usize"),
+        ("#define DSQ_MAX_PLANNED", &limits, "const MAX_PLANNED: usize"),
         ("#define DSQ_MAX_STREAMS", &limits, "const MAX_STREAMS: usize"),
         ("#define DSQ_MAX_MESSAGES", &limits, "const MAX_MESSAGES: usize"),
         ("#define DSQ_MAX_PAYLOAD ", &limits, "const MAX_PAYLOAD: usize"),
@@ -164,29 +167,38 @@ fn camel(name: &str) -> String {
     name.trim_start_matches("DSQ_").split('_').map(part).collect()
 }
 
+/// The header's list of refusals.
+fn listed(header: &str) -> &str {
+    header.split_once("enum dsq_refusal {").unwrap().1.split_once("};").unwrap().0
+}
+
 #[test]
 fn the_refusals_are_the_header_s() {
     let header = without_comments(&text("../c/send_queue.h"));
-    let list = header.split_once("enum dsq_refusal {").unwrap().1.split_once('}').unwrap().0;
-    for (number, entry) in list.split(',').enumerate() {
+    let mut numbers = Vec::new();
+    for entry in listed(&header).split(',') {
         let (name, given) = entry.trim().split_once(" = ").unwrap();
-        assert_eq!(given, number.to_string());
-        match Refusal::from_number(number as u8) {
+        let number: u8 = given.parse().unwrap();
+        match Refusal::from_number(number) {
             None => assert_eq!((number, name), (0, "DSQ_ACCEPTED")),
             Some(refusal) => assert_eq!(format!("{refusal:?}"), camel(name)),
         }
+        numbers.push(number);
     }
-    assert_eq!(list.split(',').count(), 17);
+    let known: Vec<u8> = (0..=u8::MAX).filter(|n| *n == 0 || Refusal::from_number(*n).is_some()).collect();
+    assert_eq!(numbers, known, "the header has every refusal, in the order of their numbers");
 }
 
 /// What a refusal says is said above its number in the header.
 #[test]
 fn the_refusals_say_what_the_header_says() {
-    let header = text("../c/send_queue.h");
-    let list = header.split_once("enum dsq_refusal {").unwrap().1.split_once("};").unwrap().0;
-    for (place, entry) in list.split("/* ").skip(1).enumerate() {
-        let said = Refusal::from_number(place as u8 + 1).unwrap().to_string();
+    let header = text("../c/send_queue.h").replace("\n     * ", " ");
+    let mut compared = 0;
+    for entry in listed(&header).split("/* ").skip(1) {
+        let number = entry.split_once(" = ").unwrap().1.split([',', '\n']).next().unwrap();
+        let said = Refusal::from_number(number.parse().unwrap()).unwrap().to_string();
         assert!(entry.replacen(&said[..1].to_uppercase(), &said[..1], 1).contains(&said), "{said}");
+        compared += 1;
     }
-    assert_eq!(list.split("/* ").count(), 17);
+    assert_eq!(compared, (0..=u8::MAX).filter(|n| Refusal::from_number(*n).is_some()).count());
 }

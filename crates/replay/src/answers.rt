@@ -11,6 +11,7 @@ use crate::output::put_byte;
 use crate::output::put_number;
 use crate::output::put_text;
 use crate::payload::sum_of;
+use crate::plan::answer_plan;
 use crate::settle::events_of;
 use crate::settle::refusal_number;
 use crate::settle::refusal_of;
@@ -352,6 +353,7 @@ pub fn answer(
         b'g' => answer_ready(queue, kept, output, state),
         b'q' => answer_questions(&*queue, output, state),
         b'k' | b'b' | b'r' | b'y' | b'i' => answer_plain(queue, kept, output, state),
+        b'P' => answer_plan(output, state),
         _ => answer_changeover(queue, kept, store, kept_store, image, output, state),
     }
 }

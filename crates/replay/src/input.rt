@@ -11,9 +11,9 @@ use crate::state::wide;
 const NO_BYTE: u64 = 256;
 
 // What stands for a line's length where the input has ended, and where a line does not end or is too long.
-pub const NO_LINE: usize = 600;
+pub const NO_LINE: usize = 3000;
 
-pub const BAD_LINE: usize = 601;
+pub const BAD_LINE: usize = 3001;
 
 fn refill(input: &mut [u8]) -> usize {
     let got = libc::read(0, input);
@@ -56,7 +56,7 @@ pub fn read_line(
     line: &mut [u8; LINE_BYTES],
 ) -> usize {
     let mut i = 0;
-    while i < 512 {
+    while i < LINE_BYTES {
         let b = next_byte(input, state);
         if b == 10 {
             return i;

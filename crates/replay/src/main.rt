@@ -9,6 +9,7 @@ mod marks;
 mod output;
 mod parse;
 mod payload;
+mod plan;
 mod ranges;
 mod settle;
 mod state;

@@ -33,7 +33,7 @@ fn append(value: u64, digit: u8) -> Digits {
 
 // The number that the bytes from one place to another spell.
 fn number(line: &[u8; LINE_BYTES], from: usize, to: usize) -> Digits {
-    if to > 512 {
+    if to > LINE_BYTES {
         return Digits::Bad;
     }
     let mut value = 0;
@@ -51,7 +51,7 @@ fn number(line: &[u8; LINE_BYTES], from: usize, to: usize) -> Digits {
 
 // Where the word from a place on ends: at a space or at the line's end.
 fn word_end(line: &[u8; LINE_BYTES], from: usize, end: usize) -> usize {
-    if end > 512 {
+    if end > LINE_BYTES {
         return from;
     }
     let mut i = from;
@@ -72,7 +72,7 @@ fn is_spelled(line: &[u8; LINE_BYTES], from: usize, to: usize) -> bool {
     if to - from == 1 {
         return true;
     }
-    if from > 511 {
+    if from >= LINE_BYTES {
         return false;
     }
     line[from] != b'0'
@@ -86,7 +86,7 @@ fn take_number(
     state: &mut [u64; STATE],
     k: usize,
 ) -> usize {
-    if at > 511 {
+    if at >= LINE_BYTES {
         return at;
     }
     if line[at] != b' ' {
@@ -113,7 +113,7 @@ fn store_number(
     if k >= NUMBERS {
         return at;
     }
-    if at > 511 {
+    if at >= LINE_BYTES {
         return at;
     }
     let n = number(line, at + 1, to);

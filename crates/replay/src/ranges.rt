@@ -1,4 +1,5 @@
 // How many numbers each line has, and their ranges.
+use crate::plan::is_plan;
 use crate::state::COUNT;
 use crate::state::LETTER;
 use crate::state::QUEUES;
@@ -9,7 +10,7 @@ const ANY: u64 = 18446744073709551615;
 
 const FLAG: u64 = 1;
 
-const BITS16: u64 = 65535;
+pub const BITS16: u64 = 65535;
 
 const BITS32: u64 = 4294967295;
 
@@ -121,9 +122,8 @@ fn numbers_fit(state: &[u64; STATE], letter: u8, count: usize) -> bool {
     true
 }
 
-// Whether the line is a call, its numbers are as many as it asks and in their ranges, and there is a queue for it.
-pub fn is_call(state: &[u64; STATE]) -> bool {
-    let letter = low8(state[LETTER]);
+// A line with a fixed count of numbers.
+fn is_short_call(state: &[u64; STATE], letter: u8) -> bool {
     let count = state[COUNT];
     if count != count_of(letter) {
         return false;
@@ -133,4 +133,13 @@ pub fn is_call(state: &[u64; STATE]) -> bool {
         return has_queue(state, letter);
     }
     false
+}
+
+// Whether the line is a call, its numbers are as many as it asks and in their ranges, and there is a queue for it.
+pub fn is_call(state: &[u64; STATE]) -> bool {
+    let letter = low8(state[LETTER]);
+    match letter {
+        b'P' => is_plan(state),
+        _ => is_short_call(state, letter),
+    }
 }

@@ -1,58 +1,58 @@
-// What the program keeps between lines, in one array of 32 words.
+// What the program keeps between lines, in one array of 160 words.
 //
-//     words       holds
-//      0 to 10    the numbers of the line, at most 11
-//     11          how many they are
-//     12          the line's letter
-//     13          the number of the line in the trace
-//     14 to 17    the lengths lent: places of the event list, bytes of the fragment buffer, of the image buffer and of the store
-//     18          1 if there is a queue
-//     19          bytes waiting in the output buffer
-//     20 to 21    the next byte of the input buffer, and where its bytes end
-//     22          the length of the current image
-//     23 to 28    the numbers of the line that created the queue
-//     29          the interleaving choice, 0 or 1
-pub const STATE: usize = 32;
+//     words         holds
+//       0 to 130    the numbers of the line, at most 131
+//     131           how many they are
+//     132           the line's letter
+//     133           the number of the line in the trace
+//     134 to 137    the lengths lent: places of the event list, bytes of the fragment buffer, of the image buffer and of the store
+//     138           1 if there is a queue
+//     139           bytes waiting in the output buffer
+//     140 to 141    the next byte of the input buffer, and where its bytes end
+//     142           the length of the current image
+//     143 to 148    the numbers of the line that created the queue
+//     149           the interleaving choice, 0 or 1
+pub const STATE: usize = 160;
 
-pub const NUMBERS: usize = 11;
+pub const NUMBERS: usize = 131;
 
-pub const COUNT: usize = 11;
+pub const COUNT: usize = 131;
 
-pub const LETTER: usize = 12;
+pub const LETTER: usize = 132;
 
-pub const LINE: usize = 13;
+pub const LINE: usize = 133;
 
-pub const LENT_EVENTS: usize = 14;
+pub const LENT_EVENTS: usize = 134;
 
-pub const LENT_FRAGMENT: usize = 15;
+pub const LENT_FRAGMENT: usize = 135;
 
-pub const LENT_IMAGE: usize = 16;
+pub const LENT_IMAGE: usize = 136;
 
-pub const LENT_STORE: usize = 17;
+pub const LENT_STORE: usize = 137;
 
-pub const QUEUES: usize = 18;
+pub const QUEUES: usize = 138;
 
-pub const OUTPUT_AT: usize = 19;
+pub const OUTPUT_AT: usize = 139;
 
-pub const INPUT_AT: usize = 20;
+pub const INPUT_AT: usize = 140;
 
-pub const INPUT_END: usize = 21;
+pub const INPUT_END: usize = 141;
 
-pub const IMAGE_LENGTH: usize = 22;
+pub const IMAGE_LENGTH: usize = 142;
 
-pub const CREATED_LIMIT: usize = 23;
+pub const CREATED_LIMIT: usize = 143;
 
-pub const CREATED_STORE: usize = 24;
+pub const CREATED_STORE: usize = 144;
 
-pub const CREATED_PRIORITY: usize = 25;
+pub const CREATED_PRIORITY: usize = 145;
 
-pub const CREATED_THRESHOLD: usize = 26;
+pub const CREATED_THRESHOLD: usize = 146;
 
-pub const CREATED_TOTAL: usize = 27;
+pub const CREATED_TOTAL: usize = 147;
 
-pub const CREATED_HANDOVER: usize = 28;
+pub const CREATED_HANDOVER: usize = 148;
 
-pub const CHOICE: usize = 29;
+pub const CHOICE: usize = 149;
 
 // The lengths of the arrays.
 pub const EVENT_WORDS: usize = 8192;
@@ -65,7 +65,7 @@ pub const STORE: usize = 2100000;
 
 pub const IMAGE: usize = 2100000;
 
-pub const LINE_BYTES: usize = 512;
+pub const LINE_BYTES: usize = 2048;
 
 pub const BUFFER: usize = 65536;
 

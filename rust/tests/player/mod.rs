@@ -54,6 +54,21 @@ fn number<T>(answer: &Result<T, Refusal>) -> u8 {
     answer.as_ref().map_or_else(|refusal| refusal.number(), |_| 0)
 }
 
+/// A count, and so many numbers.
+fn list<T: TryFrom<u64>>(line: &mut Line) -> Vec<T> {
+    (0..line.take::<usize>()).map(|_| line.take()).collect()
+}
+
+fn plan(mut line: Line) -> String {
+    let limit = line.take();
+    let ids: Vec<u16> = list(&mut line);
+    let sizes: Vec<usize> = list(&mut line);
+    let ids: Vec<StreamId> = ids.into_iter().map(StreamId).collect();
+    let answer = plan_priorities(limit, &ids, &sizes);
+    let priorities: String = answer.iter().flatten().map(|p| format!(" {p}")).collect();
+    format!("P {}{priorities}\n", number(&answer))
+}
+
 fn fragment_line(d: &DataToSend) -> String {
     let never = d.expires_at == SocketTime::infinite_future();
     format!(
@@ -161,6 +176,7 @@ impl Player {
                 self.queue().enable_message_interleaving(on);
                 "i 0\n".into()
             }
+            "P" => plan(line),
             "q" => self.questions(StreamId(line.take())),
             "s" => self.save(SocketTime(line.take())),
             "h" => self.show(line),

@@ -8,7 +8,7 @@ abbrev Inv-loop : tie.InvT-loop
 Inv-loop input₀ state₀ line₀ i₀ input state line i = Unit {0}
 
 abbrev μ-loop : tie.MeasureT-loop
-μ-loop input₀ state₀ line₀ i₀ input state line i = 512 - i
+μ-loop input₀ state₀ line₀ i₀ input state line i = 2048 - i
 
 pub read-line-spec : {M : Type 1} → statement M
 read-line-spec = tie.close (tie.spec Inv-loop μ-loop (λ c. search needs) (λ c κs. search needs) (λ c. search needs) (λ c κs. search needs) (λ c. search needs) (λ c κs. search needs) (λ c. search needs) (λ c. search needs) (λ c. search needs) (λ c. search needs) (λ c. search needs))

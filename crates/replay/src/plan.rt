@@ -1,0 +1,131 @@
+// Priorities for a wanted order: the line `P limit n id1 .. idn m size1 .. sizem`.
+ghost use Prim.Native.Nat.{_≤_};
+use crate::output::put_answer;
+use crate::output::put_byte;
+use crate::output::put_number;
+use crate::output::put_text;
+use crate::ranges::BITS16;
+use crate::settle::refusal_of;
+use crate::state::BUFFER;
+use crate::state::COUNT;
+use crate::state::STATE;
+use crate::state::low16;
+use crate::state::wide16;
+use send_queue::MAX_PLANNED;
+use send_queue::PlannedPriorities;
+use send_queue::plan_priorities;
+
+// "each list at most 64".
+const LISTED: usize = 64;
+// The place of the count of ids; the ids stand behind it, then the count of sizes, then the sizes.
+const IDS: usize = 1;
+
+// A list's count.
+fn count_at(state: &[u64; STATE], at: usize) -> usize
+    ensures { λ r. ⌜ r ≤ 64 ⌝ }
+{
+    if at > IDS + LISTED + 1 {
+        return 0;
+    }
+    let n = state[at];
+    if n > 64 {
+        return LISTED;
+    }
+    n as usize
+}
+
+// Whether so many ids are in their range.
+fn ids_fit(state: &[u64; STATE], n: usize) -> bool {
+    let mut i = 0;
+    while i < LISTED {
+        if i >= n {
+            break;
+        }
+        if state[IDS + 1 + i] > BITS16 {
+            return false;
+        }
+        i += 1;
+    }
+    true
+}
+
+// Whether the numbers of the line are a limit and two lists, each with its count before it.
+pub fn is_plan(state: &[u64; STATE]) -> bool {
+    if state[COUNT] < 3 {
+        return false;
+    }
+    let n = count_at(state, IDS);
+    if state[IDS] != n as u64 {
+        return false;
+    }
+    let m = count_at(state, IDS + 1 + n);
+    if state[IDS + 1 + n] != m as u64 {
+        return false;
+    }
+    if state[COUNT] != (n + m + 3) as u64 {
+        return false;
+    }
+    ids_fit(state, n)
+}
+
+fn ids_at(state: &[u64; STATE]) -> [u16; LISTED] {
+    let mut ids = [0u16; LISTED];
+    let mut i = 0;
+    while i < LISTED {
+        ids[i] = low16(state[IDS + 1 + i]);
+        i += 1;
+    }
+    ids
+}
+
+// The list of sizes from a place on.
+fn sizes_at(state: &[u64; STATE], from: usize) -> [u64; LISTED] {
+    let mut sizes = [0u64; LISTED];
+    if from > IDS + LISTED + 2 {
+        return sizes;
+    }
+    let mut i = 0;
+    while i < LISTED {
+        sizes[i] = state[from + i];
+        i += 1;
+    }
+    sizes
+}
+
+fn plan(state: &[u64; STATE]) -> PlannedPriorities {
+    let n = count_at(state, IDS);
+    let m = count_at(state, IDS + 1 + n);
+    let ids = ids_at(state);
+    let sizes = sizes_at(state, IDS + 2 + n);
+    plan_priorities(state[0], &ids[..n], &sizes[..m])
+}
+
+fn put_priorities(
+    output: &mut [u8; BUFFER],
+    state: &mut [u64; STATE],
+    values: &[u16; MAX_PLANNED],
+    count: usize,
+) {
+    put_text(output, state, b"P 0");
+    let mut i = 0;
+    while i < MAX_PLANNED {
+        if i >= count {
+            break;
+        }
+        put_number(output, state, wide16(values[i]));
+        i += 1;
+    }
+    put_byte(output, state, b'\n');
+}
+
+pub fn answer_plan(output: &mut [u8; BUFFER], state: &mut [u64; STATE]) {
+    let r = plan(&*state);
+    let c = r.answer;
+    let refusal = refusal_of(c);
+    if refusal == 0 {
+        let values = r.values;
+        put_priorities(output, state, &values, r.count);
+        return;
+    }
+    put_answer(output, state, b'P', refusal);
+}
