@@ -45,7 +45,7 @@ short-enough : (q : Queue) (s : Stream) (i : Item) (n : ℕ) → short-of-head q
 unfolding short-of-head short-of
 short-enough q s i n e = not-less (q .total) n (or-left (ltb (q .total) n) (ltb (s .amount) n) (or-left (ltb (q .total) n || ltb (s .amount) n) (ltb (remaining i) n) e))
 
-asked-passes : (q : Queue) (x : Asking) → Accepts (q .options) x → Passed (produce-checks (x .store) (x .places) (x .buffer) (x .now) (x .size) q)
+pub asked-passes : (q : Queue) (x : Asking) → Accepts (q .options) x → Passed (produce-checks (x .store) (x .places) (x .buffer) (x .now) (x .size) q)
 asked-passes q x a =
     let e : eqb (x .store) (q .options .store-length) ≡ true = eqb-true (a .store-same) in
     (ap not e, (ltb-false (a .places-enough), (ltb-false (a .time-fits), (ap₂ _||_ (ltb-false (a .size-low)) (ltb-false (a .size-high)), (ltb-false (a .buffer-fits), tt)))))

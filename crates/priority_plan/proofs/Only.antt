@@ -267,6 +267,9 @@ request13-only o hs ps ss as′ j al d every =
         all-same (λ (x : Asking). none-expired (x .now) (loaded o ss as′) ≡ true) (one-byte o) (suc ((loaded o ss as′) .total))
         (none-expires 0 (loaded o ss as′) (lasting-adds 0 as′ (set-up o ss) (up-lasting o hs ps ss as′ j 0) (never-at-zero as′)))
 
+    never-expires : All (λ (x : Asking). Lasting (x .now) as′) xs
+    never-expires = all-same (λ (x : Asking). Lasting (x .now) as′) (one-byte o) (suc ((loaded o ss as′) .total)) (never-at-zero as′)
+
     ended : ends (run (map later-call (map ask xs)) (loaded o ss as′)) ≡ true
     ended = let n = length-replicate (suc ((loaded o ss as′) .total)) (one-byte o) in live xs (loaded o ss as′) well on free (subst (λ (z : Options). All (Accepts z) xs) (sym same-options) accepts) (all-last (λ (x : Asking). x .now) (loaded o ss as′) xs lasting) (omega arith)
 
@@ -282,4 +285,4 @@ request13-only o hs ps ss as′ j al d every =
             let r : Ready (b ∷ a ∷ []) (loaded o ss as′) = record { well = well; on = on; free = free; listed = (hb, (ha, tt)); order = ((comes b a (other-first a b e n), tt), (tt, tt)) } in
             let t = turns (map ask xs) (b ∷ a ∷ []) (loaded o ss as′) r (timely-asks (loaded o ss as′) xs lasting) in
             let f = first-shown (a .stream-id) (b .stream-id) (streams-shown (run (map later-call (map ask xs)) (loaded o ss as′))) n (t .in-turn) (t .all-served ended) in
-            absurd (not-second (a .stream-id) (b .stream-id) (stream-ids hs) (streams-shown (run (map later-call (map ask xs)) (loaded o ss as′))) d p (every xs accepts lasting .in-turn) f)
+            absurd (not-second (a .stream-id) (b .stream-id) (stream-ids hs) (streams-shown (run (map later-call (map ask xs)) (loaded o ss as′))) d p (every xs accepts never-expires .in-turn) f)

@@ -16,20 +16,20 @@ use Rattle.queue_model.specs.Settings.{priority-checks, switched}
 use Rattle.queue_model.specs.Refusals.{limit-wrong}
 use Rattle.queue_model.specs.FairTurns.{none-expired}
 use Rattle.queue_model.specs.Run.{step, run, set-priority}
-use Rattle.queue_model.specs.Demands.{AllTyped}
+use Rattle.queue_model.specs.Demands.{AllTyped, Created}
 use Rattle.queue_model.proofs.Tests.{holds, leb-false, eqb-true, eqb-false, less, same, more, tri}
 use Rattle.queue_model.proofs.Table.{put-end, put-later, put-here, put-before}
 use Rattle.queue_model.proofs.Checks.{or-left, or-right, checked-past}
 use Rattle.priority_plan.specs.declared.plan.PlannedPriorities.{PlannedPriorities}
-use Rattle.priority_plan.specs.Works.{PlannedStream, planned-streams, All, IsPriority, Works, max-priority}
+use Rattle.priority_plan.specs.Works.{PlannedStream, planned-streams, All, IsPriority, LeastSet, max-priority}
 use Rattle.priority_plan.specs.Least.{least-set}
 use Rattle.priority_plan.specs.Lists.{named-twice, list-wrong, max-planned}
 use Rattle.priority_plan.specs.Plan.{none-works, refused-plan, made-plan, planned}
-use Rattle.priority_plan.specs.Jobs.{Setting, priority, interleaving, setting-call, Adding, last-priority, last-interleaving, first-size, Accepted, Prepared, AllPairs, set-up, loaded, Job, later-call, times, added-later}
+use Rattle.priority_plan.specs.Jobs.{Setting, priority, interleaving, setting-call, Adding, adding-call, last-priority, last-interleaving, first-size, Accepted, Prepared, AllPairs, set-up, loaded, Job, later-call, times, added-later}
 use Rattle.priority_plan.specs.Turns.{InTurn, Lasting, stream-ids}
 use Rattle.priority_plan.specs.Runs.{priorities-of, plan-settings, Request13-plan, Request13-order}
 use Rattle.priority_plan.proofs.Lasting.{none-expires}
-use Rattle.priority_plan.proofs.LeastSet.{least-works}
+use Rattle.priority_plan.proofs.LeastSet.{least-works, working-above}
 use Rattle.priority_plan.proofs.Answer.{good-limit, good-streams, GoodList, good-list, listed-few, by-checks, planned-is}
 use Rattle.priority_plan.proofs.More.{lasting-adds}
 use Rattle.priority_plan.proofs.Loading.{up-lasting}
@@ -43,11 +43,11 @@ made-same ps qs e =
     let v : ps ++ replicate (max-planned - length ps) 0 ≡ qs ++ replicate (max-planned - length qs) 0 = ap (λ (r : PlannedPriorities). r .values) e in
     sym (take-append-seam ps (replicate (max-planned - length ps) 0)) ∙ ap₂ take c v ∙ take-append-seam qs (replicate (max-planned - length qs) 0)
 
-record Made-of (limit : ℕ) (is ns ps : List ℕ) : Type 0 where
-  good : GoodList is ns
-  working : Works limit (planned-streams is ns) ps
+pub record Made-of (limit : ℕ) (is ns ps : List ℕ) : Type 0 where
+  pub good : GoodList is ns
+  pub set : LeastSet limit (planned-streams is ns) ps
 
-made-of : (limit : ℕ) (is ns ps : List ℕ) → planned limit is ns ≡ made-plan ps → Made-of limit is ns ps
+pub made-of : (limit : ℕ) (is ns ps : List ℕ) → planned limit is ns ≡ made-plan ps → Made-of limit is ns ps
 unfolding none-works
 made-of limit is ns ps e = go (limit-wrong limit .applies) refl (list-wrong is ns) refl (any (ltb max-priority) (least-set limit (planned-streams is ns))) refl (sym (planned-is limit is ns) ∙ e)
   where
@@ -63,7 +63,9 @@ made-of limit is ns ps e = go (limit-wrong limit .applies) refl (list-wrong is n
     go false ex false ey true ez r = absurd (never 29 r)
     go false ex false ey false ez r =
         let g : GoodList is ns = good-list is ns ey in
-        record { good = g; working = subst (Works limit (planned-streams is ns)) (made-same ls ps r) (least-works limit (planned-streams is ns) (good-limit limit ex) (good-streams is ns (g .sizes-fit)) ez) }
+        let l = good-limit limit ex in
+        let s : LeastSet limit (planned-streams is ns) ls = record { works = least-works limit (planned-streams is ns) l (good-streams is ns (g .sizes-fit)) ez; least = λ qs w. working-above limit (planned-streams is ns) qs (l .1) w } in
+        record { good = g; set = subst (LeastSet limit (planned-streams is ns)) (made-same ls ps r) s }
 
 -- ---- the settings are accepted
 
@@ -98,7 +100,7 @@ priorities-accepted (k ∷ hs) (p ∷ ps) q h =
     subst (λ (x : _). Accepted (x .outcome ∷ run (map setting-call (priorities-of hs ps)) (x .next))) (sym (set-accepted (k .stream-id) p q (omega arith)))
     (refl, priorities-accepted hs ps r (omega arith))
 
-settings-accepted : (o : Options) (hs : List PlannedStream) (ps : List ℕ) → length hs ≤ 256 → Accepted (run (map setting-call (plan-settings hs ps)) (new-queue o))
+pub settings-accepted : (o : Options) (hs : List PlannedStream) (ps : List ℕ) → length hs ≤ 256 → Accepted (run (map setting-call (plan-settings hs ps)) (new-queue o))
 unfolding run step Rattle.queue_model.specs.Settings.set-interleaving switched same-bool new-queue
 settings-accepted o hs ps h = (refl, priorities-accepted hs ps (switched true (new-queue o)) (omega arith))
 
@@ -161,7 +163,7 @@ prepare ss as′ (h ∷ hs) (p ∷ ps) a f = (record { priority-set = a .0; mess
 
 -- ---- the lists
 
-ids-are : (is ns : List ℕ) → length is ≡ length ns → stream-ids (planned-streams is ns) ≡ is
+pub ids-are : (is ns : List ℕ) → length is ≡ length ns → stream-ids (planned-streams is ns) ≡ is
 unfolding planned-streams
 ids-are [] [] e = refl
 ids-are [] (n ∷ ns) e = refl
@@ -177,7 +179,7 @@ ids-typed (i ∷ is) (n ∷ ns) a = (a .0, ids-typed is ns (a .1))
 
 -- ---- expiry times
 
-job-lasting : (o : Options) (hs : List PlannedStream) (ps : List ℕ) (ss : List Setting) (as′ bs : List Adding) → Job o hs ps ss as′ → (ts : List ℕ) → All (λ (t : ℕ). Lasting t as′ × Lasting t bs) ts → All (λ (t : ℕ). none-expired t (loaded o ss as′) ≡ true) ts
+pub job-lasting : (o : Options) (hs : List PlannedStream) (ps : List ℕ) (ss : List Setting) (as′ bs : List Adding) → Job o hs ps ss as′ → (ts : List ℕ) → All (λ (t : ℕ). Lasting t as′ × Lasting t bs) ts → All (λ (t : ℕ). none-expired t (loaded o ss as′) ≡ true) ts
 job-lasting o hs ps ss as′ bs j [] l = tt
 job-lasting o hs ps ss as′ bs j (t ∷ ts) l =
     (none-expires t (loaded o ss as′) (lasting-adds t as′ (set-up o ss) (up-lasting o hs ps ss as′ j t) (l .0 .0)), job-lasting o hs ps ss as′ bs j ts (l .1))
@@ -186,26 +188,38 @@ later-lasting : (as′ bs : List Adding) (ts : List ℕ) → All (λ (t : ℕ). 
 later-lasting as′ bs [] l = tt
 later-lasting as′ bs (t ∷ ts) l = (l .0 .1, later-lasting as′ bs ts (l .1))
 
+-- ---- the job
+
+-- Priorities, one for each stream of a right list, set on a new queue: where the messages are accepted this is a job.
+pub plan-job : (o : Options) (is ns ps : List ℕ) (as′ : List Adding) → Created o → All (λ (i : ℕ). i < 2 ^ 16) is → GoodList is ns → length ps ≡ length (planned-streams is ns) → All IsPriority ps
+    → AllTyped (map adding-call as′) → Accepted (run (map adding-call as′) (set-up o (plan-settings (planned-streams is ns) ps)))
+    → All (λ (h : PlannedStream). first-size (h .stream-id) as′ ≡ some (h .size)) (planned-streams is ns)
+    → Job o (planned-streams is ns) ps (plan-settings (planned-streams is ns) ps) as′
+unfolding last-interleaving
+plan-job o is ns ps as′ c t g n al ta da f =
+    let hs : List PlannedStream = planned-streams is ns in
+    let few = g .few in let hf = listed-few is ns in
+    let si : stream-ids (planned-streams is ns) ≡ is = ids-are is ns (g .same-count) in
+    record {
+      created = c;
+      settings-typed = (tt, settings-typed hs ps (ids-typed is ns t) al);
+      messages-typed = ta;
+      interleaves = choice-kept true hs ps;
+      settings-accepted = settings-accepted o hs ps (omega arith);
+      messages-accepted = da;
+      prepared = prepare (priorities-of hs ps) as′ hs ps (all-set hs ps n (subst (λ (l : List ℕ). named-twice l ≡ false) (sym si) (g .distinct))) f;
+    }
+
 -- Request 13/13 for the plan's own job.
 pub request13-plan : Request13-plan
-unfolding Request13-plan Request13-order last-interleaving
+unfolding Request13-plan Request13-order
 request13-plan o is ns ps as′ xs c t e ta da f tx n =
     let hs : List PlannedStream = planned-streams is ns in
     let ss : List Setting = plan-settings (planned-streams is ns) ps in
     let m = made-of (o .payload-limit) is ns ps e in
-    let g = m .good in let few = g .few in let hf = listed-few is ns in
-    let si : stream-ids (planned-streams is ns) ≡ is = ids-are is ns (g .same-count) in
-    let ds : Accepted (run (map setting-call (plan-settings (planned-streams is ns) ps)) (new-queue o)) = settings-accepted o hs ps (omega arith) in
-    let j : Job o (planned-streams is ns) ps (plan-settings (planned-streams is ns) ps) as′ = record {
-      created = c;
-      settings-typed = (tt, settings-typed hs ps (ids-typed is ns t) (m .working .allowed));
-      messages-typed = ta;
-      interleaves = choice-kept true hs ps;
-      settings-accepted = ds;
-      messages-accepted = da;
-      prepared = prepare (priorities-of hs ps) as′ hs ps (all-set hs ps (m .working .count) (subst (λ (l : List ℕ). named-twice l ≡ false) (sym si) (g .distinct))) f;
-    } in (
-      ds,
-      subst (λ (l : List ℕ). InTurn l (run (map later-call xs) (loaded o (plan-settings (planned-streams is ns) ps) as′))) si
-          (request13-order o hs ps ss as′ xs j (m .working) tx (job-lasting o hs ps ss as′ (added-later xs) j (times xs) n) (later-lasting as′ (added-later xs) (times xs) n)),
+    let w = m .set .works in
+    let j : Job o (planned-streams is ns) ps (plan-settings (planned-streams is ns) ps) as′ = plan-job o is ns ps as′ c t (m .good) (w .count) (w .allowed) ta da f in (
+      j .settings-accepted,
+      subst (λ (l : List ℕ). InTurn l (run (map later-call xs) (loaded o (plan-settings (planned-streams is ns) ps) as′))) (ids-are is ns (m .good .same-count))
+          (request13-order o hs ps ss as′ xs j w tx (job-lasting o hs ps ss as′ (added-later xs) j (times xs) n) (later-lasting as′ (added-later xs) (times xs) n)),
     )

@@ -67,11 +67,11 @@ Request13-served =
 -- The converse: allowed priorities of different streams that put the first fragments in the list's order in every such run have finish times and ids in that order. So
 -- "any working set" means the same by finish times and by runs.
 unfoldable pub Request13-only : Type 0
-unfolding after new-queue run streams-shown firsts still-without ends named-twice none-expired
+unfolding after new-queue run streams-shown firsts still-without ends named-twice expiry
 Request13-only =
     (o : Options) (hs : List PlannedStream) (ps : List ℕ) (ss : List Setting) (as′ : List Adding)
     → Job o hs ps ss as′ → All IsPriority ps → named-twice (stream-ids hs) ≡ false
-    → ((xs : List Asking) → All (Accepts o) xs → All (λ (x : Asking). none-expired (x .now) (loaded o ss as′) ≡ true) xs → InTurn (stream-ids hs) (run (map later-call (map ask xs)) (loaded o ss as′)))
+    → ((xs : List Asking) → All (Accepts o) xs → All (λ (x : Asking). Lasting (x .now) as′) xs → InTurn (stream-ids hs) (run (map later-call (map ask xs)) (loaded o ss as′)))
     → Works (o .payload-limit) hs ps
 
 -- ------------------------------------------------------------------ the plan's own job

@@ -62,11 +62,14 @@ unfoldable pub ends : List Outcome → Bool
 ends [] = false
 ends (o ∷ os) = says-nothing (o .answer) || ends os
 
--- The streams get their first fragments in the list's order: those that have had one are the list's first, in its order, and the others are the rest of the list.
--- Where a call finds that nothing waits, all have had theirs.
-pub record InTurn (is : List ℕ) (os : List Outcome) : Type 0 where
-  pub in-turn : is ≡ firsts is (streams-shown os) ++ still-without is (streams-shown os)
-  pub all-served : ends os ≡ true → still-without is (streams-shown os) ≡ []
+-- The streams get their first fragments in the list's order, by the streams of the fragments shown: those that have had one are the list's first, in its order, and the others
+-- are the rest of the list. Where a call finds that nothing waits, all have had theirs.
+pub record ServedInTurn (is ks : List ℕ) (ended : Bool) : Type 0 where
+  pub in-turn : is ≡ firsts is ks ++ still-without is ks
+  pub all-served : ended ≡ true → still-without is ks ≡ []
+
+abbrev pub InTurn : List ℕ → List Outcome → Type 0
+InTurn is os = ServedInTurn is (streams-shown os) (ends os)
 
 abbrev pub stream-ids : List PlannedStream → List ℕ
 stream-ids hs = map (λ (h : PlannedStream). h .stream-id) hs
