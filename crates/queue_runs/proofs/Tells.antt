@@ -82,7 +82,7 @@ unordered-is : (b : Bool) (n : ℕ) → key-unordered (key-of b (record { 0 = n 
 unordered-is true n = refl
 unordered-is false n = refl
 
-id-is : (b : Bool) (n : ℕ) → key-id (key-of b (record { 0 = n })) .0 ≡ n
+pub id-is : (b : Bool) (n : ℕ) → key-id (key-of b (record { 0 = n })) .0 ≡ n
 id-is true n = refl
 id-is false n = refl
 

@@ -109,11 +109,11 @@ places-long : length places ≡ 4610
 unfolding places
 places-long = length-replicate {A = ℕ} 4610 0
 
-places-words : (n : ℕ) → T (areWords (replicate n 0))
+pub places-words : (n : ℕ) → T (areWords (replicate n 0))
 places-words zero = tt
 places-words (suc n) = places-words n
 
-zero-bytes : (n : ℕ) → T (areBytes (replicate n 0))
+pub zero-bytes : (n : ℕ) → T (areBytes (replicate n 0))
 zero-bytes zero = tt
 zero-bytes (suc n) = zero-bytes n
 
