@@ -39,7 +39,7 @@ use send_queue::set_buffered_amount_low_threshold;
 use send_queue::set_priority;
 
 // What the program itself answers where an array is shorter than the length asked for, which no trace asks.
-const TOO_SHORT: u8 = 99;
+pub const TOO_SHORT: u8 = 99;
 
 // The words of so many places of the event list.
 fn event_words(places: u64) -> usize {

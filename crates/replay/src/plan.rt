@@ -1,5 +1,6 @@
 // Priorities for a wanted order: the line `P limit n id1 .. idn m size1 .. sizem`.
 ghost use Prim.Native.Nat.{_≤_};
+use crate::lent::TOO_SHORT;
 use crate::output::put_answer;
 use crate::output::put_byte;
 use crate::output::put_number;
@@ -11,6 +12,7 @@ use crate::state::COUNT;
 use crate::state::STATE;
 use crate::state::low16;
 use crate::state::wide16;
+use send_queue::Call;
 use send_queue::MAX_PLANNED;
 use send_queue::PlannedPriorities;
 use send_queue::plan_priorities;
@@ -68,36 +70,58 @@ pub fn is_plan(state: &[u64; STATE]) -> bool {
     ids_fit(state, n)
 }
 
-fn ids_at(state: &[u64; STATE]) -> [u16; LISTED] {
-    let mut ids = [0u16; LISTED];
+fn take_ids(state: &[u64; STATE], ids: &mut [u16; LISTED]) {
     let mut i = 0;
     while i < LISTED {
         ids[i] = low16(state[IDS + 1 + i]);
         i += 1;
     }
-    ids
 }
 
-// The list of sizes from a place on.
-fn sizes_at(state: &[u64; STATE], from: usize) -> [u64; LISTED] {
-    let mut sizes = [0u64; LISTED];
-    if from > IDS + LISTED + 2 {
-        return sizes;
-    }
+fn take_sizes(state: &[u64; STATE], sizes: &mut [u64; LISTED]) {
+    let from = IDS + 2 + count_at(state, IDS);
     let mut i = 0;
     while i < LISTED {
         sizes[i] = state[from + i];
         i += 1;
     }
-    sizes
+}
+
+fn too_short() -> PlannedPriorities {
+    PlannedPriorities {
+        answer: Call::Refused(TOO_SHORT),
+        count: 0,
+        values: [0u16; MAX_PLANNED],
+    }
+}
+
+// The priorities for the first so many ids and sizes.
+fn plan_first(state: &[u64; STATE], ids: &[u16], sizes: &[u64]) -> PlannedPriorities {
+    let n = count_at(state, IDS);
+    let m = count_at(state, IDS + 1 + n);
+    if n > ids.len() {
+        return too_short();
+    }
+    if m > sizes.len() {
+        return too_short();
+    }
+    plan_priorities(state[0], &ids[0..n], &sizes[0..m])
+}
+
+fn plan_lists(
+    state: &[u64; STATE],
+    ids: &[u16; LISTED],
+    sizes: &[u64; LISTED],
+) -> PlannedPriorities {
+    plan_first(state, ids, sizes)
 }
 
 fn plan(state: &[u64; STATE]) -> PlannedPriorities {
-    let n = count_at(state, IDS);
-    let m = count_at(state, IDS + 1 + n);
-    let ids = ids_at(state);
-    let sizes = sizes_at(state, IDS + 2 + n);
-    plan_priorities(state[0], &ids[..n], &sizes[..m])
+    let mut ids = [0u16; LISTED];
+    let mut sizes = [0u64; LISTED];
+    take_ids(state, &mut ids);
+    take_sizes(state, &mut sizes);
+    plan_lists(state, &ids, &sizes)
 }
 
 fn put_priorities(
