@@ -12,6 +12,7 @@ include!("original.rs");
 mod clock;
 mod dropping;
 mod images;
+mod planning;
 mod sending;
 mod sides;
 mod stack;
@@ -25,5 +26,6 @@ fn main() {
     dropping::closing();
     images::saving_and_restoring();
     sending::growth();
+    planning::planning();
     println!("\nProfile 3 has 600 messages: 1,024 of 3,000 bytes do not fit into the largest store, 2,000,000 bytes.");
 }
