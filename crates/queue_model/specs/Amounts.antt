@@ -6,9 +6,9 @@ use lib.Dec.{ltb, leb}
 use Rattle.queue_model.specs.Logic.{if_then_else_}
 use Rattle.queue_model.specs.Types.{Item, Stream, Options, Queue, Event, remaining}
 
--- "Low fires when an amount goes from above its threshold to at or below it" (Rust: SubAssign of ThresholdWatcher).
+-- "Low fires when an amount goes from above its threshold to at or below it" (Rust: SubAssign of ThresholdWatcher), and tells "the amount after the fall".
 unfoldable pub low-event : ℕ → ℕ → ℕ → ℕ → ℕ → List Event
-low-event kind n threshold old new = if ltb threshold old && leb new threshold then record { kind = kind; number = n } ∷ [] else []
+low-event kind n threshold old new = if ltb threshold old && leb new threshold then record { kind = kind; number = n; amount = new } ∷ [] else []
 
 -- Kind 2, "total low (0)", when the total t falls by n bytes; and kind 1, "stream low (stream id)", when a stream's amount a does.
 unfoldable pub total-falls : Options → ℕ → ℕ → List Event
@@ -28,10 +28,10 @@ unfoldable pub stream-low : Stream → ℕ → List Event
 unfolding stream-falls
 stream-low s n = stream-falls s (s .amount) n
 
--- "then 3 and 4 for a drop with an id" (Rust: add_lifecycle_events).
+-- "then 3 and 4 for a drop with an id" (Rust: add_lifecycle_events); "kinds 3 and 4 carry 0".
 unfoldable pub lifecycle-events : ℕ → List Event
 lifecycle-events zero = []
-lifecycle-events (suc n) = record { kind = 3; number = suc n } ∷ record { kind = 4; number = suc n } ∷ []
+lifecycle-events (suc n) = record { kind = 3; number = suc n; amount = 0 } ∷ record { kind = 4; number = suc n; amount = 0 } ∷ []
 
 -- "Sending and dropping report total, stream, then 3 and 4 for a drop with an id": n bytes sent, and a head dropped.
 unfoldable pub sent-events : Queue → Stream → ℕ → List Event

@@ -42,10 +42,10 @@ unfolding show-answer
 answers [] = []
 answers (o ∷ os) = show-answer (o .answer) ++ answers os
 
--- The events' kinds and numbers.
+-- The events' kinds, numbers and amounts.
 events : List Event → List ℕ
 events [] = []
-events (e ∷ es) = e .kind ∷ e .number ∷ events es
+events (e ∷ es) = e .kind ∷ e .number ∷ e .amount ∷ events es
 
 all-events : List Outcome → List ℕ
 unfolding events
@@ -119,8 +119,8 @@ table =
     -- Left at 5,500,000: 0 ms.
     ∷ ((ms-left-at 5500000 (expiry 5000000 (some 0)) ∷ []) gives (0 ∷ []))
     -- Amount 10, threshold 4, 6 sent: fires. Threshold 4 raised to 10 at amount 10: fires; 10 to 12: silent.
-    ∷ (fires (set-threshold 2305 5 4 ∷ put 5 10 0 none ∷ get 0 6 ∷ []) gives (1 ∷ 5 ∷ []))
-    ∷ (fires (set-threshold 2305 5 4 ∷ put 5 10 0 none ∷ set-threshold 2305 5 10 ∷ []) gives (1 ∷ 5 ∷ []))
+    ∷ (fires (set-threshold 2305 5 4 ∷ put 5 10 0 none ∷ get 0 6 ∷ []) gives (1 ∷ 5 ∷ 4 ∷ []))
+    ∷ (fires (set-threshold 2305 5 4 ∷ put 5 10 0 none ∷ set-threshold 2305 5 10 ∷ []) gives (1 ∷ 5 ∷ 10 ∷ []))
     ∷ (fires (set-threshold 2305 5 10 ∷ put 5 10 0 none ∷ set-threshold 2305 5 12 ∷ []) gives [])
     -- After MID 4,294,967,295 comes 0. After SSN 65,535 comes 0.
     ∷ (after-message false 65534 4294967294 4294967294 gives (65535 ∷ 4294967294 ∷ 4294967295 ∷ []))
@@ -157,9 +157,13 @@ facts =
     ∷ (shows (close 2305 5 ∷ put 5 10 0 none ∷ get 0 10 ∷ []) gives (888 ∷ []))
     ∷ (shows (put 5 1500 0 (some 0) ∷ get 0 1000 ∷ close 2305 5 ∷ get 1000000 1000 ∷ put 5 10 0 none ∷ get 0 10 ∷ []) gives (begun 5 ++ (888 ∷ 5 ∷ 10 ∷ 1 ∷ 1 ∷ 1 ∷ 1 ∷ 0 ∷ [])))
     -- "Sending and dropping report total, stream, then 3 and 4 for a drop with an id; closing reports stream before total."
-    ∷ (fires (noted 5 9 ∷ discard 2305 5 0 ∷ []) gives (2 ∷ 0 ∷ 1 ∷ 5 ∷ 3 ∷ 9 ∷ 4 ∷ 9 ∷ []))
-    ∷ (fires (noted 5 9 ∷ close 2305 5 ∷ []) gives (1 ∷ 5 ∷ 2 ∷ 0 ∷ 3 ∷ 9 ∷ 4 ∷ 9 ∷ []))
-    ∷ (fires (put 5 10 0 none ∷ get 0 10 ∷ []) gives (2 ∷ 0 ∷ 1 ∷ 5 ∷ []))
+    ∷ (fires (noted 5 9 ∷ discard 2305 5 0 ∷ []) gives (2 ∷ 0 ∷ 0 ∷ 1 ∷ 5 ∷ 0 ∷ 3 ∷ 9 ∷ 0 ∷ 4 ∷ 9 ∷ 0 ∷ []))
+    ∷ (fires (noted 5 9 ∷ close 2305 5 ∷ []) gives (1 ∷ 5 ∷ 0 ∷ 2 ∷ 0 ∷ 0 ∷ 3 ∷ 9 ∷ 0 ∷ 4 ∷ 9 ∷ 0 ∷ []))
+    ∷ (fires (put 5 10 0 none ∷ get 0 10 ∷ []) gives (2 ∷ 0 ∷ 0 ∷ 1 ∷ 5 ∷ 0 ∷ []))
+    -- "the amount after the fall, stepped as in the Rust": three messages of 10 bytes closed, and dropped as expired, with the threshold 15. The stream's event comes with the
+    -- second message and tells 10, though the call goes on to 0.
+    ∷ (fires (set-threshold 2305 5 15 ∷ put 5 10 0 none ∷ put 5 10 0 none ∷ put 5 10 0 none ∷ close 2305 5 ∷ []) gives (1 ∷ 5 ∷ 10 ∷ 2 ∷ 0 ∷ 0 ∷ []))
+    ∷ (fires (set-threshold 2305 5 15 ∷ put 5 10 0 (some 0) ∷ put 5 10 0 (some 0) ∷ put 5 10 0 (some 0) ∷ get 1000000 10 ∷ []) gives (1 ∷ 5 ∷ 10 ∷ 2 ∷ 0 ∷ 0 ∷ []))
     -- "Readiness is 2 if handover with waiting data is off and the total is above 0, else 0."
     ∷ ((ready-with [] ∷ ready-with (put 5 10 0 none ∷ []) ∷ []) gives (0 ∷ 2 ∷ []))
     -- "the first that applies is given": of 2, 3, 4, 9 and 10; of 4 and 5.

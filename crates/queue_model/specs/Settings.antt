@@ -9,9 +9,9 @@ use Rattle.queue_model.specs.Types.{Stream, Queue, Event, done, Step, re
 use Rattle.queue_model.specs.Streams.{stream-at, too-many, know, reschedule-each}
 use Rattle.queue_model.specs.Refusals.{Check, checked, places-few, streams-full}
 
--- "also when a threshold below the amount is raised to or past it" (Rust: set_low_threshold).
+-- "also when a threshold below the amount is raised to or past it" (Rust: set_low_threshold); the amount, which a raise leaves as it is, is told with it.
 unfoldable pub raised-event : Stream → ℕ → List Event
-raised-event s t = if ltb (s .threshold) (s .amount) && leb (s .amount) t then record { kind = 1; number = s .id } ∷ [] else []
+raised-event s t = if ltb (s .threshold) (s .amount) && leb (s .amount) t then record { kind = 1; number = s .id; amount = s .amount } ∷ [] else []
 
 abbrev pub threshold-checks : ℕ → ℕ → Queue → List Check
 threshold-checks places k q = places-few places ∷ streams-full q k ∷ []

@@ -65,7 +65,7 @@ unfolding low-event
 low-spends kind n t old new h = go (ltb t old) refl (leb new t) refl
   where
     e : Event
-    e = record { kind = kind; number = n }
+    e = record { kind = kind; number = n; amount = new }
 
     go : (x : Bool) → ltb t old ≡ x → (y : Bool) → leb new t ≡ y → length (if x && y then e ∷ [] else []) + above t new ≤ above t old
     go true f true g = let a = above-yes t old (ltb→lt t old (holds (ltb t old) f)) in let b = above-no t new (leb→le new t (holds (leb new t) g)) in omega arith
@@ -391,7 +391,7 @@ unfolding raised-event
 raised-few s t = go (ltb (s .threshold) (s .amount) && leb (s .amount) t)
   where
     e : Event
-    e = record { kind = 1; number = s .id }
+    e = record { kind = 1; number = s .id; amount = s .amount }
 
     go : (b : Bool) → length (if b then e ∷ [] else []) ≤ 1
     go true = omega arith
