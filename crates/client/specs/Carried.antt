@@ -34,7 +34,7 @@ pub record Fits (store events : ℕ) (first second one two three : List ℕ) : T
   pub first-most : length first ≤ 2400
   pub second-some : 1 ≤ length second
   pub second-most : length second ≤ 1200
-  pub event-places : 4610 ≤ events
+  pub event-places : 6915 ≤ events
   pub one-room : 1200 ≤ length one
   pub two-room : 1200 ≤ length two
   pub three-room : 1200 ≤ length three

@@ -16,11 +16,11 @@ use Rattle.linked_dropping.proofs.Closes.{close-link}
 pub discard-meets : (ws es ws′ es′ : List ℕ) (id m : ℕ) (r : Call) → id < 65536 → m < 4294967296 → length es < 18446744073709551616 → calledWith r ws′ es′ ≡ discard ws es id m → DiscardMeets ws es ws′ es′ id m r
 discard-meets ws es ws′ es′ id m r hid hm hes e = record {
   words = e;
-  model = λ st g. subst (λ (c : CalledWith). Reports (run.discard (length es / 2) id m) ws st es (c .answer) (c .next) st (c .events)) (sym e) (discard-link ws st es id m g hid hm hes);
+  model = λ st g. subst (λ (c : CalledWith). Reports (run.discard (length es / 3) id m) ws st es (c .answer) (c .next) st (c .events)) (sym e) (discard-link ws st es id m g hid hm hes);
 }
 
 pub close-meets : (ws es ws′ es′ : List ℕ) (id : ℕ) (r : Call) → id < 65536 → length es < 18446744073709551616 → calledWith r ws′ es′ ≡ close ws es id → CloseMeets ws es ws′ es′ id r
 close-meets ws es ws′ es′ id r hid hes e = record {
   words = e;
-  model = λ st g. subst (λ (c : CalledWith). Reports (run.close (length es / 2) id) ws st es (c .answer) (c .next) st (c .events)) (sym e) (close-link ws st es id g hid hes);
+  model = λ st g. subst (λ (c : CalledWith). Reports (run.close (length es / 3) id) ws st es (c .answer) (c .next) st (c .events)) (sym e) (close-link ws st es id g hid hes);
 }

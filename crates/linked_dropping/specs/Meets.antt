@@ -11,12 +11,12 @@ use Rattle.queue_closing.specs.Close.{close}
 use Rattle.queue_state.specs.Good.{Good}
 use Rattle.queue_state.specs.Promise.{Reports}
 
--- "Discard acts only on a head with that id." An event takes two words of the list, and the store is not touched.
+-- "Discard acts only on a head with that id." An event takes three words of the list, and the store is not touched.
 pub record DiscardMeets (ws es ws′ es′ : List ℕ) (id message : ℕ) (r : Call) : Type 0 where
   pub words : calledWith r ws′ es′ ≡ discard ws es id message
-  pub model : (st : List ℕ) → Good ws st → Reports (run.discard (length es / 2) id message) ws st es r ws′ st es′
+  pub model : (st : List ℕ) → Good ws st → Reports (run.discard (length es / 3) id message) ws st es r ws′ st es′
 
 -- Closing: "It drops every message at offset 0; a remaining half-sent one makes the stream pending, none makes it paused."
 pub record CloseMeets (ws es ws′ es′ : List ℕ) (id : ℕ) (r : Call) : Type 0 where
   pub words : calledWith r ws′ es′ ≡ close ws es id
-  pub model : (st : List ℕ) → Good ws st → Reports (run.close (length es / 2) id) ws st es r ws′ st es′
+  pub model : (st : List ℕ) → Good ws st → Reports (run.close (length es / 3) id) ws st es r ws′ st es′

@@ -54,7 +54,7 @@ low-few : (kind n t old new : ℕ) → length (low-event kind n t old new) ≤ 1
 unfolding low-event
 low-few kind n t old new = go (ltb t old && leb new t)
   where
-    go : (b : Bool) → length {A = Event} (if b then record { kind = kind; number = n } ∷ [] else []) ≤ 1
+    go : (b : Bool) → length {A = Event} (if b then record { kind = kind; number = n; amount = new } ∷ [] else []) ≤ 1
     go true = omega arith
     go false = omega arith
 
@@ -143,7 +143,7 @@ next-of ws st es g at c time k d h e =
       next-pays = rw (h .next) p;
     }
 
-module _ (st es₀ bs : List ℕ) (time size : ℕ) (le : 4610 ≤ length es₀) (lb : size ≤ length bs) where
+module _ (st es₀ bs : List ℕ) (time size : ℕ) (le : 6915 ≤ length es₀) (lb : size ≤ length bs) where
   -- the statement
   abbrev pub Passing : (n : ℕ) (ws : List ℕ) (vs : List Event) → Type 0
   Passing n ws vs = Passes st es₀ bs (pass-over (suc n) time size (model ws st) vs) (passOver n ws st (written es₀ 0 vs) bs time size (length vs))
@@ -190,7 +190,7 @@ module _ (st es₀ bs : List ℕ) (time size : ℕ) (le : 4610 ≤ length es₀)
       let q′ : Queue = drop-head (model ws st) (streamIn ws st (c .pos)) (itemIn ws st (c .first)) (each (itemIn ws st) (c .rest)) in
       let e : look time (model ws st) ≡ dropped q′ ds = drops ws st g at c time b in
       let p : LookSpends (model ws st) (dropped q′ ds) = subst (LookSpends (model ws st)) e (look-spends time (model ws st) (g .well)) in
-      let l : 4610 ≤ length (written es₀ 0 vs) = rw (written-length es₀ 0 vs) le in
+      let l : 6915 ≤ length (written es₀ 0 vs) = rw (written-length es₀ 0 vs) le in
       let d : CalledWith = expiredDropped ws (written es₀ 0 vs) (length vs) ((entryAt ws at) .stream-id) (rowAt ws (c .pos)) in
       let x : HeadExpired ws st g at c (written es₀ 0 vs) (length vs) d = head-expired ws st g at c (written es₀ 0 vs) (length vs) l (omega arith) in
       let y : Next ws st (d .next) ds = next-of ws st (written es₀ 0 vs) g at c time (length vs) d x e in

@@ -74,4 +74,4 @@ pub record Sends (s : Step) (st es bs : List ℕ) (p : ProducedWith) : Type 0 wh
 -- The contract: the words for every input, and the model's step from good words.
 pub record ProduceMeets (ws st es bs : List ℕ) (time size : ℕ) (r : Produced) (ws′ es′ bs′ : List ℕ) : Type 0 where
   pub words : producedWith r ws′ es′ bs′ ≡ produceNext ws st es bs time size
-  pub model : Good ws st → Sends (run.step (run.produce (length st) (length es / 2) (length bs) time size) (model ws st)) st es bs (producedWith r ws′ es′ bs′)
+  pub model : Good ws st → Sends (run.step (run.produce (length st) (length es / 3) (length bs) time size) (model ws st)) st es bs (producedWith r ws′ es′ bs′)

@@ -14,7 +14,7 @@ pub record SetPriorityMeets (ws : List ℕ) (id p : ℕ) (r : Call) (ws′ : Lis
   pub words : called r ws′ ≡ setPriority ws id p
   pub model : (st : List ℕ) → Good ws st → Does (run.set-priority id p) ws st r ws′ st
 
--- Setting a threshold, with the events in the lent list: a place is two words.
+-- Setting a threshold, with the events in the lent list: a place is three words.
 pub record SetThresholdMeets (ws es : List ℕ) (id t : ℕ) (r : Call) (ws′ es′ : List ℕ) : Type 0 where
   pub words : calledWith r ws′ es′ ≡ setThreshold ws es id t
-  pub model : (st : List ℕ) → Good ws st → Reports (run.set-threshold (length es / 2) id t) ws st es r ws′ st es′
+  pub model : (st : List ℕ) → Good ws st → Reports (run.set-threshold (length es / 3) id t) ws st es r ws′ st es′

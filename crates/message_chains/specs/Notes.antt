@@ -14,18 +14,18 @@ pub record Notes : Type 0 where
 abbrev pub notes : List ℕ → ℕ → Notes
 notes es k = record { events = es; count = k }
 
--- "An event is kind and number", in the next place; a list that is full or too short takes none, and 2,306 says so.
-unfoldable pub noted : List ℕ → ℕ → ℕ → ℕ → Notes
-noted es k kind number =
+-- "An event is kind and number", with an amount, in the next place; a list that is full or too short takes none, and 2,306 says so.
+unfoldable pub noted : List ℕ → ℕ → ℕ → ℕ → ℕ → Notes
+noted es k kind number amount =
     pick (ltb 2304 k) (notes es 2306)
-    (pick (ltb (length es) 4610) (notes es 2306) (notes (putEvent es k kind number) (k + 1)))
+    (pick (ltb (length es) 6915) (notes es 2306) (notes (putEvent es k kind number amount) (k + 1)))
 
 -- "Low fires when an amount goes from above its threshold to at or below it".
 unfoldable pub lowNoted : List ℕ → ℕ → ℕ → ℕ → ℕ → ℕ → ℕ → Notes
 lowNoted es k kind number threshold old new =
-    pick (leb old threshold) (notes es k) (pick (ltb threshold new) (notes es k) (noted es k kind number))
+    pick (leb old threshold) (notes es k) (pick (ltb threshold new) (notes es k) (noted es k kind number new))
 
 -- "then 3 and 4 for a drop with an id"; "Lifecycle id 0 means none".
 unfoldable pub lifecycleNoted : List ℕ → ℕ → ℕ → Notes
 lifecycleNoted es k id =
-    pick (eqb id 0) (notes es k) (noted (noted es k 3 id .events) (noted es k 3 id .count) 4 id)
+    pick (eqb id 0) (notes es k) (noted (noted es k 3 id 0 .events) (noted es k 3 id 0 .count) 4 id 0)

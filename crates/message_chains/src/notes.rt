@@ -5,8 +5,8 @@ ghost use Rattle.message_chains.specs.Notes.{notes, noted, lowNoted, lif
 use queue_streams::events::EVENT_PLACES;
 use queue_streams::events::put_event;
 
-pub fn note(events: &mut [u64], k: usize, kind: u64, number: u64) -> usize
-    ensures { λ r. ⌜ notes (now (events .exit)) r ≡ noted (now (events .entry)) k kind number ⌝ }
+pub fn note(events: &mut [u64], k: usize, kind: u64, number: u64, amount: u64) -> usize
+    ensures { λ r. ⌜ notes (now (events .exit)) r ≡ noted (now (events .entry)) k kind number amount ⌝ }
 {
     if k > 2304 {
         return 2306;
@@ -14,7 +14,7 @@ pub fn note(events: &mut [u64], k: usize, kind: u64, number: u64) -> usize
     if events.len() < EVENT_PLACES {
         return 2306;
     }
-    put_event(events, k, kind, number);
+    put_event(events, k, kind, number, amount);
     k + 1
 }
 
@@ -36,7 +36,7 @@ pub fn low_event(
     if new > threshold {
         return k;
     }
-    note(events, k, kind, number)
+    note(events, k, kind, number, new)
 }
 
 // "then 3 and 4 for a drop with an id".
@@ -46,6 +46,6 @@ pub fn lifecycle_events(events: &mut [u64], k: usize, id: u64) -> usize
     if id == 0 {
         return k;
     }
-    let k1 = note(events, k, 3, id);
-    note(events, k1, 4, id)
+    let k1 = note(events, k, 3, id, 0);
+    note(events, k1, 4, id, 0)
 }

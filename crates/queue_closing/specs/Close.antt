@@ -80,4 +80,4 @@ closeAt ws es id (place.Refused n) = calledWith (Refused n) ws es
 
 -- 3: "the event list has fewer than 2,305 places".
 unfoldable pub close : List ℕ → List ℕ → ℕ → CalledWith
-close ws es id = pick (ltb (length es) 4610) (calledWith (Refused 3) ws es) (closeAt ws es id (lookUp ws id))
+close ws es id = pick (ltb (length es) 6915) (calledWith (Refused 3) ws es) (closeAt ws es id (lookUp ws id))

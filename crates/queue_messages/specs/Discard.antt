@@ -60,4 +60,4 @@ discardFound ws es id message Broken = calledWith (Refused 16) ws es
 -- 3: "the event list has fewer than 2,305 places".
 unfoldable pub discard : List ℕ → List ℕ → ℕ → ℕ → CalledWith
 discard ws es id message =
-    pick (ltb (length es) 4610) (calledWith (Refused 3) ws es) (discardFound ws es id message (findStream ws id))
+    pick (ltb (length es) 6915) (calledWith (Refused 3) ws es) (discardFound ws es id message (findStream ws id))

@@ -29,17 +29,17 @@ pub data Call : Type 0 where
   ask-priority ask-amount ask-threshold : (id : ℕ) → Call
   ask-total ask-empty ask-has-data ask-streams-ready ask-readiness : Call
 
--- The model's call, on a queue whose store has this length: a place of the event list is two words.
+-- The model's call, on a queue whose store has this length: a place of the event list is three words.
 abbrev pub callOf : ℕ → Call → run.Call
 callOf len (add time m payload) = run.add len time (messageOf m payload)
-callOf len (produce es bs time size) = run.produce len (length es / 2) (length bs) time size
-callOf len (discard es id k) = run.discard (length es / 2) id k
-callOf len (close es id) = run.close (length es / 2) id
+callOf len (produce es bs time size) = run.produce len (length es / 3) (length bs) time size
+callOf len (discard es id k) = run.discard (length es / 3) id k
+callOf len (close es id) = run.close (length es / 3) id
 callOf len ready-ids = run.ready-ids
 callOf len commit = run.commit
 callOf len rollback = run.rollback
 callOf len reset = run.reset
-callOf len (set-threshold es id t) = run.set-threshold (length es / 2) id t
+callOf len (set-threshold es id t) = run.set-threshold (length es / 3) id t
 callOf len (set-priority id p) = run.set-priority id p
 callOf len (set-interleaving b) = run.set-interleaving b
 callOf len (restore time image) = run.restore len time image

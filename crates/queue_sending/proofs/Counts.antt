@@ -39,25 +39,25 @@ pick-length : (b : Bool) (x y : Notes) (n : ℕ) → length (x .events) ≡ n �
 pick-length true x y n e g = e
 pick-length false x y n e g = g
 
-put-length : (es : List ℕ) (k kind number : ℕ) → length (putEvent es k kind number) ≡ length es
+put-length : (es : List ℕ) (k kind number amount : ℕ) → length (putEvent es k kind number amount) ≡ length es
 unfolding putEvent
-put-length es k kind number = simp length-set refl
+put-length es k kind number amount = simp length-set refl
 
-noted-length : (es : List ℕ) (k kind number : ℕ) → length (noted es k kind number .events) ≡ length es
+noted-length : (es : List ℕ) (k kind number amount : ℕ) → length (noted es k kind number amount .events) ≡ length es
 unfolding noted
-noted-length es k kind number =
-    pick-length (ltb 2304 k) _ _ _ refl (pick-length (ltb (length es) 4610) _ (notes (putEvent es k kind number) (k + 1)) _ refl (put-length es k kind number))
+noted-length es k kind number amount =
+    pick-length (ltb 2304 k) _ _ _ refl (pick-length (ltb (length es) 6915) _ (notes (putEvent es k kind number amount) (k + 1)) _ refl (put-length es k kind number amount))
 
 low-length : (es : List ℕ) (k kind number threshold old new : ℕ) → length (lowNoted es k kind number threshold old new .events) ≡ length es
 unfolding lowNoted
 low-length es k kind number threshold old new =
-    pick-length (leb old threshold) _ _ _ refl (pick-length (ltb threshold new) _ (noted es k kind number) _ refl (noted-length es k kind number))
+    pick-length (leb old threshold) _ _ _ refl (pick-length (ltb threshold new) _ (noted es k kind number new) _ refl (noted-length es k kind number new))
 
 lifecycle-length : (es : List ℕ) (k id : ℕ) → length (lifecycleNoted es k id .events) ≡ length es
 unfolding lifecycleNoted
 lifecycle-length es k id =
-    pick-length (eqb id 0) _ (noted (noted es k 3 id .events) (noted es k 3 id .count) 4 id) _ refl
-    (noted-length (noted es k 3 id .events) (noted es k 3 id .count) 4 id ∙ noted-length es k 3 id)
+    pick-length (eqb id 0) _ (noted (noted es k 3 id 0 .events) (noted es k 3 id 0 .count) 4 id 0) _ refl
+    (noted-length (noted es k 3 id 0 .events) (noted es k 3 id 0 .count) 4 id 0 ∙ noted-length es k 3 id 0)
 
 pub sent-length : (ws es : List ℕ) (k id : ℕ) (s : OutgoingStream) (n : ℕ) → length (sentNotes ws es k id s n .events) ≡ length es
 unfolding sentNotes streamNotes totalNotes
@@ -88,25 +88,25 @@ expired-length ws es k id row =
 
 -- ------------------------------------------------------------------ the count
 
-noted-count : (es : List ℕ) (k kind number : ℕ) → 4610 ≤ length es → k ≤ 2304 → noted es k kind number .count ≤ k + 1
+noted-count : (es : List ℕ) (k kind number amount : ℕ) → 6915 ≤ length es → k ≤ 2304 → noted es k kind number amount .count ≤ k + 1
 unfolding noted
-noted-count es k kind number h g = by (ltb 2304 k) (ltb (length es) 4610) refl refl
+noted-count es k kind number amount h g = by (ltb 2304 k) (ltb (length es) 6915) refl refl
   where
-    by : (a b : Bool) → ltb 2304 k ≡ a → ltb (length es) 4610 ≡ b → pick a (notes es 2306) (pick b (notes es 2306) (notes (putEvent es k kind number) (k + 1))) .count ≤ k + 1
+    by : (a b : Bool) → ltb 2304 k ≡ a → ltb (length es) 6915 ≡ b → pick a (notes es 2306) (pick b (notes es 2306) (notes (putEvent es k kind number amount) (k + 1))) .count ≤ k + 1
     by true b e f = absurd (omega (arith, ltb-true 2304 k e))
-    by false true e f = absurd (omega (arith, ltb-true (length es) 4610 f))
+    by false true e f = absurd (omega (arith, ltb-true (length es) 6915 f))
     by false false e f = omega arith
 
-low-count : (es : List ℕ) (k kind number threshold old new : ℕ) → 4610 ≤ length es → k ≤ 2304 → lowNoted es k kind number threshold old new .count ≤ k + 1
+low-count : (es : List ℕ) (k kind number threshold old new : ℕ) → 6915 ≤ length es → k ≤ 2304 → lowNoted es k kind number threshold old new .count ≤ k + 1
 unfolding lowNoted
 low-count es k kind number threshold old new h g = by (leb old threshold) (ltb threshold new)
   where
-    by : (a b : Bool) → pick a (notes es k) (pick b (notes es k) (noted es k kind number)) .count ≤ k + 1
+    by : (a b : Bool) → pick a (notes es k) (pick b (notes es k) (noted es k kind number new)) .count ≤ k + 1
     by true b = omega arith
     by false true = omega arith
-    by false false = noted-count es k kind number h g
+    by false false = noted-count es k kind number new h g
 
-total-count : (ws es : List ℕ) (k n : ℕ) → 4610 ≤ length es → k ≤ 2304 → totalNotes ws es k n .count ≤ k + 1
+total-count : (ws es : List ℕ) (k n : ℕ) → 6915 ≤ length es → k ≤ 2304 → totalNotes ws es k n .count ≤ k + 1
 unfolding totalNotes
 total-count ws es k n h g = low-count es k 2 0 (optionsAt ws .«total_threshold») (totalsAt ws .total) (totalsAt ws .total - n) h g
 
@@ -115,11 +115,11 @@ unfolding totalNotes
 total-length ws es k n = low-length es k 2 0 (optionsAt ws .«total_threshold») (totalsAt ws .total) (totalsAt ws .total - n)
 
 -- Sending reports at most two events.
-pub sent-count : (ws es : List ℕ) (k id : ℕ) (s : OutgoingStream) (n : ℕ) → 4610 ≤ length es → k ≤ 2303 → sentNotes ws es k id s n .count ≤ k + 2
+pub sent-count : (ws es : List ℕ) (k id : ℕ) (s : OutgoingStream) (n : ℕ) → 6915 ≤ length es → k ≤ 2303 → sentNotes ws es k id s n .count ≤ k + 2
 unfolding sentNotes streamNotes
 sent-count ws es k id s n h g =
     let a : totalNotes ws es k n .count ≤ k + 1 = total-count ws es k n h (omega arith) in
-    let l : 4610 ≤ length (totalNotes ws es k n .events) = omega (arith, h, total-length ws es k n) in
+    let l : 6915 ≤ length (totalNotes ws es k n .events) = omega (arith, h, total-length ws es k n) in
     omega (arith, a, low-count (totalNotes ws es k n .events) (totalNotes ws es k n .count) 1 id (s .«low_threshold») (s .«buffered_amount») (s .«buffered_amount» - n) l (omega (arith, a, g)))
 
 -- The events that an answer counts.
@@ -139,7 +139,7 @@ few-pick : (b : Bool) (p q : ProducedWith) → (b ≡ true → Few p) → (b ≡
 few-pick true p q f g = f refl
 few-pick false p q f g = g refl
 
-sent-few : (ws st es bs : List ℕ) (k at id row : ℕ) (s : OutgoingStream) (m : Item) (n : ℕ) → 4610 ≤ length es → k ≤ 2303 → Few (sent ws st es bs k at id row s m n)
+sent-few : (ws st es bs : List ℕ) (k at id row : ℕ) (s : OutgoingStream) (m : Item) (n : ℕ) → 6915 ≤ length es → k ≤ 2303 → Few (sent ws st es bs k at id row s m n)
 unfolding sent
 sent-few ws st es bs k at id row s m n h g =
     few-pick (ltb 0 (sendCode ws (length st) s m n (length bs))) (refusedWith (sendCode ws (length st) s m n (length bs)) ws es bs)
@@ -148,7 +148,7 @@ sent-few ws st es bs k at id row s m n h g =
     (λ e. few-refused (sendCode ws (length st) s m n (length bs)) ws es bs)
     (λ e. omega (arith, g, sent-count ws es k id s n h g))
 
-hand-few : (ws st es bs : List ℕ) (size k at id row : ℕ) → 4610 ≤ length es → Few (handedOut ws st es bs size k at id row)
+hand-few : (ws st es bs : List ℕ) (size k at id row : ℕ) → 6915 ≤ length es → Few (handedOut ws st es bs size k at id row)
 unfolding handedOut
 hand-few ws st es bs size k at id row h =
     few-pick (ltb 2303 k) (refusedWith 16 ws es bs) _ (λ e. few-refused 16 ws es bs)
@@ -157,7 +157,7 @@ hand-few ws st es bs size k at id row h =
     (λ e. few-pick (ltb 1023 (streamAt ws row .first)) (refusedWith 16 ws es bs) _ (λ e. few-refused 16 ws es bs)
     (λ e. sent-few ws st es bs k at id row (streamAt ws row) (itemAt ws (streamAt ws row .first)) (leastOf (activeAt ws at .«bytes_remaining») size) h (ltb-false 2303 k f)))))
 
-look-few : (expired : ℕ → ℕ → ProducedWith) (ws st es bs : List ℕ) (size k : ℕ) → ((id row : ℕ) → Few (expired id row)) → 4610 ≤ length es
+look-few : (expired : ℕ → ℕ → ProducedWith) (ws st es bs : List ℕ) (size k : ℕ) → ((id row : ℕ) → Few (expired id row)) → 6915 ≤ length es
     → (l : Look) → Few (afterLook expired ws st es bs size k l)
 look-few expired ws st es bs size k f h look.Nothing =
     few-pick (ltb 2305 k) (refusedWith 16 ws es bs) (producedWith (produced.Nothing k) ws es bs) (λ e. few-refused 16 ws es bs) (λ e. ltb-false 2305 k e)
@@ -165,12 +165,12 @@ look-few expired ws st es bs size k f h look.Broken = few-refused 16 ws es bs
 look-few expired ws st es bs size k f h (look.Expired id row) = f id row
 look-few expired ws st es bs size k f h (look.Chosen at id row) = hand-few ws st es bs size k at id row h
 
-drop-few : (again : List ℕ → List ℕ → ℕ → ProducedWith) (ws es bs : List ℕ) → 4610 ≤ length es → ((l v : List ℕ) (j : ℕ) → 4610 ≤ length v → Few (again l v j))
+drop-few : (again : List ℕ → List ℕ → ℕ → ProducedWith) (ws es bs : List ℕ) → 6915 ≤ length es → ((l v : List ℕ) (j : ℕ) → 6915 ≤ length v → Few (again l v j))
     → (d : Call) → Few (afterDrop again ws es bs d)
 drop-few again ws es bs h f (call.Accepted j) = f ws es j h
 drop-few again ws es bs h f (call.Refused code) = few-refused code ws es bs
 
-pub pass-few : (n : ℕ) (ws st es bs : List ℕ) (time size k : ℕ) → 4610 ≤ length es → Few (passOver n ws st es bs time size k)
+pub pass-few : (n : ℕ) (ws st es bs : List ℕ) (time size k : ℕ) → 6915 ≤ length es → Few (passOver n ws st es bs time size k)
 unfolding passOver
 pass-few zero ws st es bs time size k h = look-few (λ (id row : ℕ). refusedWith 16 ws es bs) ws st es bs size k (λ id row. few-refused 16 ws es bs) h (lookAhead ws time)
 pass-few (suc n) ws st es bs time size k h =
@@ -179,7 +179,7 @@ pass-few (suc n) ws st es bs time size k h =
     (omega (arith, h, expired-length ws es k id row)) (λ l v j g. pass-few n l st v bs time size j g) (expiredDropped ws es k id row .answer))
     h (lookAhead ws time)
 
-past-few : (ws st es bs : List ℕ) (time size : ℕ) → 4610 ≤ length es → Few (producedPast ws st es bs time size)
+past-few : (ws st es bs : List ℕ) (time size : ℕ) → 6915 ≤ length es → Few (producedPast ws st es bs time size)
 unfolding producedPast pastOf
 past-few ws st es bs time size h =
     few-pick (ltb 1024 (totalsAt ws .waiting)) (refusedWith 16 ws es bs) (settled ws es bs (passOver (totalsAt ws .waiting) ws st es bs time size 0)) (λ e. few-refused 16 ws es bs)
@@ -191,7 +191,7 @@ past-few ws st es bs time size h =
     by p f (produced.Refused code) = few-refused code ws es bs
 
 -- The call counts no more events than the list has places, where it has them.
-pub produce-few : (ws st es bs : List ℕ) (time size : ℕ) → 4610 ≤ length es → Few (produceNext ws st es bs time size)
+pub produce-few : (ws st es bs : List ℕ) (time size : ℕ) → 6915 ≤ length es → Few (produceNext ws st es bs time size)
 unfolding produceNext
 produce-few ws st es bs time size h =
     few-pick (ltb 0 (produceCode ws (length st) (length es) (length bs) time size)) (refusedWith (produceCode ws (length st) (length es) (length bs) time size) ws es bs)
@@ -202,7 +202,7 @@ produce-few ws st es bs time size h =
 
 -- The words behind the 2,305 places.
 abbrev pub behind : List ℕ → List ℕ
-behind es = drop 4610 es
+behind es = drop 6915 es
 
 drop-set : (n : ℕ) (es : List ℕ) (i v : ℕ) → i < n → drop n (set es i v) ≡ drop n es
 drop-set zero es i v h = absurd (omega arith)
@@ -210,31 +210,31 @@ drop-set (suc n) [] i v h = refl
 drop-set (suc n) (x ∷ xs) zero v h = refl
 drop-set (suc n) (x ∷ xs) (suc i) v h = drop-set n xs i v (omega arith)
 
-put-behind : (es : List ℕ) (k kind number : ℕ) → k ≤ 2304 → behind (putEvent es k kind number) ≡ behind es
+put-behind : (es : List ℕ) (k kind number amount : ℕ) → k ≤ 2304 → behind (putEvent es k kind number amount) ≡ behind es
 unfolding putEvent
-put-behind es k kind number h = drop-set 4610 (set es (k * 2) kind) (k * 2 + 1) number (omega arith) ∙ drop-set 4610 es (k * 2) kind (omega arith)
+put-behind es k kind number amount h = drop-set 6915 (set (set es (k * 3) kind) (k * 3 + 1) number) (k * 3 + 2) amount (omega arith) ∙ drop-set 6915 (set es (k * 3) kind) (k * 3 + 1) number (omega arith) ∙ drop-set 6915 es (k * 3) kind (omega arith)
 
 pick-behind : (b : Bool) (x y : Notes) (l : List ℕ) → (b ≡ true → behind (x .events) ≡ l) → (b ≡ false → behind (y .events) ≡ l) → behind (pick b x y .events) ≡ l
 pick-behind true x y l e g = e refl
 pick-behind false x y l e g = g refl
 
-noted-behind : (es : List ℕ) (k kind number : ℕ) → behind (noted es k kind number .events) ≡ behind es
+noted-behind : (es : List ℕ) (k kind number amount : ℕ) → behind (noted es k kind number amount .events) ≡ behind es
 unfolding noted
-noted-behind es k kind number =
+noted-behind es k kind number amount =
     pick-behind (ltb 2304 k) (notes es 2306) _ (behind es) (λ e. refl)
-    (λ f. pick-behind (ltb (length es) 4610) (notes es 2306) (notes (putEvent es k kind number) (k + 1)) (behind es) (λ e. refl) (λ e. put-behind es k kind number (ltb-false 2304 k f)))
+    (λ f. pick-behind (ltb (length es) 6915) (notes es 2306) (notes (putEvent es k kind number amount) (k + 1)) (behind es) (λ e. refl) (λ e. put-behind es k kind number amount (ltb-false 2304 k f)))
 
 low-behind : (es : List ℕ) (k kind number threshold old new : ℕ) → behind (lowNoted es k kind number threshold old new .events) ≡ behind es
 unfolding lowNoted
 low-behind es k kind number threshold old new =
     pick-behind (leb old threshold) (notes es k) _ (behind es) (λ e. refl)
-    (λ f. pick-behind (ltb threshold new) (notes es k) (noted es k kind number) (behind es) (λ e. refl) (λ e. noted-behind es k kind number))
+    (λ f. pick-behind (ltb threshold new) (notes es k) (noted es k kind number new) (behind es) (λ e. refl) (λ e. noted-behind es k kind number new))
 
 lifecycle-behind : (es : List ℕ) (k id : ℕ) → behind (lifecycleNoted es k id .events) ≡ behind es
 unfolding lifecycleNoted
 lifecycle-behind es k id =
-    pick-behind (eqb id 0) (notes es k) (noted (noted es k 3 id .events) (noted es k 3 id .count) 4 id) (behind es) (λ e. refl)
-    (λ e. noted-behind (noted es k 3 id .events) (noted es k 3 id .count) 4 id ∙ noted-behind es k 3 id)
+    pick-behind (eqb id 0) (notes es k) (noted (noted es k 3 id 0 .events) (noted es k 3 id 0 .count) 4 id 0) (behind es) (λ e. refl)
+    (λ e. noted-behind (noted es k 3 id 0 .events) (noted es k 3 id 0 .count) 4 id 0 ∙ noted-behind es k 3 id 0)
 
 sent-behind : (ws es : List ℕ) (k id : ℕ) (s : OutgoingStream) (n : ℕ) → behind (sentNotes ws es k id s n .events) ≡ behind es
 unfolding sentNotes streamNotes totalNotes

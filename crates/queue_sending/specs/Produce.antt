@@ -29,7 +29,7 @@ use Rattle.queue_sending.specs.declared.data.Produced.the-variants as pr
 unfoldable pub produceCode : List ℕ → ℕ → ℕ → ℕ → ℕ → ℕ → ℕ
 produceCode ws len places room time size =
     pick (eqb (optionsAt ws .«store_length») len)
-    (pick (ltb places 4610) 3
+    (pick (ltb places 6915) 3
     (pick (ltb 4611686018427387903 time) 4
     (pick (eqb size 0) 9
     (pick (ltb 262144 size) 9

@@ -42,7 +42,7 @@ fn produce_code(
     if o.store_length != len {
         return 2;
     }
-    if places < 4610 {
+    if places < 6915 {
         return 3;
     }
     if time > MAX_TIME {
@@ -210,7 +210,7 @@ fn produce_past(
     size: u64,
     waiting: usize,
 ) -> Produced
-    requires { ⌜ 4610 ≤ length (now events) ⌝ }
+    requires { ⌜ 6915 ≤ length (now events) ⌝ }
     ensures { λ r. ⌜ producedWith r (now (queue .exit)) (now (events .exit)) (now (buffer .exit)) ≡ pastOf (now (queue .entry)) (now (store .entry)) (now (events .entry)) (now (buffer .entry)) time size waiting ⌝ }
 {
     let words = *queue;
@@ -237,7 +237,7 @@ fn produce_waiting(
     time: u64,
     size: u64,
 ) -> Produced
-    requires { ⌜ 4610 ≤ length (now events) ⌝ }
+    requires { ⌜ 6915 ≤ length (now events) ⌝ }
     ensures { λ r. ⌜ producedWith r (now (queue .exit)) (now (events .exit)) (now (buffer .exit)) ≡ producedPast (now (queue .entry)) (now (store .entry)) (now (events .entry)) (now (buffer .entry)) time size ⌝ }
 {
     let t = load_totals(&*queue);

@@ -140,17 +140,17 @@ raised-not amount old new h = rw (le-ltb _ _ h)
 module _
     (ws es : List ℕ) (id t row : ℕ) (s : OutgoingStream) (ex : s ≡ streamAt ws row) (r : Bool)
     (er : r ≡ raised (s .«buffered_amount») (s .«low_threshold») t) (l : List ℕ) (el : l ≡ putStream ws row (withThreshold s t)) where
-  pub threshold-fires : (m : List ℕ) → r ≡ true → m ≡ putEvent es 0 1 id → calledWith (Accepted 1) l m ≡ thresholdAt ws es id t row (streamAt ws row)
+  pub threshold-fires : (m : List ℕ) → r ≡ true → m ≡ putEvent es 0 1 id (s .«buffered_amount») → calledWith (Accepted 1) l m ≡ thresholdAt ws es id t row (streamAt ws row)
   threshold-fires m h em = rw (← ex, ← er, h, el, em)
 
   pub threshold-silent : r ≡ false → calledWith (Accepted 0) l es ≡ thresholdAt ws es id t row (streamAt ws row)
   threshold-silent h = rw (← ex, ← er, h, el)
 
-pub threshold-few : (ws es : List ℕ) (id t : ℕ) → length es < 4610 → calledWith (Refused 3) ws es ≡ setThreshold ws es id t
+pub threshold-few : (ws es : List ℕ) (id t : ℕ) → length es < 6915 → calledWith (Refused 3) ws es ≡ setThreshold ws es id t
 unfolding setThreshold
 threshold-few ws es id t h = rw (lt-ltb _ _ h)
 
-module _ (ws es : List ℕ) (id t : ℕ) (h : 4610 ≤ length es) (r : Place) (er : r ≡ lookUp ws id) where
+module _ (ws es : List ℕ) (id t : ℕ) (h : 6915 ≤ length es) (r : Place) (er : r ≡ lookUp ws id) where
   pub threshold-row : (row : ℕ) (a : Call) (l m : List ℕ) → r ≡ place.Row row → calledWith a l m ≡ thresholdAt ws es id t row (streamAt ws row)
       → calledWith a l m ≡ setThreshold ws es id t
   unfolding setThreshold

@@ -75,7 +75,7 @@ raised amount old new = ltb old amount && leb amount new
 abbrev pub thresholdAt : List ℕ → List ℕ → ℕ → ℕ → ℕ → OutgoingStream → CalledWith
 thresholdAt ws es id t row s =
     pick (raised (s .«buffered_amount») (s .«low_threshold») t)
-    (calledWith (Accepted 1) (putStream ws row (withThreshold s t)) (putEvent es 0 1 id))
+    (calledWith (Accepted 1) (putStream ws row (withThreshold s t)) (putEvent es 0 1 id (s .«buffered_amount»)))
     (calledWith (Accepted 0) (putStream ws row (withThreshold s t)) es)
 
 -- A new stream's amount is 0, so no threshold is below it.
@@ -86,4 +86,4 @@ thresholdIn ws es id t (place.Refused n) = calledWith (Refused n) ws es
 
 -- 3: "the event list has fewer than 2,305 places".
 unfoldable pub setThreshold : List ℕ → List ℕ → ℕ → ℕ → CalledWith
-setThreshold ws es id t = pick (ltb (length es) 4610) (calledWith (Refused 3) ws es) (thresholdIn ws es id t (lookUp ws id))
+setThreshold ws es id t = pick (ltb (length es) 6915) (calledWith (Refused 3) ws es) (thresholdIn ws es id t (lookUp ws id))

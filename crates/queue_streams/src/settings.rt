@@ -54,7 +54,7 @@ fn set_threshold_in(
     threshold: u64,
     row: usize,
 ) -> Call
-    requires { ⌜ (row < 256) × (4609 < length (now events)) ⌝ }
+    requires { ⌜ (row < 256) × (6914 < length (now events)) ⌝ }
     ensures { λ r. ⌜ calledWith r (now (queue .exit)) (now (events .exit)) ≡ thresholdAt (now (queue .entry)) (now (events .entry)) id threshold row (streamAt (now (queue .entry)) row) ⌝ }
 {
     let mut s = load_stream(&*queue, row);
@@ -62,7 +62,7 @@ fn set_threshold_in(
     s.low_threshold = threshold;
     store_stream(queue, row, s);
     if fires {
-        put_event(events, 0, 1, id as u64);
+        put_event(events, 0, 1, id as u64, s.buffered_amount);
         return Call::Accepted(1);
     }
     Call::Accepted(0)
