@@ -40,8 +40,8 @@ use Rattle.queue_runs.proofs.Account.{sent-handed, value-is}
 allowed-link : (c : Call) (s : State) → Allowed s c → model.Allowed (queueOf s) (callOf (length (s .store)) c)
 allowed-link c s (adds time m payload) = model.adds (length (s .store)) time (messageOf m payload)
 allowed-link c s (sends es bs time e) =
-    subst (λ (n : ℕ). model.Allowed (queueOf s) (run.produce (length (s .store)) (length es / 2) (length bs) time n)) (ap (λ (o : plain.Options). o .payload-limit) (model-options (s .words) (s .store)))
-    (model.sends (length (s .store)) (length es / 2) (length bs) time e)
+    subst (λ (n : ℕ). model.Allowed (queueOf s) (run.produce (length (s .store)) (length es / 3) (length bs) time n)) (ap (λ (o : plain.Options). o .payload-limit) (model-options (s .words) (s .store)))
+    (model.sends (length (s .store)) (length es / 3) (length bs) time e)
 
 turn-link : (c : Call) (s : State) → Good s → Turn c s → model.Turn (callOf (length (s .store)) c) (queueOf s)
 turn-link c s g t = record { typed = typed-call (length (s .store)) c (store-small s g) (t .typed); allowed = allowed-link c s (t .allowed); below = t .below }
