@@ -5,7 +5,7 @@ use crate::lent::lent_event_call;
 use crate::lent::lent_produce;
 use crate::lent::plain_call;
 use crate::state::BYTES;
-use crate::state::EVENT_WORDS;
+use crate::state::EVENT_BUFFER;
 use crate::state::EVENTS;
 use crate::state::FRAGMENT;
 use crate::state::LETTER;
@@ -69,7 +69,7 @@ fn produced_of(p: Produced, state: &mut [u64; STATE]) -> Call {
 fn produce_call(
     queue: &mut [u64; QUEUE_WORDS],
     store: &[u8; STORE],
-    events: &mut [u64; EVENT_WORDS],
+    events: &mut [u64; EVENT_BUFFER],
     fragment: &mut [u8; FRAGMENT],
     state: &mut [u64; STATE],
 ) -> Call {
@@ -125,7 +125,7 @@ fn ready_call(queue: &mut [u64; QUEUE_WORDS]) -> Call {
 pub fn call(
     queue: &mut [u64; QUEUE_WORDS],
     store: &mut [u8; STORE],
-    events: &mut [u64; EVENT_WORDS],
+    events: &mut [u64; EVENT_BUFFER],
     fragment: &mut [u8; FRAGMENT],
     state: &mut [u64; STATE],
 ) -> Call {

@@ -22,7 +22,7 @@ use settle::mark_events;
 use settle::mark_fragment;
 use settle::settle;
 use state::CREATED;
-use state::EVENT_WORDS;
+use state::EVENT_BUFFER;
 use state::FILLING;
 use state::FRAGMENT;
 use state::LETTER;
@@ -46,7 +46,7 @@ fn run_call(
     queue: &mut [u64; QUEUE_WORDS],
     kept: &mut [u64; QUEUE_WORDS],
     store: &mut [u8; STORE],
-    events: &mut [u64; EVENT_WORDS],
+    events: &mut [u64; EVENT_BUFFER],
     fragment: &mut [u8; FRAGMENT],
     state: &mut [u64; STATE],
 ) -> u64 {
@@ -97,7 +97,7 @@ fn run_line(
     queue: &mut [u64; QUEUE_WORDS],
     kept: &mut [u64; QUEUE_WORDS],
     store: &mut [u8; STORE],
-    events: &mut [u64; EVENT_WORDS],
+    events: &mut [u64; EVENT_BUFFER],
     fragment: &mut [u8; FRAGMENT],
     state: &mut [u64; STATE],
 ) -> u64 {
@@ -151,7 +151,7 @@ fn obey(
     queue: &mut [u64; QUEUE_WORDS],
     kept: &mut [u64; QUEUE_WORDS],
     store: &mut [u8; STORE],
-    events: &mut [u64; EVENT_WORDS],
+    events: &mut [u64; EVENT_BUFFER],
     fragment: &mut [u8; FRAGMENT],
     state: &mut [u64; STATE],
     line: &[u8],
@@ -172,7 +172,7 @@ fn run(
     queue: &mut [u64; QUEUE_WORDS],
     kept: &mut [u64; QUEUE_WORDS],
     store: &mut [u8; STORE],
-    events: &mut [u64; EVENT_WORDS],
+    events: &mut [u64; EVENT_BUFFER],
     fragment: &mut [u8; FRAGMENT],
     state: &mut [u64; STATE],
     script: &[u8],
@@ -203,7 +203,7 @@ fn main() {
     let mut queue = [0u64; QUEUE_WORDS];
     let mut kept = [0u64; QUEUE_WORDS];
     let mut store = [0u8; STORE];
-    let mut events = [0u64; EVENT_WORDS];
+    let mut events = [0u64; EVENT_BUFFER];
     let mut fragment = [0u8; FRAGMENT];
     let mut state = [0u64; STATE];
     let mut script = [0u8; SCRIPT];

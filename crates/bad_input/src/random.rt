@@ -23,6 +23,7 @@ use crate::state::THRESHOLD;
 use crate::state::TIME;
 use crate::state::TURN;
 use crate::state::wide;
+use send_queue::EVENT_WORDS;
 use send_queue::QUEUE_WORDS;
 
 const OVER_TIME: u64 = 4611686018427387904;
@@ -64,7 +65,7 @@ fn less(n: u64) -> u64 {
 fn draw_lengths(state: &mut [u64; STATE]) {
     let created = state[CREATED];
     state[STORE_BYTES] = seldom(state, created, less(created));
-    state[EVENT_LIST] = seldom(state, 4610, 4609);
+    state[EVENT_LIST] = seldom(state, EVENT_WORDS as u64, EVENT_WORDS as u64 - 1);
     let n = draw(state, 2000);
     state[SIZE] = seldom(state, n, 262145);
     state[FRAGMENT_BYTES] = seldom(state, 262144, less(n));

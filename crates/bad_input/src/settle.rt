@@ -1,6 +1,6 @@
 // What must hold after a call: "a refused call changes nothing", and "places past what a call writes stay unchanged".
 use crate::state::BYTES;
-use crate::state::EVENT_WORDS;
+use crate::state::EVENT_BUFFER;
 use crate::state::EVENTS;
 use crate::state::FRAGMENT;
 use crate::state::HALF;
@@ -9,6 +9,8 @@ use crate::state::STATE;
 use crate::state::STORE;
 use crate::state::both;
 use crate::state::low8;
+use send_queue::EVENT_PLACES;
+use send_queue::PLACE_WORDS;
 use send_queue::QUEUE_WORDS;
 
 // The marks by which a write to a lent place shows.
@@ -16,18 +18,18 @@ const EVENT_MARK: u64 = 7000000000000000007;
 
 const BYTE_MARK: u8 = 170;
 
-pub fn mark_events(events: &mut [u64; EVENT_WORDS]) {
-    *events = [EVENT_MARK; EVENT_WORDS];
+pub fn mark_events(events: &mut [u64; EVENT_BUFFER]) {
+    *events = [EVENT_MARK; EVENT_BUFFER];
 }
 
 pub fn mark_fragment(fragment: &mut [u8; FRAGMENT]) {
     *fragment = [BYTE_MARK; FRAGMENT];
 }
 
-fn events_marked(events: &[u64; EVENT_WORDS], from: usize) -> bool {
+fn events_marked(events: &[u64; EVENT_BUFFER], from: usize) -> bool {
     let mut strays: u8 = 0;
     let mut i = from;
-    while i < EVENT_WORDS {
+    while i < EVENT_BUFFER {
         if events[i] != EVENT_MARK {
             strays = 1;
         }
@@ -82,11 +84,11 @@ fn keep_store(store: &mut [u8; STORE]) {
 }
 
 // The event list after n events. The marks are put back.
-fn settle_events(events: &mut [u64; EVENT_WORDS], n: u64) -> bool {
-    if n > 2305 {
+fn settle_events(events: &mut [u64; EVENT_BUFFER], n: u64) -> bool {
+    if n > EVENT_PLACES as u64 {
         return false;
     }
-    let marked = events_marked(&*events, (n * 2) as usize);
+    let marked = events_marked(&*events, n as usize * PLACE_WORDS);
     let whole = both(marked, n == 0);
     if whole {
         return true;
@@ -140,7 +142,7 @@ pub fn settle(
     queue: &[u64; QUEUE_WORDS],
     kept: &mut [u64; QUEUE_WORDS],
     store: &mut [u8; STORE],
-    events: &mut [u64; EVENT_WORDS],
+    events: &mut [u64; EVENT_BUFFER],
     fragment: &mut [u8; FRAGMENT],
     state: &[u64; STATE],
     refusal: u64,

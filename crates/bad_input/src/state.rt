@@ -12,6 +12,8 @@
 //     50          how often something was broken
 //     51          1 while words are filled
 //     52          which call of a fill is next, from 0
+use send_queue::EVENT_WORDS;
+
 pub const STATE: usize = 64;
 
 // The keys. Those that a line leaves out have their usual values.
@@ -84,7 +86,7 @@ pub const FILLING: usize = 51;
 pub const TURN: usize = 52;
 
 // The lengths of the arrays. Each has more than a call is lent, so that a write past that shows.
-pub const EVENT_WORDS: usize = 4612;
+pub const EVENT_BUFFER: usize = EVENT_WORDS + 2;
 
 pub const FRAGMENT: usize = 262150;
 
@@ -135,7 +137,7 @@ pub fn plus(a: u64, b: u64) -> u64 {
 // The usual values: an accepted call on a queue that was created with b bytes.
 pub fn set_usual(state: &mut [u64; STATE]) {
     state[STORE_BYTES] = state[CREATED];
-    state[EVENT_LIST] = 4610;
+    state[EVENT_LIST] = EVENT_WORDS as u64;
     state[FRAGMENT_BYTES] = 262144;
     state[INTERLEAVE] = 0;
     state[THRESHOLD] = 0;

@@ -2,7 +2,7 @@
 use mathlib.Core.Path.{_≡_, refl, sym, ap, ap₂, _∙_, subst}
 use mathlib.Core.Bool.{Bool, true, false, _&&_}
 use mathlib.Core.List.{List, [], _++_}
-use Prim.Native.Nat.{ℕ, _/_, _≤_}
+use Prim.Native.Nat.{ℕ, _≤_}
 use native.Mathlib.Omega.{arith}
 use borrow.Author.Tests.{le-ltb}
 use lib.ListN.{length, take, drop, length-drop, take-append-drop}
@@ -14,6 +14,7 @@ use Rattle.queue_model.specs.Run as run
 use Rattle.queue_messages.specs.declared.message.Message.{Message}
 use Rattle.queue_sending.specs.declared.data.Produced.{Produced}
 use Rattle.queue_sending.specs.Data.{producedWith}
+use Rattle.queue_streams.specs.Events.{placesIn}
 use Rattle.queue_streams.specs.declared.answers.Call.{Call}
 use Rattle.queue_state.specs.Model.{model}
 use Rattle.queue_state.specs.Good.{Good}
@@ -88,9 +89,9 @@ carries ws st es a b one two three r₁ ws₁ c₁ m r₂ ws₂ st₂ em c₂ e�
     let n₁ = created ws st r₁ ws₁ (omega (arith, f .store-holds, f .first-long)) (f .store-most) c₁ in
     let n₂ = added _ _ (p .q₁) _ _ _ _ _ _ n₁ (c₂ .model) (ap (λ (x : Message). run.step (run.add (length st) 0 (messageOf x a)) (new-queue (options (length st)))) em ∙ p .add-one) in
     let n₃ = added _ _ (p .q₂) _ _ _ _ _ _ n₂ (c₃ .model) (ap₂ (λ (l : ℕ) (x : Message). run.step (run.add l 0 (messageOf x b)) (p .q₁)) e₂ en ∙ p .add-two) in
-    let g₄ = sent _ _ (p .q₃) _ _ _ _ _ (take 1200 a) _ _ _ _ n₃ (c₄ .model) (subst (λ (l : ℕ). Gives (run.step (run.produce l (length es / 3) (length one) 0 1200) (p .q₂)) (take 1200 a) (p .q₃)) (sym s₃) (p .take-one (length es / 3) (length one) (omega (arith, f .event-places)) (f .one-room))) in
-    let g₅ = sent _ _ (p .q₄) _ _ _ _ _ (drop 1200 a) _ _ _ _ (g₄ .is-now) (c₅ .model) (subst (λ (l : ℕ). Gives (run.step (run.produce l (length es₄ / 3) (length two) 0 1200) (p .q₃)) (drop 1200 a) (p .q₄)) (sym s₃) (p .take-two (length es₄ / 3) (length two) (omega (arith, f .event-places)) (f .two-room))) in
-    let g₆ = sent _ _ (p .q₅) _ _ _ _ _ b _ _ _ _ (g₅ .is-now) (c₆ .model) (subst (λ (l : ℕ). Gives (run.step (run.produce l (length es₅ / 3) (length three) 0 1200) (p .q₄)) b (p .q₅)) (sym s₃) (p .take-three (length es₅ / 3) (length three) (omega (arith, f .event-places)) (f .three-room))) in
+    let g₄ = sent _ _ (p .q₃) _ _ _ _ _ (take 1200 a) _ _ _ _ n₃ (c₄ .model) (subst (λ (l : ℕ). Gives (run.step (run.produce l (placesIn es) (length one) 0 1200) (p .q₂)) (take 1200 a) (p .q₃)) (sym s₃) (p .take-one (placesIn es) (length one) (omega (arith, f .event-places)) (f .one-room))) in
+    let g₅ = sent _ _ (p .q₄) _ _ _ _ _ (drop 1200 a) _ _ _ _ (g₄ .is-now) (c₅ .model) (subst (λ (l : ℕ). Gives (run.step (run.produce l (placesIn es₄) (length two) 0 1200) (p .q₃)) (drop 1200 a) (p .q₄)) (sym s₃) (p .take-two (placesIn es₄) (length two) (omega (arith, f .event-places)) (f .two-room))) in
+    let g₆ = sent _ _ (p .q₅) _ _ _ _ _ b _ _ _ _ (g₅ .is-now) (c₆ .model) (subst (λ (l : ℕ). Gives (run.step (run.produce l (placesIn es₅) (length three) 0 1200) (p .q₄)) b (p .q₅)) (sym s₃) (p .take-three (placesIn es₅) (length three) (omega (arith, f .event-places)) (f .three-room))) in
     record {
       accepted = rw (i₁, i₂, i₃, i₄, i₅, i₆, n₁ .told-true, n₂ .told-true, n₃ .told-true, g₄ .is-now .told-true, g₅ .is-now .told-true, g₆ .is-now .told-true);
       first-whole = ap₂ (λ (x y : List ℕ). x ++ y) (rw (length-take-le 1200 a (omega (arith, f .first-long))) at (g₄ .bytes)) (rw (length-drop 1200 a) at (g₅ .bytes)) ∙ take-append-drop 1200 a;

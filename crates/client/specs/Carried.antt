@@ -4,6 +4,7 @@ use mathlib.Core.Path.{_≡_}
 use mathlib.Core.Bool.{Bool, true, false}
 use mathlib.Core.List.{List, _++_}
 use lib.ListN.{length, take}
+use Rattle.queue_streams.specs.Events.{eventWords}
 use Rattle.queue_messages.specs.declared.message.Lifetime.the-variants as lifetime
 use Rattle.queue_messages.specs.declared.message.MaxRetransmissions.the-variants as retransmissions
 use Rattle.queue_messages.specs.declared.message.Message.{Message}
@@ -34,7 +35,7 @@ pub record Fits (store events : ℕ) (first second one two three : List ℕ) : T
   pub first-most : length first ≤ 2400
   pub second-some : 1 ≤ length second
   pub second-most : length second ≤ 1200
-  pub event-places : 6915 ≤ events
+  pub event-places : eventWords ≤ events
   pub one-room : 1200 ≤ length one
   pub two-room : 1200 ≤ length two
   pub three-room : 1200 ≤ length three

@@ -1,5 +1,5 @@
 -- Closing a stream is the model's step. Assumes nothing.
-use Prim.Native.Nat.{ℕ, _+_, _-_, _/_, _≤_, _<_}
+use Prim.Native.Nat.{ℕ, _+_, _-_, _≤_, _<_}
 use mathlib.Core.Path.{_≡_, refl, sym, ap, subst, _∙_}
 use mathlib.Core.Bool.{Bool, true, false}
 use mathlib.Core.List.{List, [], _∷_}
@@ -35,7 +35,7 @@ use Rattle.payload_store.proofs.Cases.{by-lt}
 use Rattle.stream_scheduler.specs.Link.{modelScheduler}
 use Rattle.stream_scheduler.specs.Words.{removeStream}
 use Rattle.stream_scheduler.proofs.Link.{remove-link}
-use Rattle.queue_streams.specs.Events.{written}
+use Rattle.queue_streams.specs.Events.{eventWords, placesIn, written}
 use Rattle.queue_streams.specs.Known.{newStream, lookUp, inserted}
 use Rattle.queue_streams.specs.Settings.{CalledWith, calledWith}
 use Rattle.queue_streams.specs.declared.answers.Call.the-variants.{Accepted, Refused}
@@ -67,13 +67,13 @@ use Rattle.linked_dropping.proofs.Shut.{Fresh, bytes-fresh, bytes-sent,
 
 -- ---- the words' definition, case by case
 
-words-few : (ws es : List ℕ) (id : ℕ) → length es < 6915 → close ws es id ≡ calledWith (Refused 3) ws es
+words-few : (ws es : List ℕ) (id : ℕ) → length es < eventWords → close ws es id ≡ calledWith (Refused 3) ws es
 unfolding close
-words-few ws es id h = rw (lt-ltb (length es) 6915 h)
+words-few ws es id h = rw (lt-ltb (length es) eventWords h)
 
-words-at : (ws es : List ℕ) (id : ℕ) (p : Place) → 6915 ≤ length es → lookUp ws id ≡ p → close ws es id ≡ closeAt ws es id p
+words-at : (ws es : List ℕ) (id : ℕ) (p : Place) → eventWords ≤ length es → lookUp ws id ≡ p → close ws es id ≡ closeAt ws es id p
 unfolding close
-words-at ws es id p h e = rw (le-ltb (length es) 6915 h, e)
+words-at ws es id p h e = rw (le-ltb (length es) eventWords h, e)
 
 in-closed : (ws es : List ℕ) (id r : ℕ) → 0 < streamAt ws r .«pause_state» → closeIn ws es id r ≡ calledWith (Accepted 0) ws es
 unfolding closeIn
@@ -142,7 +142,7 @@ ready-rest ws st g i hk p ps l c f = record {
 
 module _ (ws st es : List ℕ) (id : ℕ) where
   abbrev c : run.Call
-  c = run.close (length es / 3) id
+  c = run.close (placesIn es) id
 
   abbrev Told : CalledWith → Type 0
   Told r = Reports c ws st es (r .answer) (r .next) st (r .events)
@@ -185,12 +185,12 @@ leaves-as ws st us s r r′ n n′ ss ss′ sc sc′ a b e f l = rw (← a, ← 
 
 -- ---- a known stream
 
-module _ (ws st es : List ℕ) (g : Good ws st) (i : ℕ) (hk : i < totalsAt ws .known) (t : Typed (run.close (length es / 3) (idAt ws i))) (long : 6915 ≤ length es) where
+module _ (ws st es : List ℕ) (g : Good ws st) (i : ℕ) (hk : i < totalsAt ws .known) (t : Typed (run.close (placesIn es) (idAt ws i))) (long : eventWords ≤ length es) where
   abbrev s : OutgoingStream
   s = streamAt ws (rowAt ws i)
 
   abbrev d : run.Call
-  d = run.close (length es / 3) (idAt ws i)
+  d = run.close (placesIn es) (idAt ws i)
 
   abbrev here : List ℕ → Stream
   here ps = streamHere ws st i ps
@@ -235,11 +235,11 @@ module _ (ws st es : List ℕ) (g : Good ws st) (i : ℕ) (hk : i < totalsAt ws 
     shut-link : (s .«pause_state» ≡ 0 → ⊥) → Told ws st es (idAt ws i) (closeIn ws es (idAt ws i) (rowAt ws i))
     shut-link ne =
         rw (in-closed ws es (idAt ws i) (rowAt ws i) (omega arith))
-        (unmoved ws st es (idAt ws i) g t (close-other (length es / 3) (idAt ws i) (model ws st) (here ps) (omega arith) room at-here (pause-shut (s .«pause_state») ne)))
+        (unmoved ws st es (idAt ws i) g t (close-other (placesIn es) (idAt ws i) (model ws st) (here ps) (omega arith) room at-here (pause-shut (s .«pause_state») ne)))
 
     opens : s .«pause_state» ≡ 0 → swept-bytes (each (itemIn ws st) ps) ≤ sumOf (restAt ws) ps → run.step d (model ws st) ≡ closed (model ws st) (here ps)
     opens o h =
-        close-open (length es / 3) (idAt ws i) (model ws st) (here ps) (omega arith) room at-here (pause-open (s .«pause_state») o)
+        close-open (placesIn es) (idAt ws i) (model ws st) (here ps) (omega arith) room at-here (pause-open (s .«pause_state») o)
         (omega (arith, h, amount-is, amount-total ws st g i hk, model-total ws st)) (omega (arith, h, amount-is))
 
   -- ---- no messages
@@ -445,7 +445,7 @@ module _ (ws st es : List ℕ) (g : Good ws st) (i : ℕ) (hk : i < totalsAt ws 
 
 -- ---- a stream that is not known becomes known and paused
 
-module _ (ws st es : List ℕ) (g : Good ws st) (p id : ℕ) (t : Typed (run.close (length es / 3) id)) (long : 6915 ≤ length es) (hid : id < 65536)
+module _ (ws st es : List ℕ) (g : Good ws st) (p id : ℕ) (t : Typed (run.close (placesIn es) id)) (long : eventWords ≤ length es) (hid : id < 65536)
     (hp : p ≤ totalsAt ws .known) (lo : (j : ℕ) → j < p → idAt ws j < id) (hi : (j : ℕ) → p ≤ j → j < totalsAt ws .known → id < idAt ws j)
     (missing : find-stream id (streamsIn ws st) ≡ none) where
   abbrev fresh : OutgoingStream
@@ -465,9 +465,9 @@ module _ (ws st es : List ℕ) (g : Good ws st) (p id : ℕ) (t : Typed (run.clo
   unfolding pauseOf
   new-queue n ss sc a b c = rw (a, b, c)
 
-  new-steps : totalsAt ws .known < 256 → run.step (run.close (length es / 3) id) (model ws st) ≡ reply done [] (with-state (model ws st) (totalsAt ws .total) new-streams (modelScheduler ws))
+  new-steps : totalsAt ws .known < 256 → run.step (run.close (placesIn es) id) (model ws st) ≡ reply done [] (with-state (model ws st) (totalsAt ws .total) new-streams (modelScheduler ws))
   new-steps few =
-      close-open (length es / 3) id (model ws st) new (omega arith) (too-many-new ws st id (g .shape) missing ∙ lt-leb 256 (totalsAt ws .known) few) (stream-new ws st id missing) refl (omega arith) (omega arith)
+      close-open (placesIn es) id (model ws st) new (omega arith) (too-many-new ws st id (g .shape) missing ∙ lt-leb 256 (totalsAt ws .known) few) (stream-new ws st id missing) refl (omega arith) (omega arith)
       ∙ closed-empty (model ws st) new refl
       ∙ ap (reply done []) (new-queue ((model ws st) .total) ((model ws st) .streams) ((model ws st) .scheduler) (model-total ws st) (model-streams ws st) (model-schedules ws st))
 
@@ -481,23 +481,23 @@ module _ (ws st es : List ℕ) (g : Good ws st) (p id : ℕ) (t : Typed (run.clo
   new-link few = leaves-quiet ws st es id (inserted ws p id fresh) (totalsAt ws .total) new-streams (modelScheduler ws) g t (new-leaves few) (new-steps few)
 
   full-link : 256 ≤ totalsAt ws .known → Told ws st es id (closeAt ws es id (place.Refused 6))
-  full-link full = refuses ws st es id 6 g t (close-full (length es / 3) id (model ws st) (omega arith) (too-many-new ws st id (g .shape) missing ∙ le-leb 256 (totalsAt ws .known) full))
+  full-link full = refuses ws st es id 6 g t (close-full (placesIn es) id (model ws st) (omega arith) (too-many-new ws st id (g .shape) missing ∙ le-leb 256 (totalsAt ws .known) full))
 
 -- ---- THE LINK of closing
 
 pub close-link : (ws st es : List ℕ) (id : ℕ) → Good ws st → id < 65536 → length es < 18446744073709551616
-    → Reports (run.close (length es / 3) id) ws st es (close ws es id .answer) (close ws es id .next) st (close ws es id .events)
-close-link ws st es id g hid hes = by-lt (length es) 6915
-    (λ h. rw (words-few ws es id h) (refuses ws st es id 3 g typed (close-few (length es / 3) id (model ws st) (omega arith))))
+    → Reports (run.close (placesIn es) id) ws st es (close ws es id .answer) (close ws es id .next) st (close ws es id .events)
+close-link ws st es id g hid hes = by-lt (length es) eventWords
+    (λ h. rw (words-few ws es id h) (refuses ws st es id 3 g typed (close-few (placesIn es) id (model ws st) (omega arith))))
     (λ h. at h (lookup ws st (g .shape) id))
   where
-    typed : Typed (run.close (length es / 3) id)
+    typed : Typed (run.close (placesIn es) id)
     typed = (omega arith, hid)
 
-    at : 6915 ≤ length es → Lookup ws st id → Told ws st es id (close ws es id)
+    at : eventWords ≤ length es → Lookup ws st id → Told ws st es id (close ws es id)
     at h (known-at i hk e f z) =
         rw (words-at ws es id (place.Row (rowAt ws i)) h (look-row ws id i (rowAt ws i) f))
-        (subst (λ (n : ℕ). Typed (run.close (length es / 3) n) → Told ws st es n (closeIn ws es n (rowAt ws i))) e (λ t. known-link ws st es g i hk t h) typed)
+        (subst (λ (n : ℕ). Typed (run.close (placesIn es) n) → Told ws st es n (closeIn ws es n (rowAt ws i))) e (λ t. known-link ws st es g i hk t h) typed)
     at h (new-at p hp lo hi f z) = by-lt (totalsAt ws .known) 256
         (λ few. rw (words-at ws es id (place.New p) h (look-new ws id p f few)) (new-link ws st es g p id typed h hid hp lo hi z few))
         (λ full. rw (words-at ws es id (place.Refused 6) h (look-full ws id p f full)) (full-link ws st es g p id typed h hid hp lo hi z full))

@@ -1,5 +1,5 @@
 -- Discarding is the model's step. Assumes nothing.
-use Prim.Native.Nat.{ℕ, _+_, _-_, _/_, _≤_, _<_}
+use Prim.Native.Nat.{ℕ, _+_, _-_, _≤_, _<_}
 use mathlib.Core.Path.{_≡_, refl, sym, ap, subst, _∙_}
 use mathlib.Core.Bool.{Bool, true, false}
 use mathlib.Core.List.{List, [], _∷_, _++_}
@@ -34,7 +34,7 @@ use Rattle.queue_model.proofs.Invariant.Fine.{enough}
 use Rattle.stream_scheduler.specs.Link.{modelScheduler, FitsParameters}
 use Rattle.stream_scheduler.specs.Words.{Outcome, removeStream, setBytesRemaining}
 use Rattle.stream_scheduler.proofs.Link.{remove-link, set-link}
-use Rattle.queue_streams.specs.Events.{written}
+use Rattle.queue_streams.specs.Events.{eventWords, placesIn, written}
 use Rattle.queue_streams.specs.Settings.{CalledWith, calledWith}
 use Rattle.queue_streams.specs.Waiting.{headSize, parametersFor, rescheduled}
 use Rattle.queue_streams.specs.declared.answers.Call.the-variants.{Accepted, Refused}
@@ -59,17 +59,17 @@ use Rattle.linked_dropping.proofs.Leaves.{head-leaves}
 
 -- ---- the words' definition, case by case
 
-words-few : (ws es : List ℕ) (id m : ℕ) → length es < 6915 → discard ws es id m ≡ calledWith (Refused 3) ws es
+words-few : (ws es : List ℕ) (id m : ℕ) → length es < eventWords → discard ws es id m ≡ calledWith (Refused 3) ws es
 unfolding discard
-words-few ws es id m h = rw (lt-ltb (length es) 6915 h)
+words-few ws es id m h = rw (lt-ltb (length es) eventWords h)
 
-words-none : (ws es : List ℕ) (id m p : ℕ) → 6915 ≤ length es → findStream ws id ≡ Gap p → discard ws es id m ≡ calledWith (Accepted 0) ws es
+words-none : (ws es : List ℕ) (id m p : ℕ) → eventWords ≤ length es → findStream ws id ≡ Gap p → discard ws es id m ≡ calledWith (Accepted 0) ws es
 unfolding discard
-words-none ws es id m p h e = rw (le-ltb (length es) 6915 h, e)
+words-none ws es id m p h e = rw (le-ltb (length es) eventWords h, e)
 
-words-found : (ws es : List ℕ) (id m i r : ℕ) → 6915 ≤ length es → findStream ws id ≡ At i r → discard ws es id m ≡ discardIn ws es id m r (streamAt ws r)
+words-found : (ws es : List ℕ) (id m i r : ℕ) → eventWords ≤ length es → findStream ws id ≡ At i r → discard ws es id m ≡ discardIn ws es id m r (streamAt ws r)
 unfolding discard
-words-found ws es id m i r h e = rw (le-ltb (length es) 6915 h, e)
+words-found ws es id m i r h e = rw (le-ltb (length es) eventWords h, e)
 
 in-empty : (ws es : List ℕ) (id m r : ℕ) (s : OutgoingStream) → s .first ≡ 1024 → discardIn ws es id m r s ≡ calledWith (Accepted 0) ws es
 unfolding discardIn
@@ -103,7 +103,7 @@ behind-goes ws es id r s m e = rw e
 
 module _ (ws st es : List ℕ) (id m : ℕ) where
   abbrev c : run.Call
-  c = run.discard (length es / 3) id m
+  c = run.discard (placesIn es) id m
 
   -- what a call leaves, by its parts
   abbrev Told : CalledWith → Type 0
@@ -112,8 +112,8 @@ module _ (ws st es : List ℕ) (id m : ℕ) where
   unmoved : Good ws st → Typed c → run.step c (model ws st) ≡ reply done [] (model ws st) → Told (calledWith (Accepted 0) ws es)
   unmoved g t e = stays c ws st es (Accepted 0) (reply done [] (model ws st)) g t e refl refl refl
 
-  few : Good ws st → Typed c → length es < 6915 → Told (calledWith (Refused 3) ws es)
-  few g t h = stays c ws st es (Refused 3) (refuse (model ws st) 3) g t (discard-few (length es / 3) id m (model ws st) (omega arith)) refl refl refl
+  few : Good ws st → Typed c → length es < eventWords → Told (calledWith (Refused 3) ws es)
+  few g t h = stays c ws st es (Refused 3) (refuse (model ws st) 3) g t (discard-few (placesIn es) id m (model ws st) (omega arith)) refl refl refl
 
 -- ---- the head that is meant
 
@@ -126,9 +126,9 @@ pause-other state q s i is ne = go (eqb state 0) (eqb state 2)
     go false true = rw (ne-eqb state 1 ne)
     go false false = rw (ne-eqb state 1 ne)
 
-module _ (ws st es : List ℕ) (m : ℕ) (g : Good ws st) (i : ℕ) (hk : i < totalsAt ws .known) (x : ℕ) (xs : List ℕ) (eq : g .shape .q i ≡ x ∷ xs) (t : Typed (run.discard (length es / 3) (idAt ws i) m)) (long : 6915 ≤ length es) where
+module _ (ws st es : List ℕ) (m : ℕ) (g : Good ws st) (i : ℕ) (hk : i < totalsAt ws .known) (x : ℕ) (xs : List ℕ) (eq : g .shape .q i ≡ x ∷ xs) (t : Typed (run.discard (placesIn es) (idAt ws i) m)) (long : eventWords ≤ length es) where
   abbrev d : run.Call
-  d = run.discard (length es / 3) (idAt ws i) m
+  d = run.discard (placesIn es) (idAt ws i) m
 
   abbrev s : OutgoingStream
   s = streamAt ws (rowAt ws i)
@@ -173,7 +173,7 @@ module _ (ws st es : List ℕ) (m : ℕ) (g : Good ws st) (i : ℕ) (hk : i < to
   dropped = discard-in (pauseOf (s .«pause_state»)) (model ws st) k j is
 
   stepped : j .message-id ≡ m → run.step d (model ws st) ≡ reply done fired dropped
-  stepped me = discard-head (length es / 3) (idAt ws i) m (model ws st) k j is (omega arith) found refl me not-short
+  stepped me = discard-head (placesIn es) (idAt ws i) m (model ws st) k j is (omega arith) found refl me not-short
 
   fired-few : j .message-id ≡ m → length fired ≤ 2305
   fired-few me = subst (λ (z : Step). length (z .outcome .events) ≤ 2305) (stepped me) (events-fit d (model ws st) (g .well))
@@ -270,7 +270,7 @@ module _ (ws st es : List ℕ) (m : ℕ) (g : Good ws st) (i : ℕ) (hk : i < to
 
 -- ---- a known stream
 
-module _ (ws st es : List ℕ) (m : ℕ) (g : Good ws st) (i : ℕ) (hk : i < totalsAt ws .known) (t : Typed (run.discard (length es / 3) (idAt ws i) m)) (long : 6915 ≤ length es) where
+module _ (ws st es : List ℕ) (m : ℕ) (g : Good ws st) (i : ℕ) (hk : i < totalsAt ws .known) (t : Typed (run.discard (placesIn es) (idAt ws i) m)) (long : eventWords ≤ length es) where
   found-list : (ps : List ℕ) → g .shape .q i ≡ ps → find-stream (idAt ws i) ((model ws st) .streams) ≡ some (streamHere ws st i ps)
   found-list ps eq = ap (find-stream (idAt ws i)) (model-streams ws st) ∙ found-here ws st g i hk ∙ ap (λ (l : List ℕ). some (streamHere ws st i l)) eq
 
@@ -281,30 +281,30 @@ module _ (ws st es : List ℕ) (m : ℕ) (g : Good ws st) (i : ℕ) (hk : i < to
       go [] eq =
           let f : streamAt ws (rowAt ws i) .first ≡ 1024 = subst (Linked (nextOf ws) (streamAt ws (rowAt ws i) .first)) eq (g .shape .rows i hk .linked) in
           rw (in-empty ws es (idAt ws i) m (rowAt ws i) (streamAt ws (rowAt ws i)) f)
-          (unmoved ws st es (idAt ws i) m g t (discard-empty (length es / 3) (idAt ws i) m (model ws st) (streamHere ws st i []) (omega arith) (found-list [] eq) refl))
+          (unmoved ws st es (idAt ws i) m g t (discard-empty (placesIn es) (idAt ws i) m (model ws st) (streamHere ws st i []) (omega arith) (found-list [] eq) refl))
       go (x ∷ xs) eq =
           let f = head-first ws st (g .shape) i hk x xs eq in
           let l = head-fits ws st (g .shape) i hk x xs eq in
           by-index (itemAt ws x .«message_id» .0) m
           (λ e. rw (in-head ws es (idAt ws i) m (rowAt ws i) x (streamAt ws (rowAt ws i)) f l e) (head-link ws st es m g i hk x xs eq t long (message-is ws st x ∙ e)))
           (λ ne. rw (in-other ws es (idAt ws i) m (rowAt ws i) x (streamAt ws (rowAt ws i)) f l ne)
-          (unmoved ws st es (idAt ws i) m g t (discard-other (length es / 3) (idAt ws i) m (model ws st) (streamHere ws st i (x ∷ xs)) (itemIn ws st x) (each (itemIn ws st) xs) (omega arith) (found-list (x ∷ xs) eq) refl (λ e. ne (sym (message-is ws st x) ∙ e)))))
+          (unmoved ws st es (idAt ws i) m g t (discard-other (placesIn es) (idAt ws i) m (model ws st) (streamHere ws st i (x ∷ xs)) (itemIn ws st x) (each (itemIn ws st) xs) (omega arith) (found-list (x ∷ xs) eq) refl (λ e. ne (sym (message-is ws st x) ∙ e)))))
 
 -- ---- THE LINK of discarding
 
 pub discard-link : (ws st es : List ℕ) (id message : ℕ) → Good ws st → id < 65536 → message < 4294967296 → length es < 18446744073709551616
-    → Reports (run.discard (length es / 3) id message) ws st es (discard ws es id message .answer) (discard ws es id message .next) st (discard ws es id message .events)
-discard-link ws st es id m g hid hm hes = by-lt (length es) 6915
+    → Reports (run.discard (placesIn es) id message) ws st es (discard ws es id message .answer) (discard ws es id message .next) st (discard ws es id message .events)
+discard-link ws st es id m g hid hm hes = by-lt (length es) eventWords
     (λ h. rw (words-few ws es id m h) (few ws st es id m g typed h))
     (λ h. at h (lookup ws st (g .shape) id))
   where
-    typed : Typed (run.discard (length es / 3) id m)
+    typed : Typed (run.discard (placesIn es) id m)
     typed = (omega arith, (hid, hm))
 
-    at : 6915 ≤ length es → Lookup ws st id → Told ws st es id m (discard ws es id m)
+    at : eventWords ≤ length es → Lookup ws st id → Told ws st es id m (discard ws es id m)
     at h (known-at i hk e f z) =
         rw (words-found ws es id m i (rowAt ws i) h f)
-        (subst (λ (n : ℕ). Typed (run.discard (length es / 3) n m) → Told ws st es n m (discardIn ws es n m (rowAt ws i) (streamAt ws (rowAt ws i)))) e (λ t. stream-link ws st es m g i hk t h) typed)
+        (subst (λ (n : ℕ). Typed (run.discard (placesIn es) n m) → Told ws st es n m (discardIn ws es n m (rowAt ws i) (streamAt ws (rowAt ws i)))) e (λ t. stream-link ws st es m g i hk t h) typed)
     at h (new-at p hp lo hi f z) =
         rw (words-none ws es id m p h f)
-        (unmoved ws st es id m g typed (discard-none (length es / 3) id m (model ws st) (omega arith) (ap (find-stream id) (model-streams ws st) ∙ z)))
+        (unmoved ws st es id m g typed (discard-none (placesIn es) id m (model ws st) (omega arith) (ap (find-stream id) (model-streams ws st) ∙ z)))

@@ -12,7 +12,7 @@ use Rattle.queue_model.specs.Types.{Event, Stream, Options, remaining}
 use Rattle.queue_model.specs.Types as plain
 use Rattle.queue_model.specs.Amounts.{low-event, total-falls, stream-falls, lifecycle-events}
 use Rattle.queue_model.specs.Close.{untouched, dropped-bytes, sweep-item, sweep-events}
-use Rattle.queue_streams.specs.Events.{written}
+use Rattle.queue_streams.specs.Events.{eventWords, written}
 use Rattle.message_chains.specs.Heads.{totalNotes, released}
 use Rattle.message_chains.specs.Notes.{lifecycleNoted}
 use Rattle.queue_closing.specs.Sweep.{Swept, swept, sweptStream, sweptTotal, sweepNotes, notesAt, sweepItem, sweep}
@@ -27,8 +27,8 @@ use Rattle.linked_dropping.proofs.Cleared.{restAt, Ready, first-fits, f
 
 -- ---- events behind events
 
-module _ (es : List ℕ) (k : ℕ) (vs : List Event) (l : 6915 ≤ length es) where
-  long-written : 6915 ≤ length (written es k vs)
+module _ (es : List ℕ) (k : ℕ) (vs : List Event) (l : eventWords ≤ length es) where
+  long-written : eventWords ≤ length (written es k vs)
   long-written = rw (written-length es k vs) l
 
   after-total : (ws : List ℕ) (n : ℕ) → k + length (vs ++ total-falls (optionsOf (optionsAt ws)) (totalsAt ws .total) n) ≤ 2305
@@ -44,7 +44,7 @@ module _ (es : List ℕ) (k : ℕ) (vs : List Event) (l : 6915 ≤ length es) wh
 
 -- ---- "closing reports stream before total": message by message stream, total, then 3 and 4
 
-module _ (ws es : List ℕ) (id threshold : ℕ) (s : Stream) (ei : s .id ≡ id) (et : s .threshold ≡ threshold) (w : Sweep) (n : ℕ) (l : 6915 ≤ length es) where
+module _ (ws es : List ℕ) (id threshold : ℕ) (s : Stream) (ei : s .id ≡ id) (et : s .threshold ≡ threshold) (w : Sweep) (n : ℕ) (l : eventWords ≤ length es) where
   abbrev falls : List Event
   falls = stream-falls s (w .amount) n
 
@@ -92,7 +92,7 @@ sweep-cons o s i is t a e = ap (λ (n : ℕ). sweep-item o s i t a ++ sweep-even
 -- ---- one message
 
 module _ (st : List ℕ) (id threshold : ℕ) (s : Stream) (ei : s .id ≡ id) (et : s .threshold ≡ threshold) where
-  module _ (ws es : List ℕ) (p x : ℕ) (xs : List ℕ) (r : Ready ws st p (x ∷ xs)) (w : Sweep) (l : 6915 ≤ length es) where
+  module _ (ws es : List ℕ) (p x : ℕ) (xs : List ℕ) (r : Ready ws st p (x ∷ xs)) (w : Sweep) (l : eventWords ≤ length es) where
     abbrev o : Options
     o = optionsOf (optionsAt ws)
 
@@ -146,7 +146,7 @@ module _ (st : List ℕ) (id threshold : ℕ) (s : Stream) (ei : s .id ≡ id) (
   abbrev fired : (o : Options) (ws : List ℕ) (a : ℕ) (ps : List ℕ) → List Event
   fired o ws a ps = sweep-events o s (each (itemIn ws st) ps) (totalsAt ws .total) a
 
-  pub sweep-all : (ps ws es : List ℕ) (k a p f : ℕ) (o : Options) → Ready ws st p ps → optionsOf (optionsAt ws) ≡ o → length ps ≤ f → 6915 ≤ length es → k + length (fired o ws a ps) ≤ 2305
+  pub sweep-all : (ps ws es : List ℕ) (k a p f : ℕ) (o : Options) → Ready ws st p ps → optionsOf (optionsAt ws) ≡ o → length ps ≤ f → eventWords ≤ length es → k + length (fired o ws a ps) ≤ 2305
       → Sweeps ws es k a p ps f (fired o ws a ps)
   sweep-all [] ws es k a p f o r eo hf l h = rw (sweep-nil o s (totalsAt ws .total) a) (sweep-stop ws es k a p f (r .linked))
   sweep-all (x ∷ xs) ws es k a p zero o r eo hf l h = absurd (omega arith)
@@ -169,7 +169,7 @@ module _ (st : List ℕ) (id threshold : ℕ) (s : Stream) (ei : s .id ≡ id) (
           sweep-cons o s j (each (itemIn ws st) xs) (totalsAt ws .total) a (r .fresh x (count-head x xs))
           ∙ rw (rest-is ws st x (r .lay) (first-fits ws st p x xs r), d .total, behind-items ws st p x xs r (restAt ws x))
 
-      more : (vs : List Event) → fired o ws a (x ∷ xs) ≡ us ++ vs → (6915 ≤ length (written es k us) → k + length us + length vs ≤ 2305 → Sweeps one (written es k us) (k + length us) (a - restAt ws x) (nextOf ws x) xs f vs)
+      more : (vs : List Event) → fired o ws a (x ∷ xs) ≡ us ++ vs → (eventWords ≤ length (written es k us) → k + length us + length vs ≤ 2305 → Sweeps one (written es k us) (k + length us) (a - restAt ws x) (nextOf ws x) xs f vs)
           → Sweeps ws es k a p (x ∷ xs) (suc f) (fired o ws a (x ∷ xs))
       more vs e rec =
           let z = length-append us vs in

@@ -26,7 +26,7 @@ use Rattle.queue_model.specs.Scheduler.{set-bytes-remaining}
 use Rattle.queue_model.specs.Streams.{put-stream, reschedule, head-size, weight-of}
 use Rattle.stream_scheduler.specs.Link.{entryAt, modelScheduler}
 use Rattle.stream_scheduler.specs.Rows.{weightOf}
-use Rattle.queue_streams.specs.Events.{written}
+use Rattle.queue_streams.specs.Events.{eventWords, written}
 use Rattle.queue_streams.specs.Settings.{CalledWith, calledWith}
 use Rattle.queue_streams.specs.Waiting.{headSize, parametersFor, rescheduled}
 use Rattle.queue_streams.specs.declared.answers.Call.the-variants as call
@@ -196,7 +196,7 @@ module _ (ws st : List ℕ) (g : Good ws st) (at : ℕ) (c : Choice ws st (g .sh
   unfolding drop-head-events total-low stream-low model
   events-are = rw (one .untouched .same-options, totals1, rest-is ws st g at c, lifecycle-is, stream-amount ws st (c .pos))
 
-  noted-are : (es : List ℕ) (k : ℕ) → 6915 ≤ length es → k + length vs ≤ 2305 → dropNotes u1 es k id s n (m .«lifecycle_id») ≡ listed es k vs
+  noted-are : (es : List ℕ) (k : ℕ) → eventWords ≤ length es → k + length vs ≤ 2305 → dropNotes u1 es k id s n (m .«lifecycle_id») ≡ listed es k vs
   noted-are es k l h =
       rw events-are (drop-noted u1 es k id s (streamIn ws st (c .pos)) n (stream-facts .0) (stream-facts .1) l (m .«lifecycle_id») (rw events-are at h))
 
@@ -207,7 +207,7 @@ module _ (ws st : List ℕ) (g : Good ws st) (at : ℕ) (c : Choice ws st (g .sh
       let a : rest (itemAt ws (c .first)) ≤ totalsAt ws .total = omega (arith, rest-in-amount ws st g at c, amount-in-total ws st g at c) in
       subst (λ (p : ℕ). headCode ws s p (m .next) n ≡ 0) (sym (c .first-is)) (head-may ws st sh (c .pos) (c .known) (c .first) (c .rest) (c .places-are) s n a (rest-in-amount ws st g at c))
 
-  pub head-expired : (es : List ℕ) (k : ℕ) → 6915 ≤ length es → k + length (drop-head-events (model ws st) (streamIn ws st (c .pos)) (itemIn ws st (c .first))) ≤ 2305
+  pub head-expired : (es : List ℕ) (k : ℕ) → eventWords ≤ length es → k + length (drop-head-events (model ws st) (streamIn ws st (c .pos)) (itemIn ws st (c .first))) ≤ 2305
       → HeadExpired ws st g at c es k (expiredDropped ws es k ((entryAt ws at) .stream-id) (rowAt ws (c .pos)))
   unfolding expiredDropped headExpired
   head-expired es k l h =

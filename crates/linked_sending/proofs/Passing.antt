@@ -3,7 +3,7 @@ use mathlib.Core.Path.{_≡_, refl, sym, ap, _∙_, subst}
 use mathlib.Core.Bool.{Bool, true, false, _&&_, _||_}
 use mathlib.Core.List.{List, [], _∷_, _++_}
 use mathlib.Core.Option.{Option, none, some}
-use Prim.Native.Nat.{ℕ, zero, suc, _+_, _-_, _*_, _≤_, _<_, min}
+use Prim.Native.Nat.{ℕ, zero, suc, _+_, _-_, _≤_, _<_, min}
 use native.Mathlib.Omega.{arith}
 use borrow.Author.Tests.{le-ltb}
 use lib.Dec.{ltb, leb}
@@ -23,7 +23,7 @@ use Rattle.queue_model.proofs.Invariant.Well.{Well}
 use Rattle.queue_model.proofs.Invariant.Sends.{FineLook, Chosen, fine-look}
 use Rattle.queue_model.proofs.Invariant.Events.{potential, LookSpends, look-spends}
 use Rattle.stream_scheduler.specs.Link.{entryAt}
-use Rattle.queue_streams.specs.Events.{written}
+use Rattle.queue_streams.specs.Events.{eventWords, written}
 use Rattle.queue_streams.specs.Settings.{CalledWith, calledWith}
 use Rattle.queue_streams.specs.declared.answers.Call.{Call}
 use Rattle.queue_streams.specs.declared.answers.Call.the-variants as call
@@ -143,7 +143,7 @@ next-of ws st es g at c time k d h e =
       next-pays = rw (h .next) p;
     }
 
-module _ (st es₀ bs : List ℕ) (time size : ℕ) (le : 6915 ≤ length es₀) (lb : size ≤ length bs) where
+module _ (st es₀ bs : List ℕ) (time size : ℕ) (le : eventWords ≤ length es₀) (lb : size ≤ length bs) where
   -- the statement
   abbrev pub Passing : (n : ℕ) (ws : List ℕ) (vs : List Event) → Type 0
   Passing n ws vs = Passes st es₀ bs (pass-over (suc n) time size (model ws st) vs) (passOver n ws st (written es₀ 0 vs) bs time size (length vs))
@@ -190,7 +190,7 @@ module _ (st es₀ bs : List ℕ) (time size : ℕ) (le : 6915 ≤ length es₀)
       let q′ : Queue = drop-head (model ws st) (streamIn ws st (c .pos)) (itemIn ws st (c .first)) (each (itemIn ws st) (c .rest)) in
       let e : look time (model ws st) ≡ dropped q′ ds = drops ws st g at c time b in
       let p : LookSpends (model ws st) (dropped q′ ds) = subst (LookSpends (model ws st)) e (look-spends time (model ws st) (g .well)) in
-      let l : 6915 ≤ length (written es₀ 0 vs) = rw (written-length es₀ 0 vs) le in
+      let l : eventWords ≤ length (written es₀ 0 vs) = rw (written-length es₀ 0 vs) le in
       let d : CalledWith = expiredDropped ws (written es₀ 0 vs) (length vs) ((entryAt ws at) .stream-id) (rowAt ws (c .pos)) in
       let x : HeadExpired ws st g at c (written es₀ 0 vs) (length vs) d = head-expired ws st g at c (written es₀ 0 vs) (length vs) l (omega arith) in
       let y : Next ws st (d .next) ds = next-of ws st (written es₀ 0 vs) g at c time (length vs) d x e in

@@ -3,7 +3,7 @@ use mathlib.Core.Path.{_≡_, refl, sym, ap, _∙_, subst}
 use mathlib.Core.Bool.{Bool, true, false, not, _||_}
 use mathlib.Core.List.{List, [], _∷_}
 use mathlib.Core.Option.{Option, none, some, Option·getD}
-use Prim.Native.Nat.{ℕ, zero, suc, _+_, _/_, _≤_, _<_}
+use Prim.Native.Nat.{ℕ, zero, suc, _+_, _≤_, _<_}
 use native.Mathlib.Omega.{arith}
 use borrow.Author.Tests.{lt-ltb, le-ltb, eq-eqb, ne-eqb}
 use lib.Dec.{ltb, eqb}
@@ -22,7 +22,7 @@ use Rattle.queue_sending.specs.Produce.{produceCode, produceNext, passOver, ref
 use Rattle.queue_sending.specs.declared.data.Produced.{Produced}
 use Rattle.queue_sending.specs.declared.data.Produced.the-variants as produced
 use Rattle.queue_sending.proofs.Passes.{produce-passes}
-use Rattle.queue_streams.specs.Events.{written}
+use Rattle.queue_streams.specs.Events.{eventWords, placesIn, written}
 use Rattle.queue_state.specs.Model.{model}
 use Rattle.queue_state.specs.Good.{Good}
 use Rattle.queue_state.proofs.Singles.{model-options}
@@ -59,10 +59,10 @@ module _ (ws st es bs : List ℕ) (time size : ℕ) (g : Good ws st) where
   q = model ws st
 
   abbrev step : Step
-  step = run.step (run.produce (length st) (length es / 3) (length bs) time size) (model ws st)
+  step = run.step (run.produce (length st) (placesIn es) (length bs) time size) (model ws st)
 
   abbrev checks : List Check
-  checks = produce-checks (length st) (length es / 3) (length bs) time size (model ws st)
+  checks = produce-checks (length st) (placesIn es) (length bs) time size (model ws st)
 
   abbrev code : ℕ
   code = produceCode ws (length st) (length es) (length bs) time size
@@ -81,17 +81,17 @@ module _ (ws st es bs : List ℕ) (time size : ℕ) (g : Good ws st) where
   refused : (n : ℕ) → 0 < n → first-refusal checks ≡ some n → code ≡ n → Sends step st es bs (produceNext ws st es bs time size)
   refused n h a b =
       let e : produceNext ws st es bs time size ≡ refusedWith n ws es bs = produce-passes ws st es bs time size few ∙ rw (b, lt-ltb 0 n h) in
-      let f : step ≡ refuse (model ws st) n = refuses (length st) (length es / 3) (length bs) time size (model ws st) n a in
+      let f : step ≡ refuse (model ws st) n = refuses (length st) (placesIn es) (length bs) time size (model ws st) n a in
       subst (λ (s : Step). Sends s st es bs (produceNext ws st es bs time size)) (sym f)
       (subst (Sends (refuse (model ws st) n) st es bs) (sym e) (told n))
 
   -- no refusal
-  accepted : 6915 ≤ length es → size ≤ length bs → first-refusal checks ≡ none → code ≡ 0 → Sends step st es bs (produceNext ws st es bs time size)
+  accepted : eventWords ≤ length es → size ≤ length bs → first-refusal checks ≡ none → code ≡ 0 → Sends step st es bs (produceNext ws st es bs time size)
   accepted he hb a b =
       let n : ℕ = totalsAt ws .waiting in
       let w : waiting ((model ws st) .streams) ≡ totalsAt ws .waiting = model-waits ws st (g .shape) in
       let o : Passes st es bs (pass-over (suc n) time size (model ws st) []) (passOver n ws st (written es 0 []) bs time size 0) = passes st es bs time size he hb n ws [] g (omega (arith, potential-fits (model ws st) (g .well))) (omega arith) in
-      let f : step ≡ o .step = goes-on (length st) (length es / 3) (length bs) time size (model ws st) a ∙ ap (λ (x : Option Step). Option·getD x (refuse (model ws st) 16)) (ap (λ (k : ℕ). pass-over (suc k) time size (model ws st) []) w ∙ o .step-is) in
+      let f : step ≡ o .step = goes-on (length st) (placesIn es) (length bs) time size (model ws st) a ∙ ap (λ (x : Option Step). Option·getD x (refuse (model ws st) 16)) (ap (λ (k : ℕ). pass-over (suc k) time size (model ws st) []) w ∙ o .step-is) in
       let p : ProducedWith = passOver n ws st (written es 0 []) bs time size 0 in
       let e : produceNext ws st es bs time size ≡ p = produce-passes ws st es bs time size few ∙ rw b (ap (λ (l : List ℕ). settled ws es bs (passOver n ws st l bs time size 0)) (sym none-written) ∙ settled-same ws es bs p (o .answered)) in
       subst (λ (s : Step). Sends s st es bs (produceNext ws st es bs time size)) (sym f) (subst (Sends (o .step) st es bs) (sym e) (o .sends))
@@ -104,31 +104,31 @@ module _ (ws st es bs : List ℕ) (time size : ℕ) (g : Good ws st) where
   same-store : eqb (optionsAt ws .«store_length») (length st) ≡ true
   same-store = eq-eqb (optionsAt ws .«store_length») (length st) (sym (g .store-is))
 
-  pub produce-link : Sends (run.step (run.produce (length st) (length es / 3) (length bs) time size) (model ws st)) st es bs (produceNext ws st es bs time size)
+  pub produce-link : Sends (run.step (run.produce (length st) (placesIn es) (length bs) time size) (model ws st)) st es bs (produceNext ws st es bs time size)
   unfolding first-refusal produceCode
-  produce-link = by-lt (length es) 6915
-      (λ h. refused 3 (omega arith) (rw (store-same, lt-ltb (length es / 3) 2305 (omega arith))) (rw (same-store, lt-ltb (length es) 6915 h)))
+  produce-link = by-lt (length es) eventWords
+      (λ h. refused 3 (omega arith) (rw (store-same, lt-ltb (placesIn es) 2305 (omega arith))) (rw (same-store, lt-ltb (length es) eventWords h)))
       (λ h. by-lt 4611686018427387903 time
-      (λ i. refused 4 (omega arith) (rw (store-same, le-ltb (length es / 3) 2305 (omega arith), lt-ltb 4611686018427387903 time i)) (rw (same-store, le-ltb (length es) 6915 h, lt-ltb 4611686018427387903 time i)))
+      (λ i. refused 4 (omega arith) (rw (store-same, le-ltb (placesIn es) 2305 (omega arith), lt-ltb 4611686018427387903 time i)) (rw (same-store, le-ltb (length es) eventWords h, lt-ltb 4611686018427387903 time i)))
       (λ i. by-index size 0
       (λ j. refused 9 (omega arith)
-      (rw (store-same, le-ltb (length es / 3) 2305 (omega arith), le-ltb 4611686018427387903 time i, lt-ltb size 1 (omega arith)))
-      (rw (same-store, le-ltb (length es) 6915 h, le-ltb 4611686018427387903 time i, eq-eqb size 0 j)))
+      (rw (store-same, le-ltb (placesIn es) 2305 (omega arith), le-ltb 4611686018427387903 time i, lt-ltb size 1 (omega arith)))
+      (rw (same-store, le-ltb (length es) eventWords h, le-ltb 4611686018427387903 time i, eq-eqb size 0 j)))
       (λ j. by-lt 262144 size
       (λ k. refused 9 (omega arith)
-      (rw (store-same, le-ltb (length es / 3) 2305 (omega arith), le-ltb 4611686018427387903 time i, le-ltb size 1 (omega arith), lt-ltb 262144 size k))
-      (rw (same-store, le-ltb (length es) 6915 h, le-ltb 4611686018427387903 time i, ne-eqb size 0 j, lt-ltb 262144 size k)))
+      (rw (store-same, le-ltb (placesIn es) 2305 (omega arith), le-ltb 4611686018427387903 time i, le-ltb size 1 (omega arith), lt-ltb 262144 size k))
+      (rw (same-store, le-ltb (length es) eventWords h, le-ltb 4611686018427387903 time i, ne-eqb size 0 j, lt-ltb 262144 size k)))
       (λ k. by-lt (length bs) size
       (λ l. refused 10 (omega arith)
-      (rw (store-same, le-ltb (length es / 3) 2305 (omega arith), le-ltb 4611686018427387903 time i, le-ltb size 1 (omega arith), le-ltb 262144 size k, lt-ltb (length bs) size l))
-      (rw (same-store, le-ltb (length es) 6915 h, le-ltb 4611686018427387903 time i, ne-eqb size 0 j, le-ltb 262144 size k, lt-ltb (length bs) size l)))
+      (rw (store-same, le-ltb (placesIn es) 2305 (omega arith), le-ltb 4611686018427387903 time i, le-ltb size 1 (omega arith), le-ltb 262144 size k, lt-ltb (length bs) size l))
+      (rw (same-store, le-ltb (length es) eventWords h, le-ltb 4611686018427387903 time i, ne-eqb size 0 j, le-ltb 262144 size k, lt-ltb (length bs) size l)))
       (λ l. accepted h l
-      (rw (store-same, le-ltb (length es / 3) 2305 (omega arith), le-ltb 4611686018427387903 time i, le-ltb size 1 (omega arith), le-ltb 262144 size k, le-ltb (length bs) size l))
-      (rw (same-store, le-ltb (length es) 6915 h, le-ltb 4611686018427387903 time i, ne-eqb size 0 j, le-ltb 262144 size k, le-ltb (length bs) size l)))))))
+      (rw (store-same, le-ltb (placesIn es) 2305 (omega arith), le-ltb 4611686018427387903 time i, le-ltb size 1 (omega arith), le-ltb 262144 size k, le-ltb (length bs) size l))
+      (rw (same-store, le-ltb (length es) eventWords h, le-ltb 4611686018427387903 time i, ne-eqb size 0 j, le-ltb 262144 size k, le-ltb (length bs) size l)))))))
 
 -- What the contract asks.
 pub produce-meets : (ws st es bs : List ℕ) (time size : ℕ) (r : Produced) (ws′ es′ bs′ : List ℕ) → producedWith r ws′ es′ bs′ ≡ produceNext ws st es bs time size → ProduceMeets ws st es bs time size r ws′ es′ bs′
 produce-meets ws st es bs time size r ws′ es′ bs′ e = record {
   words = e;
-  model = λ g. subst (Sends (run.step (run.produce (length st) (length es / 3) (length bs) time size) (model ws st)) st es bs) (sym e) (produce-link ws st es bs time size g);
+  model = λ g. subst (Sends (run.step (run.produce (length st) (placesIn es) (length bs) time size) (model ws st)) st es bs) (sym e) (produce-link ws st es bs time size g);
 }

@@ -35,7 +35,7 @@ use Rattle.payload_store.proofs.Cases.{by-lt}
 use Rattle.payload_store.proofs.Reading.{read-law}
 use Rattle.stream_scheduler.specs.Link.{entryAt, modelScheduler}
 use Rattle.stream_scheduler.specs.Words.{acceptAt}
-use Rattle.queue_streams.specs.Events.{written}
+use Rattle.queue_streams.specs.Events.{eventWords, written}
 use Rattle.message_chains.specs.Amounts.{rest}
 use Rattle.message_chains.specs.Heads.{headCode, withoutHead, sentNotes}
 use Rattle.message_chains.specs.Notes.{Notes, notes}
@@ -213,7 +213,7 @@ module _ (ws st : List ℕ) (g : Good ws st) (at : ℕ) (c : Choice ws st (g .sh
     unfolding sent-events total-low stream-low model
     events-are = rw (stream-amount ws st (c .pos))
 
-    noted-are : (es : List ℕ) (k : ℕ) → 6915 ≤ length es → k + length (sent-events (model ws st) t n) ≤ 2305 → sentNotes ws es k id s n ≡ listed es k (sent-events (model ws st) t n)
+    noted-are : (es : List ℕ) (k : ℕ) → eventWords ≤ length es → k + length (sent-events (model ws st) t n) ≤ 2305 → sentNotes ws es k id s n ≡ listed es k (sent-events (model ws st) t n)
     noted-are es k l h = rw events-are (sent-noted ws es k id s t n (stream-facts .0) (stream-facts .1) l (rw events-are at h))
 
     -- ---- the fragment
@@ -252,7 +252,7 @@ module _ (ws st : List ℕ) (g : Good ws st) (at : ℕ) (c : Choice ws st (g .sh
         rw (le-ltb (rest m) n hn, e, d)
 
     -- The fragment, after k events.
-    sent-is : (es bs : List ℕ) (k : ℕ) → 6915 ≤ length es → k + length (sent-events (model ws st) t n) ≤ 2305 → n ≤ length bs
+    sent-is : (es bs : List ℕ) (k : ℕ) → eventWords ≤ length es → k + length (sent-events (model ws st) t n) ≤ 2305 → n ≤ length bs
         → sent ws st es bs k at id (rowAt ws (c .pos)) s m n
         ≡ producedWith (produced.Fragment (k + length (sent-events (model ws st) t n)) (dataOf f)) (writtenSent ws at id (rowAt ws (c .pos)) s′ m′ n) (written es k (sent-events (model ws st) t n)) (f .bytes ++ drop (length (f .bytes)) bs)
     unfolding sent
@@ -285,7 +285,7 @@ module _ (ws st : List ℕ) (g : Good ws st) (at : ℕ) (c : Choice ws st (g .sh
   in-rows : rowAt ws (c .pos) < 256
   in-rows = row-below ws st sh (c .pos) (c .known)
 
-  handed-is : (es bs : List ℕ) (k size : ℕ) → Chosen (model ws st) (entryAt ws at) t i is → 6915 ≤ length es → k ≤ 2303 → k + length (sent-events (model ws st) t (bytes size)) ≤ 2305 → size ≤ length bs
+  handed-is : (es bs : List ℕ) (k size : ℕ) → Chosen (model ws st) (entryAt ws at) t i is → eventWords ≤ length es → k ≤ 2303 → k + length (sent-events (model ws st) t (bytes size)) ≤ 2305 → size ≤ length bs
       → handedOut ws st es bs size k at id (rowAt ws (c .pos))
       ≡ producedWith (produced.Fragment (k + length (sent-events (model ws st) t (bytes size))) (dataOf (make-fragment t (v .item) (bytes size)))) (writtenSent ws at id (rowAt ws (c .pos)) s′ m′ (bytes size)) (written es k (sent-events (model ws st) t (bytes size))) ((make-fragment t (v .item) (bytes size)) .bytes ++ drop (length ((make-fragment t (v .item) (bytes size)) .bytes)) bs)
   unfolding handedOut
@@ -298,13 +298,13 @@ module _ (ws st : List ℕ) (g : Good ws st) (at : ℕ) (c : Choice ws st (g .sh
       (sent-is (bytes size) (bytes-fit size h) es bs k l he (omega arith))
 
   pub hands-out : (es₀ bs : List ℕ) (vs : List Event) (size : ℕ) → Chosen (model ws st) (entryAt ws at) (streamIn ws st (c .pos)) (itemIn ws st (c .first)) (each (itemIn ws st) (c .rest))
-      → 6915 ≤ length es₀ → length vs ≤ 2303 → length vs + length (sent-events (model ws st) (streamIn ws st (c .pos)) (min ((entryAt ws at) .bytes-remaining) size)) ≤ 2305 → size ≤ length bs
+      → eventWords ≤ length es₀ → length vs ≤ 2303 → length vs + length (sent-events (model ws st) (streamIn ws st (c .pos)) (min ((entryAt ws at) .bytes-remaining) size)) ≤ 2305 → size ≤ length bs
       → HandedOut es₀ bs vs size (handedOut ws st (written es₀ 0 vs) bs size (length vs) at ((entryAt ws at) .stream-id) (rowAt ws (c .pos)))
   unfolding hand-out
   hands-out es₀ bs vs size h l hk he hb =
       let n : ℕ = bytes size in
       let r : Step = reply (fragment (make-fragment t (v .item) n)) (vs ++ sent-events (model ws st) t n) (handed-out (model ws st) (entryAt ws at) t i is n) in
-      let l′ : 6915 ≤ length (written es₀ 0 vs) = rw (written-length es₀ 0 vs) l in
+      let l′ : eventWords ≤ length (written es₀ 0 vs) = rw (written-length es₀ 0 vs) l in
       let z = length-append vs (sent-events (model ws st) t n) in
       let fits = bytes-fit size h in
       let zero : length vs ≡ 0 + length vs = omega arith in

@@ -1,5 +1,5 @@
 -- The next fragment is the model's. Assumes nothing.
-use Prim.Native.Nat.{ℕ, _/_}
+use Prim.Native.Nat.{ℕ}
 use mathlib.Core.Path.{_≡_}
 use mathlib.Core.List.{List, [], _++_}
 use mathlib.Core.Option.{Option, none, some}
@@ -7,7 +7,7 @@ use lib.ListN.{length, drop}
 use Rattle.types.specs.Keys.{key-of}
 use Rattle.queue_model.specs.Types.{Answer, refused, done, number, flag, ids, fragment, nothing-waits, Fragment, Step}
 use Rattle.queue_model.specs.Run as run
-use Rattle.queue_streams.specs.Events.{written}
+use Rattle.queue_streams.specs.Events.{placesIn, written}
 use Rattle.queue_sending.specs.declared.data.Data.{Data}
 use Rattle.queue_sending.specs.declared.data.DataToSend.{DataToSend}
 use Rattle.queue_sending.specs.declared.data.Expiry.{Expiry}
@@ -74,4 +74,4 @@ pub record Sends (s : Step) (st es bs : List ℕ) (p : ProducedWith) : Type 0 wh
 -- The contract: the words for every input, and the model's step from good words.
 pub record ProduceMeets (ws st es bs : List ℕ) (time size : ℕ) (r : Produced) (ws′ es′ bs′ : List ℕ) : Type 0 where
   pub words : producedWith r ws′ es′ bs′ ≡ produceNext ws st es bs time size
-  pub model : Good ws st → Sends (run.step (run.produce (length st) (length es / 3) (length bs) time size) (model ws st)) st es bs (producedWith r ws′ es′ bs′)
+  pub model : Good ws st → Sends (run.step (run.produce (length st) (placesIn es) (length bs) time size) (model ws st)) st es bs (producedWith r ws′ es′ bs′)

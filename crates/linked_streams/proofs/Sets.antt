@@ -3,7 +3,7 @@ use mathlib.Core.Path.{_≡_, refl, sym, ap, _∙_, subst}
 use mathlib.Core.Bool.{Bool, true, false}
 use mathlib.Core.List.{List, [], _∷_}
 use mathlib.Core.Option.{none, some}
-use Prim.Native.Nat.{ℕ, _/_, _^_, _≤_, _<_}
+use Prim.Native.Nat.{ℕ, _^_, _≤_, _<_}
 use native.Mathlib.Omega.{arith}
 use borrow.Author.Tests.{lt-ltb, le-ltb, le-leb, lt-leb}
 use lib.Dec.{ltb}
@@ -24,7 +24,7 @@ use Rattle.queue_model.specs.Refusals.{_when_}
 use Rattle.queue_model.specs.Run as run
 use Rattle.queue_model.proofs.Checks.{checked-past, checked-but}
 use Rattle.queue_model.proofs.Invariant.Fine.{Fine, fine-set-priority, fine-set-threshold}
-use Rattle.queue_streams.specs.Events.{putEvent, written}
+use Rattle.queue_streams.specs.Events.{eventWords, placesIn, putEvent, written}
 use Rattle.queue_streams.specs.Known.{newStream, lookUp}
 use Rattle.queue_streams.specs.Settings.{Called, CalledWith, called, calledWith, withPriority, withThreshold, priorityIn, setPriority, raised, thresholdIn, setThreshold}
 use Rattle.queue_streams.specs.declared.answers.Call.{Call}
@@ -147,13 +147,13 @@ module _ (places : ℕ) (q : Queue) (id t : ℕ) where
   threshold-few h =
       checked-first 3 (ltb places 2305) ((6 when too-many q id) ∷ []) q (reply done (raised-event (stream-at q id) t) (know q (with-threshold t (stream-at q id)))) (lt-ltb places 2305 h)
 
-threshold-row : (ws es : List ℕ) (id t : ℕ) (x : Place) → 6915 ≤ length es → lookUp ws id ≡ x → setThreshold ws es id t ≡ thresholdIn ws es id t x
+threshold-row : (ws es : List ℕ) (id t : ℕ) (x : Place) → eventWords ≤ length es → lookUp ws id ≡ x → setThreshold ws es id t ≡ thresholdIn ws es id t x
 unfolding setThreshold
-threshold-row ws es id t x h e = rw (le-ltb (length es) 6915 h, e)
+threshold-row ws es id t x h e = rw (le-ltb (length es) eventWords h, e)
 
-threshold-short : (ws es : List ℕ) (id t : ℕ) → length es < 6915 → setThreshold ws es id t ≡ calledWith (Refused 3) ws es
+threshold-short : (ws es : List ℕ) (id t : ℕ) → length es < eventWords → setThreshold ws es id t ≡ calledWith (Refused 3) ws es
 unfolding setThreshold
-threshold-short ws es id t h = rw (lt-ltb (length es) 6915 h)
+threshold-short ws es id t h = rw (lt-ltb (length es) eventWords h)
 
 -- The event of a threshold that is raised.
 raised-is : (id : ℕ) (s : OutgoingStream) (is : List plain.Item) (t : ℕ) (b : Bool) → raised (s .«buffered_amount») (s .«low_threshold») t ≡ b
@@ -170,27 +170,27 @@ unfolding written
 written-one es id a = refl
 
 module _ (ws st es : List ℕ) (g : Good ws st) (id t : ℕ) (hid : id < 65536) (ht : t < 2 ^ 64) where
-  threshold-fine : Fine (model ws st) (run.step (run.set-threshold (length es / 3) id t) (model ws st))
+  threshold-fine : Fine (model ws st) (run.step (run.set-threshold (placesIn es) id t) (model ws st))
   unfolding run.step
-  threshold-fine = fine-set-threshold (length es / 3) id t (model ws st) (g .well) (omega arith) ht
+  threshold-fine = fine-set-threshold (placesIn es) id t (model ws st) (g .well) (omega arith) ht
 
   abbrev SetT : CalledWith → Type 0
-  SetT r = Reports (run.set-threshold (length es / 3) id t) ws st es (r .answer) (r .next) st (r .events)
+  SetT r = Reports (run.set-threshold (placesIn es) id t) ws st es (r .answer) (r .next) st (r .events)
 
   -- the events that the model's call shows
-  told : (s : Step) → run.step (run.set-threshold (length es / 3) id t) (model ws st) ≡ s → (es′ : List ℕ) → es′ ≡ written es 0 (s .outcome .events)
-      → es′ ≡ written es 0 (shown (run.set-threshold (length es / 3) id t) ws st .events)
+  told : (s : Step) → run.step (run.set-threshold (placesIn es) id t) (model ws st) ≡ s → (es′ : List ℕ) → es′ ≡ written es 0 (s .outcome .events)
+      → es′ ≡ written es 0 (shown (run.set-threshold (placesIn es) id t) ws st .events)
   told s e es′ h = h ∙ ap (λ (x : Step). written es 0 (x .outcome .events)) (sym e)
 
-  threshold-short-link : length es < 6915 → SetT (setThreshold ws es id t)
+  threshold-short-link : length es < eventWords → SetT (setThreshold ws es id t)
   threshold-short-link h =
-      let e : run.step (run.set-threshold (length es / 3) id t) (model ws st) ≡ refuse (model ws st) 3 = threshold-few (length es / 3) (model ws st) id t (omega arith) in
+      let e : run.step (run.set-threshold (placesIn es) id t) (model ws st) ≡ refuse (model ws st) 3 = threshold-few (placesIn es) (model ws st) id t (omega arith) in
       subst SetT (sym (threshold-short ws es id t h)) (record {
-        does = does-refused (run.set-threshold (length es / 3) id t) ws st 3 g e;
+        does = does-refused (run.set-threshold (placesIn es) id t) ws st 3 g e;
         events = told (refuse (model ws st) 3) e es (written-none es);
       })
 
-  module _ (enough : 6915 ≤ length es) where
+  module _ (enough : eventWords ≤ length es) where
     threshold-by : (x : Place) → lookUp ws id ≡ x → SetT (thresholdIn ws es id t x) → SetT (setThreshold ws es id t)
     threshold-by x e d = subst SetT (sym (threshold-row ws es id t x enough e)) d
 
@@ -203,14 +203,14 @@ module _ (ws st es : List ℕ) (g : Good ws st) (id t : ℕ) (hid : id < 65536) 
       news b = if b then record { kind = 1; number = id; amount = old .«buffered_amount» } ∷ [] else []
 
       threshold-step : (b : Bool) → raised (old .«buffered_amount») (old .«low_threshold») t ≡ b
-          → run.step (run.set-threshold (length es / 3) id t) (model ws st) ≡ reply done (news b) (know (model ws st) (streamOf (idAt ws i) (withThreshold old t) (each (itemIn ws st) (g .shape .q i))))
+          → run.step (run.set-threshold (placesIn es) id t) (model ws st) ≡ reply done (news b) (know (model ws st) (streamOf (idAt ws i) (withThreshold old t) (each (itemIn ws st) (g .shape .q i))))
       threshold-step b r =
-          threshold-past (length es / 3) (model ws st) id t (streamOf (idAt ws i) old (each (itemIn ws st) (g .shape .q i))) (news b) (omega arith) (not-too-many ws st id (streamIn ws st i) e) (at-known ws st g id i h e)
+          threshold-past (placesIn es) (model ws st) id t (streamOf (idAt ws i) old (each (itemIn ws st) (g .shape .q i))) (news b) (omega arith) (not-too-many ws st id (streamIn ws st i) e) (at-known ws st g id i h e)
           (raised-is (idAt ws i) old (each (itemIn ws st) (g .shape .q i)) t b r ∙ ap (λ (n : ℕ). if b then record { kind = 1; number = n; amount = old .«buffered_amount» } ∷ [] else []) ei)
 
-      threshold-sets : (b : Bool) → raised (old .«buffered_amount») (old .«low_threshold») t ≡ b → Does (run.set-threshold (length es / 3) id t) ws st (Accepted (length (news b))) (putStream ws (rowAt ws i) (withThreshold old t)) st
+      threshold-sets : (b : Bool) → raised (old .«buffered_amount») (old .«low_threshold») t ≡ b → Does (run.set-threshold (placesIn es) id t) ws st (Accepted (length (news b))) (putStream ws (rowAt ws i) (withThreshold old t)) st
       threshold-sets b r =
-          does-row (run.set-threshold (length es / 3) id t) ws st g threshold-fine (news b) i h (withThreshold old t) (with-threshold-fits old t (Laws.stream-at-fits ws (rowAt ws i))) refl refl (threshold-step b r)
+          does-row (run.set-threshold (placesIn es) id t) ws st g threshold-fine (news b) i h (withThreshold old t) (with-threshold-fits old t (Laws.stream-at-fits ws (rowAt ws i))) refl refl (threshold-step b r)
 
       threshold-known : SetT (thresholdIn ws es id t (place.Row (rowAt ws i)))
       threshold-known = go (raised (old .«buffered_amount») (old .«low_threshold») t) refl
@@ -232,18 +232,18 @@ module _ (ws st es : List ℕ) (g : Good ws st) (id t : ℕ) (hid : id < 65536) 
     threshold-new m h few lo hi e =
         let s : OutgoingStream = newStream (optionsAt ws) in
         let r : raised 0 (optionsAt ws .«default_threshold») t ≡ false = rw (le-ltb (optionsAt ws .«default_threshold») 0 (omega arith)) in
-        let v : run.step (run.set-threshold (length es / 3) id t) (model ws st) ≡ reply done [] (know (model ws st) (streamOf id (withThreshold s t) []))
-        = threshold-past (length es / 3) (model ws st) id t (streamOf id s []) [] (omega arith) (roomy ws st g id e few) (at-new ws st id e) (raised-is id s [] t false r) in
+        let v : run.step (run.set-threshold (placesIn es) id t) (model ws st) ≡ reply done [] (know (model ws st) (streamOf id (withThreshold s t) []))
+        = threshold-past (placesIn es) (model ws st) id t (streamOf id s []) [] (omega arith) (roomy ws st g id e few) (at-new ws st id e) (raised-is id s [] t false r) in
         record {
-          does = does-new (run.set-threshold (length es / 3) id t) ws st g threshold-fine [] m id (withThreshold s t)
+          does = does-new (run.set-threshold (placesIn es) id t) ws st g threshold-fine [] m id (withThreshold s t)
               (insert-link ws st (g .shape) m id (withThreshold s t) h few lo hi hid (with-threshold-fits s t (new-fits ws)) refl refl) v;
           events = told (reply done [] (know (model ws st) (streamOf id (withThreshold s t) []))) v es (written-none es);
         }
 
     threshold-refused : find-stream id (streamsIn ws st) ≡ none → 256 ≤ totalsAt ws .known → SetT (thresholdIn ws es id t (place.Refused 6))
     threshold-refused e h =
-        let v : run.step (run.set-threshold (length es / 3) id t) (model ws st) ≡ refuse (model ws st) 6 = threshold-full (length es / 3) (model ws st) id t (omega arith) (full ws st g id e h) in
-        record { does = does-refused (run.set-threshold (length es / 3) id t) ws st 6 g v; events = told (refuse (model ws st) 6) v es (written-none es) }
+        let v : run.step (run.set-threshold (placesIn es) id t) (model ws st) ≡ refuse (model ws st) 6 = threshold-full (placesIn es) (model ws st) id t (omega arith) (full ws st g id e h) in
+        record { does = does-refused (run.set-threshold (placesIn es) id t) ws st 6 g v; events = told (refuse (model ws st) 6) v es (written-none es) }
 
     threshold-long-link : SetT (setThreshold ws es id t)
     threshold-long-link = by (lookup ws st (g .shape) id)
@@ -254,8 +254,8 @@ module _ (ws st es : List ℕ) (g : Good ws st) (id t : ℕ) (hid : id < 65536) 
             (λ few. threshold-by (place.New m) (look-new ws id m f few) (threshold-new m h few lo hi e))
             (λ many. threshold-by (place.Refused 6) (look-full ws id m f many) (threshold-refused e many))
 
-  pub threshold-link : Reports (run.set-threshold (length es / 3) id t) ws st es (setThreshold ws es id t .answer) (setThreshold ws es id t .next) st (setThreshold ws es id t .events)
-  threshold-link = by-lt (length es) 6915 threshold-short-link threshold-long-link
+  pub threshold-link : Reports (run.set-threshold (placesIn es) id t) ws st es (setThreshold ws es id t .answer) (setThreshold ws es id t .next) st (setThreshold ws es id t .events)
+  threshold-link = by-lt (length es) eventWords threshold-short-link threshold-long-link
 
 -- ------------------------------------------------------------------ both promises
 
@@ -268,5 +268,5 @@ set-priority-meets ws id p r ws′ hid hp e = record {
 pub set-threshold-meets : (ws es : List ℕ) (id t : ℕ) (r : Call) (ws′ es′ : List ℕ) → id < 65536 → t < 18446744073709551616 → calledWith r ws′ es′ ≡ setThreshold ws es id t → SetThresholdMeets ws es id t r ws′ es′
 set-threshold-meets ws es id t r ws′ es′ hid ht e = record {
   words = e;
-  model = λ st g. subst (λ (x : CalledWith). Reports (run.set-threshold (length es / 3) id t) ws st es (x .answer) (x .next) st (x .events)) (sym e) (threshold-link ws st es g id t hid ht);
+  model = λ st g. subst (λ (x : CalledWith). Reports (run.set-threshold (placesIn es) id t) ws st es (x .answer) (x .next) st (x .events)) (sym e) (threshold-link ws st es g id t hid ht);
 }

@@ -1,9 +1,9 @@
 -- What setting a priority or a threshold promises. Assumes nothing.
-use Prim.Native.Nat.{ℕ, _/_}
+use Prim.Native.Nat.{ℕ}
 use mathlib.Core.Path.{_≡_}
 use mathlib.Core.List.{List}
-use lib.ListN.{length}
 use Rattle.queue_model.specs.Run as run
+use Rattle.queue_streams.specs.Events.{placesIn}
 use Rattle.queue_streams.specs.Settings.{called, calledWith, setPriority, setThreshold}
 use Rattle.queue_streams.specs.declared.answers.Call.{Call}
 use Rattle.queue_state.specs.Good.{Good}
@@ -14,7 +14,7 @@ pub record SetPriorityMeets (ws : List ℕ) (id p : ℕ) (r : Call) (ws′ : Lis
   pub words : called r ws′ ≡ setPriority ws id p
   pub model : (st : List ℕ) → Good ws st → Does (run.set-priority id p) ws st r ws′ st
 
--- Setting a threshold, with the events in the lent list: a place is three words.
+-- Setting a threshold, with the events in the lent list.
 pub record SetThresholdMeets (ws es : List ℕ) (id t : ℕ) (r : Call) (ws′ es′ : List ℕ) : Type 0 where
   pub words : calledWith r ws′ es′ ≡ setThreshold ws es id t
-  pub model : (st : List ℕ) → Good ws st → Reports (run.set-threshold (length es / 3) id t) ws st es r ws′ st es′
+  pub model : (st : List ℕ) → Good ws st → Reports (run.set-threshold (placesIn es) id t) ws st es r ws′ st es′

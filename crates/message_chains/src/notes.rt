@@ -2,7 +2,7 @@
 // 2,306: too many.
 ghost use mathlib.Core.Path.{_≡_};
 ghost use Rattle.message_chains.specs.Notes.{notes, noted, lowNoted, lifecycleNoted};
-use queue_streams::events::EVENT_PLACES;
+use queue_streams::events::EVENT_WORDS;
 use queue_streams::events::put_event;
 
 pub fn note(events: &mut [u64], k: usize, kind: u64, number: u64, amount: u64) -> usize
@@ -11,14 +11,14 @@ pub fn note(events: &mut [u64], k: usize, kind: u64, number: u64, amount: u64) -
     if k > 2304 {
         return 2306;
     }
-    if events.len() < EVENT_PLACES {
+    if events.len() < EVENT_WORDS {
         return 2306;
     }
     put_event(events, k, kind, number, amount);
     k + 1
 }
 
-// "Low fires when an amount goes from above its threshold to at or below it".
+// "Low fires when an amount goes from above its threshold to at or below it"; it tells the amount after the fall.
 pub fn low_event(
     events: &mut [u64],
     k: usize,
@@ -39,7 +39,7 @@ pub fn low_event(
     note(events, k, kind, number, new)
 }
 
-// "then 3 and 4 for a drop with an id".
+// "then 3 and 4 for a drop with an id"; they "carry 0".
 pub fn lifecycle_events(events: &mut [u64], k: usize, id: u64) -> usize
     ensures { λ r. ⌜ notes (now (events .exit)) r ≡ lifecycleNoted (now (events .entry)) k id ⌝ }
 {

@@ -10,6 +10,7 @@ use Rattle.queue_words.specs.declared.header.Options.{Options}
 use Rattle.queue_words.specs.declared.streams.OutgoingStream.{OutgoingStream}
 use Rattle.stream_scheduler.specs.Words.{Outcome, outcome, removeStream}
 use Rattle.stream_scheduler.proofs.Frames.{kept-remove}
+use Rattle.queue_streams.specs.Events.{eventWords}
 use Rattle.queue_streams.specs.Known.{newStream, lookUp, inserted}
 use Rattle.queue_streams.specs.Settings.{calledWith}
 use Rattle.queue_streams.specs.declared.answers.Call.the-variants.{Accepted, Refused}
@@ -27,7 +28,7 @@ whole-refused ws es id row s b r l eb hb eo hr =
     ap (λ (x : List ℕ). calledWith (Refused 16) x es) k ∙ sym (rw (← eb, hb, ← eo, hr))
 
 -- A stream that was not known.
-pub closed-new : (ws es : List ℕ) (id : ℕ) (r : Place) (position : ℕ) (o : Options) (s : OutgoingStream) (l : List ℕ) → 6915 ≤ length es → r ≡ lookUp ws id → r ≡ place.New position
+pub closed-new : (ws es : List ℕ) (id : ℕ) (r : Place) (position : ℕ) (o : Options) (s : OutgoingStream) (l : List ℕ) → eventWords ≤ length es → r ≡ lookUp ws id → r ≡ place.New position
     → o ≡ optionsAt ws → s ≡ newStream o → l ≡ inserted ws position id (pausedNew s) → calledWith (Accepted 0) l es ≡ close ws es id
 unfolding close
 closed-new ws es id r position o s l h er e eo en el = rw (le-ltb _ _ h, ← er, e, el, en, eo)

@@ -9,6 +9,7 @@ use Rattle.queue_words.specs.Items.{itemAt, putNext}
 use Rattle.queue_words.specs.Streams.{streamAt, putStream}
 use Rattle.queue_words.specs.declared.streams.OutgoingStream.{OutgoingStream}
 use Rattle.stream_scheduler.specs.Words.{removeStream}
+use Rattle.queue_streams.specs.Events.{eventWords}
 use Rattle.queue_streams.specs.Known.{newStream, lookUp, inserted}
 use Rattle.queue_streams.specs.Settings.{CalledWith, calledWith}
 use Rattle.queue_streams.specs.declared.answers.Call.the-variants.{Accepted, Refused}
@@ -80,4 +81,4 @@ closeAt ws es id (place.Refused n) = calledWith (Refused n) ws es
 
 -- 3: "the event list has fewer than 2,305 places".
 unfoldable pub close : List ℕ → List ℕ → ℕ → CalledWith
-close ws es id = pick (ltb (length es) 6915) (calledWith (Refused 3) ws es) (closeAt ws es id (lookUp ws id))
+close ws es id = pick (ltb (length es) eventWords) (calledWith (Refused 3) ws es) (closeAt ws es id (lookUp ws id))

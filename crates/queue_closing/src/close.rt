@@ -12,7 +12,7 @@ use message_chains::heads::release;
 use message_chains::notes::lifecycle_events;
 use message_chains::notes::low_event;
 use queue_streams::answers::Call;
-use queue_streams::events::EVENT_PLACES;
+use queue_streams::events::EVENT_WORDS;
 use queue_streams::known::Place;
 use queue_streams::known::insert_stream;
 use queue_streams::known::look_up;
@@ -315,7 +315,7 @@ fn close_in(queue: &mut [u64; QUEUE_WORDS], events: &mut [u64], id: u16, row: us
 pub fn prepare_reset_stream(queue: &mut [u64; QUEUE_WORDS], events: &mut [u64], id: u16) -> Call
     ensures { λ r. ⌜ calledWith r (now (queue .exit)) (now (events .exit)) ≡ close (now (queue .entry)) (now (events .entry)) id ⌝ }
 {
-    if events.len() < EVENT_PLACES {
+    if events.len() < EVENT_WORDS {
         return Call::Refused(3);
     }
     let place = look_up(&*queue, id);

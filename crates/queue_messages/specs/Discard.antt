@@ -14,6 +14,7 @@ use Rattle.queue_words.specs.declared.known.Found.{Found}
 use Rattle.queue_words.specs.declared.known.Found.the-variants.{At, Gap, Broken}
 use Rattle.queue_words.specs.declared.streams.OutgoingStream.{OutgoingStream}
 use Rattle.stream_scheduler.specs.Words.{Outcome, removeStream, setBytesRemaining}
+use Rattle.queue_streams.specs.Events.{eventWords}
 use Rattle.queue_streams.specs.Settings.{CalledWith, calledWith}
 use Rattle.queue_streams.specs.Waiting.{headSize, parametersFor}
 use Rattle.queue_streams.specs.declared.answers.Call.the-variants.{Accepted, Refused}
@@ -60,4 +61,4 @@ discardFound ws es id message Broken = calledWith (Refused 16) ws es
 -- 3: "the event list has fewer than 2,305 places".
 unfoldable pub discard : List ℕ → List ℕ → ℕ → ℕ → CalledWith
 discard ws es id message =
-    pick (ltb (length es) 6915) (calledWith (Refused 3) ws es) (discardFound ws es id message (findStream ws id))
+    pick (ltb (length es) eventWords) (calledWith (Refused 3) ws es) (discardFound ws es id message (findStream ws id))

@@ -9,7 +9,7 @@ use message_chains::amounts::remaining;
 use message_chains::heads::drop_head;
 use message_chains::heads::head_code;
 use queue_streams::answers::Call;
-use queue_streams::events::EVENT_PLACES;
+use queue_streams::events::EVENT_WORDS;
 use queue_streams::waiting::head_size;
 use queue_streams::waiting::parameters_for;
 use queue_words::QUEUE_WORDS;
@@ -115,7 +115,7 @@ fn discard_in(
 pub fn discard(queue: &mut [u64; QUEUE_WORDS], events: &mut [u64], id: u16, message_id: u32) -> Call
     ensures { λ r. ⌜ calledWith r (now (queue .exit)) (now (events .exit)) ≡ discard (now (queue .entry)) (now (events .entry)) id «message_id» ⌝ }
 {
-    if events.len() < EVENT_PLACES {
+    if events.len() < EVENT_WORDS {
         return Call::Refused(3);
     }
     let found = find_stream(&*queue, id);

@@ -6,11 +6,12 @@ use lib.Dec.{ltb, leb}
 use Rattle.queue_model.specs.Logic.{if_then_else_}
 use Rattle.queue_model.specs.Types.{Item, Stream, Options, Queue, Event, remaining}
 
--- "Low fires when an amount goes from above its threshold to at or below it" (Rust: SubAssign of ThresholdWatcher), and tells "the amount after the fall".
+-- "Low fires when an amount goes from above its threshold to at or below it" (Rust: SubAssign of ThresholdWatcher), and tells the new amount: "the amount after the fall"
+-- (document 02, 2/13).
 unfoldable pub low-event : ℕ → ℕ → ℕ → ℕ → ℕ → List Event
 low-event kind n threshold old new = if ltb threshold old && leb new threshold then record { kind = kind; number = n; amount = new } ∷ [] else []
 
--- Kind 2, "total low (0)", when the total t falls by n bytes; and kind 1, "stream low (stream id)", when a stream's amount a does.
+-- Kind 2, "total low (0)", when the total t falls by n bytes; and kind 1, "stream low (stream id)", when a stream's amount a does. Each tells its own amount.
 unfoldable pub total-falls : Options → ℕ → ℕ → List Event
 unfolding low-event
 total-falls o t n = low-event 2 0 (o .total-threshold) t (t - n)
@@ -28,7 +29,7 @@ unfoldable pub stream-low : Stream → ℕ → List Event
 unfolding stream-falls
 stream-low s n = stream-falls s (s .amount) n
 
--- "then 3 and 4 for a drop with an id" (Rust: add_lifecycle_events); "kinds 3 and 4 carry 0".
+-- "then 3 and 4 for a drop with an id" (Rust: add_lifecycle_events); "kinds 3 and 4 carry 0" (document 02, 2/13).
 unfoldable pub lifecycle-events : ℕ → List Event
 lifecycle-events zero = []
 lifecycle-events (suc n) = record { kind = 3; number = suc n; amount = 0 } ∷ record { kind = 4; number = suc n; amount = 0 } ∷ []

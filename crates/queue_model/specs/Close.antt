@@ -31,8 +31,8 @@ dropped-bytes i = if untouched i then remaining i else 0
 abbrev pub swept-bytes : List Item → ℕ
 swept-bytes is = sum-by (λ (i : Item). dropped-bytes i) is
 
--- "closing reports stream before total": message by message stream, total, then 3 and 4, from the total t and the stream's amount a on; each event tells the amount after
--- its own message ("stepped as in the Rust"), not that after the call.
+-- "closing reports stream before total": message by message stream, total, then 3 and 4, from the total t and the stream's amount a on. So an event tells the
+-- amount after its own message ("stepped as in the Rust", document 02, 2/13) and not that after the call.
 unfoldable pub sweep-item : Options → Stream → Item → ℕ → ℕ → List Event
 unfolding untouched stream-falls total-falls lifecycle-events
 sweep-item o s i t a = if untouched i then stream-falls s a (remaining i) ++ total-falls o t (remaining i) ++ lifecycle-events (i .lifecycle-id) else []

@@ -148,8 +148,18 @@ ready-with : List Call → ℕ
 unfolding after new-queue readiness
 ready-with cs = readiness (after cs (new-queue (record { payload-limit = 1000; store-length = 100000; default-priority = 256; default-threshold = 0; total-threshold = 0; handover-with-data = false })))
 
+-- What a list of calls fires where the total has a threshold too.
+fires-at : ℕ → List Call → List ℕ
+unfolding all-events run new-queue
+fires-at t cs = all-events (run cs (new-queue (record { payload-limit = 1000; store-length = 100000; default-priority = 256; default-threshold = 0; total-threshold = t; handover-with-data = true })))
+
+-- Stream 5 with the threshold 15 and three messages of 10 bytes.
+thrice : Option ℕ → List Call
+unfolding put
+thrice l = set-threshold 2305 5 15 ∷ put 5 10 0 l ∷ put 5 10 0 l ∷ put 5 10 0 l ∷ []
+
 pub facts : List Row
-unfolding shows fires put get begun ended noted ready-with
+unfolding shows fires fires-at thrice put get begun ended noted ready-with
 facts =
     -- "a remaining half-sent one makes the stream pending"; "When a pending stream's message ends or is discarded, it is paused."
     (shows (put 5 1500 0 none ∷ get 0 1000 ∷ close 2305 5 ∷ ready-ids ∷ get 0 1000 ∷ ready-ids ∷ []) gives (begun 5 ++ ended 5 ++ (5 ∷ [])))
@@ -160,10 +170,13 @@ facts =
     ∷ (fires (noted 5 9 ∷ discard 2305 5 0 ∷ []) gives (2 ∷ 0 ∷ 0 ∷ 1 ∷ 5 ∷ 0 ∷ 3 ∷ 9 ∷ 0 ∷ 4 ∷ 9 ∷ 0 ∷ []))
     ∷ (fires (noted 5 9 ∷ close 2305 5 ∷ []) gives (1 ∷ 5 ∷ 0 ∷ 2 ∷ 0 ∷ 0 ∷ 3 ∷ 9 ∷ 0 ∷ 4 ∷ 9 ∷ 0 ∷ []))
     ∷ (fires (put 5 10 0 none ∷ get 0 10 ∷ []) gives (2 ∷ 0 ∷ 0 ∷ 1 ∷ 5 ∷ 0 ∷ []))
-    -- "the amount after the fall, stepped as in the Rust": three messages of 10 bytes closed, and dropped as expired, with the threshold 15. The stream's event comes with the
-    -- second message and tells 10, though the call goes on to 0.
-    ∷ (fires (set-threshold 2305 5 15 ∷ put 5 10 0 none ∷ put 5 10 0 none ∷ put 5 10 0 none ∷ close 2305 5 ∷ []) gives (1 ∷ 5 ∷ 10 ∷ 2 ∷ 0 ∷ 0 ∷ []))
-    ∷ (fires (set-threshold 2305 5 15 ∷ put 5 10 0 (some 0) ∷ put 5 10 0 (some 0) ∷ put 5 10 0 (some 0) ∷ get 1000000 10 ∷ []) gives (1 ∷ 5 ∷ 10 ∷ 2 ∷ 0 ∷ 0 ∷ []))
+    -- Document 02, 2/13: "the amount after the fall, stepped as in the Rust". Closed, or dropped as expired, the second message fires the stream's event, which tells 10, though
+    -- the call goes on to 0.
+    ∷ (fires (thrice none ++ (close 2305 5 ∷ [])) gives (1 ∷ 5 ∷ 10 ∷ 2 ∷ 0 ∷ 0 ∷ []))
+    ∷ (fires (thrice (some 0) ++ (get 1000000 10 ∷ [])) gives (1 ∷ 5 ∷ 10 ∷ 2 ∷ 0 ∷ 0 ∷ []))
+    -- Each event tells the amount that fell: with 7 bytes on another stream and the total's threshold 20 the same message takes the stream to 10 and the total to 17.
+    ∷ (fires-at 20 (put 6 7 0 none ∷ thrice none ++ (close 2305 5 ∷ [])) gives (1 ∷ 5 ∷ 10 ∷ 2 ∷ 0 ∷ 17 ∷ []))
+    ∷ (fires-at 20 (put 6 7 0 none ∷ thrice (some 0) ++ (get 1000000 7 ∷ [])) gives (2 ∷ 0 ∷ 17 ∷ 1 ∷ 5 ∷ 10 ∷ 1 ∷ 6 ∷ 0 ∷ []))
     -- "Readiness is 2 if handover with waiting data is off and the total is above 0, else 0."
     ∷ ((ready-with [] ∷ ready-with (put 5 10 0 none ∷ []) ∷ []) gives (0 ∷ 2 ∷ []))
     -- "the first that applies is given": of 2, 3, 4, 9 and 10; of 4 and 5.

@@ -2,7 +2,7 @@
 use mathlib.Core.Path.{_≡_, refl, sym, ap, ap₂, _∙_, subst}
 use mathlib.Core.Bool.{true}
 use mathlib.Core.List.{List, [], _∷_, _++_}
-use Prim.Native.Nat.{ℕ, _+_, _/_, _<_}
+use Prim.Native.Nat.{ℕ, _+_}
 use native.Mathlib.Omega.{arith}
 use lib.ListN.{length}
 use Rattle.queue_model.specs.Types as plain
@@ -14,7 +14,7 @@ use Rattle.queue_model.specs.Waiting.{is-waiting}
 use Rattle.queue_model.specs.FairTurns as model
 use Rattle.queue_model.proofs.Invariant.Sixteen.{reachable-options}
 use Rattle.queue_model.proofs.FairTurns.Theorem as theorem
-use Rattle.queue_model.proofs.FairTurns.Seen.{BothOpen, open-on, both-wait}
+use Rattle.queue_streams.specs.Events.{placesIn}
 use Rattle.queue_streams.specs.declared.answers.Number.the-variants as number-answer
 use Rattle.queue_questions.specs.Questions.{priorityOf, amountOf}
 use Rattle.queue_state.specs.Promise.{numberOf}
@@ -40,8 +40,8 @@ use Rattle.queue_runs.proofs.Account.{sent-handed, value-is}
 allowed-link : (c : Call) (s : State) → Allowed s c → model.Allowed (queueOf s) (callOf (length (s .store)) c)
 allowed-link c s (adds time m payload) = model.adds (length (s .store)) time (messageOf m payload)
 allowed-link c s (sends es bs time e) =
-    subst (λ (n : ℕ). model.Allowed (queueOf s) (run.produce (length (s .store)) (length es / 3) (length bs) time n)) (ap (λ (o : plain.Options). o .payload-limit) (model-options (s .words) (s .store)))
-    (model.sends (length (s .store)) (length es / 3) (length bs) time e)
+    subst (λ (n : ℕ). model.Allowed (queueOf s) (run.produce (length (s .store)) (placesIn es) (length bs) time n)) (ap (λ (o : plain.Options). o .payload-limit) (model-options (s .words) (s .store)))
+    (model.sends (length (s .store)) (placesIn es) (length bs) time e)
 
 turn-link : (c : Call) (s : State) → Good s → Turn c s → model.Turn (callOf (length (s .store)) c) (queueOf s)
 turn-link c s g t = record { typed = typed-call (length (s .store)) c (store-small s g) (t .typed); allowed = allowed-link c s (t .allowed); below = t .below }

@@ -24,6 +24,7 @@ use Rattle.payload_store.specs.Reading.{readCode}
 use Rattle.stream_scheduler.specs.Words.{removeStream, peekWords}
 use Rattle.stream_scheduler.specs.declared.Peeked.{Peeked}
 use Rattle.stream_scheduler.specs.declared.Peeked.the-variants as peeked
+use Rattle.queue_streams.specs.Events.{eventWords}
 use Rattle.queue_streams.specs.Known.{lookUp, placeOf, newStream}
 use Rattle.queue_streams.specs.Restart.{reopen, setInterleaving, alike}
 use Rattle.queue_streams.specs.Settings.{Called, called, CalledWith, calledWith, setPriority, priorityIn, setThreshold, thresholdIn, raised}
@@ -180,7 +181,7 @@ loud-code l n ws es y h g = go (ltb 0 n) h
 
 threshold-listed : (ws es : List ℕ) (id t : ℕ) → Loud (3 ∷ 6 ∷ 16 ∷ []) (setThreshold ws es id t)
 unfolding setThreshold Placed
-threshold-listed ws es id t = loud-pick _ (ltb (length es) 6915) _ _ (loud-refused _ 3 ws es refl) (go (lookUp ws id) (look-listed (3 ∷ 6 ∷ 16 ∷ []) ws id refl refl))
+threshold-listed ws es id t = loud-pick _ (ltb (length es) eventWords) _ _ (loud-refused _ 3 ws es refl) (go (lookUp ws id) (look-listed (3 ∷ 6 ∷ 16 ∷ []) ws id refl refl))
   where
     go : (x : Place) → Placed (3 ∷ 6 ∷ 16 ∷ []) x → Loud (3 ∷ 6 ∷ 16 ∷ []) (thresholdIn ws es id t x)
     go (place.Row r) h = loud-pick _ (raised (streamAt ws r .«buffered_amount») (streamAt ws r .«low_threshold») t) _ _ (loud-done _ 1 _ _) (loud-done _ 0 _ _)
@@ -205,7 +206,7 @@ head-code l h ws s p next n =
 
 discard-listed : (ws es : List ℕ) (id k : ℕ) → Loud (3 ∷ 16 ∷ []) (discarding.discard ws es id k)
 unfolding discarding.discard discarding.discardIn discarding.headDiscarded discarding.behindDropped
-discard-listed ws es id k = loud-pick _ (ltb (length es) 6915) _ _ (loud-refused _ 3 ws es refl) (go (findStream ws id))
+discard-listed ws es id k = loud-pick _ (ltb (length es) eventWords) _ _ (loud-refused _ 3 ws es refl) (go (findStream ws id))
   where
     head : (row : ℕ) (s : OutgoingStream) (m : Item) → Loud (3 ∷ 16 ∷ []) (discarding.headDiscarded ws es id row s m)
     head row s m =
@@ -222,7 +223,7 @@ discard-listed ws es id k = loud-pick _ (ltb (length es) 6915) _ _ (loud-refused
 
 close-listed : (ws es : List ℕ) (id : ℕ) → Loud (3 ∷ 6 ∷ 16 ∷ []) (closing.close ws es id)
 unfolding closing.close closing.closeIn closing.closeOpen closing.closeBehind closing.closeWhole Placed
-close-listed ws es id = loud-pick _ (ltb (length es) 6915) _ _ (loud-refused _ 3 ws es refl) (go (lookUp ws id) (look-listed (3 ∷ 6 ∷ 16 ∷ []) ws id refl refl))
+close-listed ws es id = loud-pick _ (ltb (length es) eventWords) _ _ (loud-refused _ 3 ws es refl) (go (lookUp ws id) (look-listed (3 ∷ 6 ∷ 16 ∷ []) ws id refl refl))
   where
     go : (x : Place) → Placed (3 ∷ 6 ∷ 16 ∷ []) x → Loud (3 ∷ 6 ∷ 16 ∷ []) (closing.closeAt ws es id x)
     go (place.Row row) h =
@@ -459,7 +460,7 @@ produce-code : (ws : List ℕ) (len places room time size : ℕ) → Code sendin
 unfolding produceCode
 produce-code ws len places room time size =
     code-pick sending (eqb (optionsAt ws .«store_length») len) _ _
-    (code-pick sending (ltb places 6915) _ _ (code-in sending 3 refl)
+    (code-pick sending (ltb places eventWords) _ _ (code-in sending 3 refl)
     (code-pick sending (ltb 4611686018427387903 time) _ _ (code-in sending 4 refl)
     (code-pick sending (eqb size 0) _ _ (code-in sending 9 refl)
     (code-pick sending (ltb 262144 size) _ _ (code-in sending 9 refl)

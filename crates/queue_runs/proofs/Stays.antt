@@ -17,6 +17,7 @@ use Rattle.queue_words.specs.declared.known.Found.{Found}
 use Rattle.queue_words.specs.declared.known.Found.the-variants as found
 use Rattle.queue_words.specs.declared.streams.OutgoingStream.{OutgoingStream}
 use Rattle.stream_scheduler.specs.Words.{removeStream}
+use Rattle.queue_streams.specs.Events.{eventWords}
 use Rattle.queue_streams.specs.Known.{lookUp, newStream}
 use Rattle.queue_streams.specs.Restart.{reopen, setInterleaving, alike}
 use Rattle.queue_streams.specs.Settings.{Called, called, CalledWith, calledWith, setPriority, priorityIn, setThreshold, thresholdIn, raised}
@@ -104,7 +105,7 @@ loud-done ws es us vs k e = not-refused e
 
 threshold-stays : (ws es : List ℕ) (id t : ℕ) → Loud ws es (setThreshold ws es id t)
 unfolding setThreshold
-threshold-stays ws es id t = loud-pick ws es (ltb (length es) 6915) _ _ (loud-refused ws es 3) (go (lookUp ws id))
+threshold-stays ws es id t = loud-pick ws es (ltb (length es) eventWords) _ _ (loud-refused ws es 3) (go (lookUp ws id))
   where
     go : (x : Place) → Loud ws es (thresholdIn ws es id t x)
     go (place.Row r) = loud-pick ws es (raised (streamAt ws r .«buffered_amount») (streamAt ws r .«low_threshold») t) _ _ (loud-done ws es _ _ 1) (loud-done ws es _ _ 0)
@@ -113,7 +114,7 @@ threshold-stays ws es id t = loud-pick ws es (ltb (length es) 6915) _ _ (loud-re
 
 discard-stays : (ws es : List ℕ) (id k : ℕ) → Loud ws es (discarding.discard ws es id k)
 unfolding discarding.discard discarding.discardIn discarding.headDiscarded discarding.behindDropped
-discard-stays ws es id k = loud-pick ws es (ltb (length es) 6915) _ _ (loud-refused ws es 3) (go (findStream ws id))
+discard-stays ws es id k = loud-pick ws es (ltb (length es) eventWords) _ _ (loud-refused ws es 3) (go (findStream ws id))
   where
     head : (row : ℕ) (s : OutgoingStream) (m : Item) → Loud ws es (discarding.headDiscarded ws es id row s m)
     head row s m =
@@ -130,7 +131,7 @@ discard-stays ws es id k = loud-pick ws es (ltb (length es) 6915) _ _ (loud-refu
 
 close-stays : (ws es : List ℕ) (id : ℕ) → Loud ws es (closing.close ws es id)
 unfolding closing.close closing.closeIn closing.closeOpen closing.closeBehind closing.closeWhole
-close-stays ws es id = loud-pick ws es (ltb (length es) 6915) _ _ (loud-refused ws es 3) (go (lookUp ws id))
+close-stays ws es id = loud-pick ws es (ltb (length es) eventWords) _ _ (loud-refused ws es 3) (go (lookUp ws id))
   where
     go : (x : Place) → Loud ws es (closing.closeAt ws es id x)
     go (place.Row row) =

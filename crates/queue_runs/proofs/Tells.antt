@@ -9,7 +9,7 @@ use lib.ListN.{length, getD, set, length-set, take, drop}
 use lib.Seq.{getD-set-same, getD-set-other, take-append-seam}
 use Rattle.types.specs.Keys.{key-of, key-id, key-unordered}
 use Rattle.queue_model.specs.Types.{Event, Fragment, refused, done, number, flag, ids, fragment, nothing-waits, Outcome}
-use Rattle.queue_streams.specs.Events.{putEvent, written}
+use Rattle.queue_streams.specs.Events.{placeWords, eventWords, putEvent, written}
 use Rattle.queue_restarts.specs.declared.ready.ReadyStreams.{ReadyStreams}
 use Rattle.queue_sending.specs.declared.data.DataToSend.{DataToSend}
 use Rattle.queue_sending.specs.declared.data.Produced.{Produced}
@@ -29,54 +29,54 @@ use Rattle.queue_runs.proofs.Forms.{told, Quiet, Loud, Sent, Ids, Form}
 -- The n events from place k on.
 readBack : List ℕ → ℕ → ℕ → List Event
 readBack ws k zero = []
-readBack ws k (suc n) = record { kind = getD ws (k * 3) 0; number = getD ws (k * 3 + 1) 0; amount = getD ws (k * 3 + 2) 0 } ∷ readBack ws (suc k) n
+readBack ws k (suc n) = record { kind = getD ws (k * placeWords) 0; number = getD ws (k * placeWords + 1) 0; amount = getD ws (k * placeWords + 2) 0 } ∷ readBack ws (suc k) n
 
 put-length : (es : List ℕ) (k a b c : ℕ) → length (putEvent es k a b c) ≡ length es
 unfolding putEvent
-put-length es k a b c = length-set (set (set es (k * 3) a) (k * 3 + 1) b) (k * 3 + 2) c ∙ length-set (set es (k * 3) a) (k * 3 + 1) b ∙ length-set es (k * 3) a
+put-length es k a b c = length-set (set (set es (k * placeWords) a) (k * placeWords + 1) b) (k * placeWords + 2) c ∙ length-set (set es (k * placeWords) a) (k * placeWords + 1) b ∙ length-set es (k * placeWords) a
 
-put-before : (es : List ℕ) (k a b c j : ℕ) → j < k * 3 → getD (putEvent es k a b c) j 0 ≡ getD es j 0
+put-before : (es : List ℕ) (k a b c j : ℕ) → j < k * placeWords → getD (putEvent es k a b c) j 0 ≡ getD es j 0
 unfolding putEvent
 put-before es k a b c j h =
-    getD-set-other (set (set es (k * 3) a) (k * 3 + 1) b) (k * 3 + 2) j c 0 (λ e. omega arith) ∙ getD-set-other (set es (k * 3) a) (k * 3 + 1) j b 0 (λ e. omega arith) ∙ getD-set-other es (k * 3) j a 0 (λ e. omega arith)
+    getD-set-other (set (set es (k * placeWords) a) (k * placeWords + 1) b) (k * placeWords + 2) j c 0 (λ e. omega arith) ∙ getD-set-other (set es (k * placeWords) a) (k * placeWords + 1) j b 0 (λ e. omega arith) ∙ getD-set-other es (k * placeWords) j a 0 (λ e. omega arith)
 
-put-kind : (es : List ℕ) (k a b c : ℕ) → k * 3 < length es → getD (putEvent es k a b c) (k * 3) 0 ≡ a
+put-kind : (es : List ℕ) (k a b c : ℕ) → k * placeWords < length es → getD (putEvent es k a b c) (k * placeWords) 0 ≡ a
 unfolding putEvent
 put-kind es k a b c h =
-    getD-set-other (set (set es (k * 3) a) (k * 3 + 1) b) (k * 3 + 2) (k * 3) c 0 (λ e. omega arith) ∙ getD-set-other (set es (k * 3) a) (k * 3 + 1) (k * 3) b 0 (λ e. omega arith) ∙ getD-set-same es (k * 3) a 0 h
+    getD-set-other (set (set es (k * placeWords) a) (k * placeWords + 1) b) (k * placeWords + 2) (k * placeWords) c 0 (λ e. omega arith) ∙ getD-set-other (set es (k * placeWords) a) (k * placeWords + 1) (k * placeWords) b 0 (λ e. omega arith) ∙ getD-set-same es (k * placeWords) a 0 h
 
-put-number : (es : List ℕ) (k a b c : ℕ) → k * 3 + 1 < length es → getD (putEvent es k a b c) (k * 3 + 1) 0 ≡ b
+put-number : (es : List ℕ) (k a b c : ℕ) → k * placeWords + 1 < length es → getD (putEvent es k a b c) (k * placeWords + 1) 0 ≡ b
 unfolding putEvent
 put-number es k a b c h =
-    let l = length-set es (k * 3) a in
-    getD-set-other (set (set es (k * 3) a) (k * 3 + 1) b) (k * 3 + 2) (k * 3 + 1) c 0 (λ e. omega arith) ∙ getD-set-same (set es (k * 3) a) (k * 3 + 1) b 0 (omega arith)
+    let l = length-set es (k * placeWords) a in
+    getD-set-other (set (set es (k * placeWords) a) (k * placeWords + 1) b) (k * placeWords + 2) (k * placeWords + 1) c 0 (λ e. omega arith) ∙ getD-set-same (set es (k * placeWords) a) (k * placeWords + 1) b 0 (omega arith)
 
-put-amount : (es : List ℕ) (k a b c : ℕ) → k * 3 + 2 < length es → getD (putEvent es k a b c) (k * 3 + 2) 0 ≡ c
+put-amount : (es : List ℕ) (k a b c : ℕ) → k * placeWords + 2 < length es → getD (putEvent es k a b c) (k * placeWords + 2) 0 ≡ c
 unfolding putEvent
 put-amount es k a b c h =
-    let l = length-set es (k * 3) a in let m = length-set (set es (k * 3) a) (k * 3 + 1) b in getD-set-same (set (set es (k * 3) a) (k * 3 + 1) b) (k * 3 + 2) c 0 (omega arith)
+    let l = length-set es (k * placeWords) a in let m = length-set (set es (k * placeWords) a) (k * placeWords + 1) b in getD-set-same (set (set es (k * placeWords) a) (k * placeWords + 1) b) (k * placeWords + 2) c 0 (omega arith)
 
 -- Places before the events are as they were.
-before : (vs : List Event) (es : List ℕ) (k j : ℕ) → j < k * 3 → getD (written es k vs) j 0 ≡ getD es j 0
+before : (vs : List Event) (es : List ℕ) (k j : ℕ) → j < k * placeWords → getD (written es k vs) j 0 ≡ getD es j 0
 unfolding written
 before [] es k j h = refl
 before (e ∷ vs) es k j h = before vs (putEvent es k (e .kind) (e .number) (e .amount)) (suc k) j (omega arith) ∙ put-before es k (e .kind) (e .number) (e .amount) j h
 
 -- Written events can be read back.
-back : (vs : List Event) (es : List ℕ) (k : ℕ) → (k + length vs) * 3 ≤ length es → readBack (written es k vs) k (length vs) ≡ vs
+back : (vs : List Event) (es : List ℕ) (k : ℕ) → (k + length vs) * placeWords ≤ length es → readBack (written es k vs) k (length vs) ≡ vs
 unfolding readBack written
 back [] es k h = refl
 back (e ∷ vs) es k h =
     let us : List ℕ = putEvent es k (e .kind) (e .number) (e .amount) in
     let l : length us ≡ length es = put-length es k (e .kind) (e .number) (e .amount) in
-    let a : getD (written us (suc k) vs) (k * 3) 0 ≡ e .kind = before vs us (suc k) (k * 3) (omega arith) ∙ put-kind es k (e .kind) (e .number) (e .amount) (omega arith) in
-    let b : getD (written us (suc k) vs) (k * 3 + 1) 0 ≡ e .number = before vs us (suc k) (k * 3 + 1) (omega arith) ∙ put-number es k (e .kind) (e .number) (e .amount) (omega arith) in
-    let d : getD (written us (suc k) vs) (k * 3 + 2) 0 ≡ e .amount = before vs us (suc k) (k * 3 + 2) (omega arith) ∙ put-amount es k (e .kind) (e .number) (e .amount) (omega arith) in
+    let a : getD (written us (suc k) vs) (k * placeWords) 0 ≡ e .kind = before vs us (suc k) (k * placeWords) (omega arith) ∙ put-kind es k (e .kind) (e .number) (e .amount) (omega arith) in
+    let b : getD (written us (suc k) vs) (k * placeWords + 1) 0 ≡ e .number = before vs us (suc k) (k * placeWords + 1) (omega arith) ∙ put-number es k (e .kind) (e .number) (e .amount) (omega arith) in
+    let d : getD (written us (suc k) vs) (k * placeWords + 2) 0 ≡ e .amount = before vs us (suc k) (k * placeWords + 2) (omega arith) ∙ put-amount es k (e .kind) (e .number) (e .amount) (omega arith) in
     let c : readBack (written us (suc k) vs) (suc k) (length vs) ≡ vs = back vs us (suc k) (omega arith) in
     λ i. record { kind = a i; number = b i; amount = d i } ∷ c i
 
 -- A list long enough, with a known count of events, tells the events.
-pub events-tell : (es : List ℕ) (us vs : List Event) → 6915 ≤ length es → length us ≤ 2305 → length us ≡ length vs → written es 0 us ≡ written es 0 vs → us ≡ vs
+pub events-tell : (es : List ℕ) (us vs : List Event) → eventWords ≤ length es → length us ≤ 2305 → length us ≡ length vs → written es 0 us ≡ written es 0 vs → us ≡ vs
 events-tell es us vs h f n e =
     sym (back us es 0 (omega arith)) ∙ ap₂ (λ (ws : List ℕ) (k : ℕ). readBack ws 0 k) e n ∙ back vs es 0 (omega arith)
 
@@ -134,7 +134,7 @@ quiet-tell o p (form.quiet-refused n) form.quiet-done e = let a = answers e in l
 quiet-tell o p form.quiet-done (form.quiet-refused m) e = let a = answers e in let z : _≡_ {A = ℕ} 0 1 = cc in absurd (omega arith)
 quiet-tell o p form.quiet-done form.quiet-done e = refl
 
-loud-tell : (es : List ℕ) (o p : Outcome) → 6915 ≤ length es → length (o .events) ≤ 2305 → Loud o → Loud p → loudOf es o ≡ loudOf es p → o ≡ p
+loud-tell : (es : List ℕ) (o p : Outcome) → eventWords ≤ length es → length (o .events) ≤ 2305 → Loud o → Loud p → loudOf es o ≡ loudOf es p → o ≡ p
 loud-tell es o p h f (form.loud-refused n) (form.loud-refused m) e = let a = answers e in let z : n ≡ m = cc in ap (λ (k : ℕ). told (refused k) []) z
 loud-tell es o p h f (form.loud-refused n) (form.loud-done vs) e = let a = answers e in let z : _≡_ {A = ℕ} 0 1 = cc in absurd (omega arith)
 loud-tell es o p h f (form.loud-done us) (form.loud-refused m) e = let a = answers e in let z : _≡_ {A = ℕ} 0 1 = cc in absurd (omega arith)
@@ -142,7 +142,7 @@ loud-tell es o p h f (form.loud-done us) (form.loud-done vs) e =
     let a = answers e in let z : length us ≡ length vs = cc in
     ap (told done) (events-tell es us vs h f z (ap (λ (x : Shown). x .events) e))
 
-sent-tell : (es bs : List ℕ) (o p : Outcome) → 6915 ≤ length es → length (o .events) ≤ 2305 → Sent o → Sent p → sentOf es bs o ≡ sentOf es bs p → o ≡ p
+sent-tell : (es bs : List ℕ) (o p : Outcome) → eventWords ≤ length es → length (o .events) ≤ 2305 → Sent o → Sent p → sentOf es bs o ≡ sentOf es bs p → o ≡ p
 sent-tell es bs o p h f (form.sent-refused n) (form.sent-refused m) e = let a = answers e in let z : n ≡ m = cc in ap (λ (k : ℕ). told (refused k) []) z
 sent-tell es bs o p h f (form.sent-refused n) (form.sent-nothing vs) e = let a = answers e in let z : _≡_ {A = ℕ} 0 1 = cc in absurd (omega arith)
 sent-tell es bs o p h f (form.sent-refused n) (form.sent-fragment y vs) e = let a = answers e in let z : _≡_ {A = ℕ} 0 1 = cc in absurd (omega arith)
@@ -208,14 +208,14 @@ truth-tell o p (form.flag-told n) (form.flag-told m) e = ap (λ (k : Bool). told
 -- The lent list of events has the places that a call asks for.
 abbrev pub Long : Call → Type 0
 Long (calls.add time m payload) = Unit {0}
-Long (calls.produce es bs time size) = 6915 ≤ length es
-Long (calls.discard es id k) = 6915 ≤ length es
-Long (calls.close es id) = 6915 ≤ length es
+Long (calls.produce es bs time size) = eventWords ≤ length es
+Long (calls.discard es id k) = eventWords ≤ length es
+Long (calls.close es id) = eventWords ≤ length es
 Long calls.ready-ids = Unit {0}
 Long calls.commit = Unit {0}
 Long calls.rollback = Unit {0}
 Long calls.reset = Unit {0}
-Long (calls.set-threshold es id t) = 6915 ≤ length es
+Long (calls.set-threshold es id t) = eventWords ≤ length es
 Long (calls.set-priority id p) = Unit {0}
 Long (calls.set-interleaving b) = Unit {0}
 Long (calls.restore time image) = Unit {0}

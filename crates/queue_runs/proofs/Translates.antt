@@ -3,7 +3,7 @@ use mathlib.Core.Path.{_≡_, refl, sym, ap, ap₂, subst, _∙_}
 use mathlib.Core.Bool.{true, false, not}
 use mathlib.Core.List.{List, []}
 use mathlib.Core.Option.{Option, none, some, Option·getD}
-use Prim.Native.Nat.{ℕ, _^_, _/_, _≤_, _<_, zero, suc}
+use Prim.Native.Nat.{ℕ, _^_, _≤_, _<_, zero, suc}
 use native.Mathlib.Omega.{arith}
 use borrow.Author.Tests.{lt-ltb, le-ltb, eq-eqb, ne-eqb}
 use lib.Dec.{T, eqb, ltb}
@@ -25,6 +25,7 @@ use Rattle.queue_model.specs.Settings as settings
 use Rattle.queue_model.specs.Image.{Handover}
 use Rattle.queue_model.specs.Restore as restore
 use Rattle.queue_model.proofs.Checks.{restore-of}
+use Rattle.queue_streams.specs.Events.{eventWords, placesIn}
 use Rattle.queue_messages.specs.declared.message.Lifetime.{Lifetime}
 use Rattle.queue_messages.specs.declared.message.Lifetime.the-variants as life
 use Rattle.queue_messages.specs.declared.message.MaxRetransmissions.{MaxRetransmissions}
@@ -103,11 +104,11 @@ add-code now m = pick (ltb max-time now) 4 (pick (ltb max-time (Option·getD (m 
 
 -- 2,305 places.
 places : List ℕ
-places = replicate 6915 0
+places = replicate eventWords 0
 
-places-long : length places ≡ 6915
+places-long : length places ≡ eventWords
 unfolding places
-places-long = length-replicate {A = ℕ} 6915 0
+places-long = length-replicate {A = ℕ} eventWords 0
 
 pub places-words : (n : ℕ) → T (areWords (replicate n 0))
 places-words zero = tt
@@ -119,10 +120,10 @@ zero-bytes (suc n) = zero-bytes n
 
 places-lent : Words places
 unfolding places
-places-lent = (let e = places-long in omega arith, places-words 6915)
+places-lent = (let e = places-long in omega arith, places-words eventWords)
 
-enough : ltb (length places / 3) 2305 ≡ false
-enough = le-ltb (length places / 3) 2305 (let e = places-long in omega arith)
+enough : ltb (placesIn places) 2305 ≡ false
+enough = le-ltb (placesIn places) 2305 (let e = places-long in omega arith)
 
 -- ------------------------------------------------------------------ steps that do not see how many places more there are
 
@@ -209,21 +210,21 @@ translate len (run.produce store p buffer now size) t = by-index store len
     let bs : List ℕ = replicate buffer 0 in
     let lb : length bs ≡ buffer = length-replicate {A = ℕ} buffer 0 in
     stands-for (calls.produce places bs now size) (places-lent, ((subst (λ (n : ℕ). n < 2 ^ 64) (sym lb) (t .1 .1 .0), zero-bytes buffer), t .1 .1 .1)) (omega arith)
-    (λ q. ap₂ (λ (n k : ℕ). run.step (run.produce n (length places / 3) k now size) q) (sym e) lb ∙ produce-places q store (length places / 3) p buffer now size (enough ∙ sym (le-ltb p 2305 f)))))
+    (λ q. ap₂ (λ (n k : ℕ). run.step (run.produce n (placesIn places) k now size) q) (sym e) lb ∙ produce-places q store (placesIn places) p buffer now size (enough ∙ sym (le-ltb p 2305 f)))))
     (λ e. left-out 2 (λ q h. produce-other q store len p buffer now size e h))
 translate len (run.discard p s k) t = by-lt p 2305
     (λ f. left-out 3 (λ q h. discard-few q p s k f))
-    (λ f. let lp = places-long in stands-for (calls.discard places s k) (places-lent, t .1) (omega arith) (λ q. discard-places q (length places / 3) p s k (enough ∙ sym (le-ltb p 2305 f))))
+    (λ f. let lp = places-long in stands-for (calls.discard places s k) (places-lent, t .1) (omega arith) (λ q. discard-places q (placesIn places) p s k (enough ∙ sym (le-ltb p 2305 f))))
 translate len (run.close p s) t = by-lt p 2305
     (λ f. left-out 3 (λ q h. close-few q p s f))
-    (λ f. let lp = places-long in stands-for (calls.close places s) (places-lent, t .1) (omega arith) (λ q. close-places q (length places / 3) p s (enough ∙ sym (le-ltb p 2305 f))))
+    (λ f. let lp = places-long in stands-for (calls.close places s) (places-lent, t .1) (omega arith) (λ q. close-places q (placesIn places) p s (enough ∙ sym (le-ltb p 2305 f))))
 translate len run.ready-ids t = same len calls.ready-ids run.ready-ids t tt refl
 translate len run.commit t = same len calls.commit run.commit t tt refl
 translate len run.rollback t = same len calls.rollback run.rollback t tt refl
 translate len run.reset t = same len calls.reset run.reset t tt refl
 translate len (run.set-threshold p s n) t = by-lt p 2305
     (λ f. left-out 3 (λ q h. threshold-few q p s n f))
-    (λ f. let lp = places-long in stands-for (calls.set-threshold places s n) (places-lent, t .1) (omega arith) (λ q. threshold-places q (length places / 3) p s n (enough ∙ sym (le-ltb p 2305 f))))
+    (λ f. let lp = places-long in stands-for (calls.set-threshold places s n) (places-lent, t .1) (omega arith) (λ q. threshold-places q (placesIn places) p s n (enough ∙ sym (le-ltb p 2305 f))))
 translate len (run.set-priority s p) t = same len (calls.set-priority s p) (run.set-priority s p) t tt refl
 translate len (run.set-interleaving b) t = same len (calls.set-interleaving b) (run.set-interleaving b) t tt refl
 translate len (run.restore store now image) t = by-index store len

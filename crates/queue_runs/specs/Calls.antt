@@ -1,5 +1,5 @@
 -- The calls on a queue other than saving, with their arguments, and what they show. Assumes nothing.
-use Prim.Native.Nat.{ℕ, _/_, _<_, _^_}
+use Prim.Native.Nat.{ℕ, _<_, _^_}
 use mathlib.Core.Bool.{Bool, true, _&&_}
 use mathlib.Core.List.{List, [], _∷_}
 use lib.Dec.{T, ltb}
@@ -7,6 +7,7 @@ use lib.ListN.{length}
 use lib.Pow.{areBytes}
 use Rattle.queue_model.specs.Run as run
 use Rattle.queue_model.specs.Demands.{MessageTyped}
+use Rattle.queue_streams.specs.Events.{placesIn}
 use Rattle.queue_streams.specs.declared.answers.Call as answer
 use Rattle.queue_streams.specs.declared.answers.Flag.{Flag}
 use Rattle.queue_streams.specs.declared.answers.Number.{Number}
@@ -29,17 +30,17 @@ pub data Call : Type 0 where
   ask-priority ask-amount ask-threshold : (id : ℕ) → Call
   ask-total ask-empty ask-has-data ask-streams-ready ask-readiness : Call
 
--- The model's call, on a queue whose store has this length: a place of the event list is three words.
+-- The model's call, on a queue whose store has this length.
 abbrev pub callOf : ℕ → Call → run.Call
 callOf len (add time m payload) = run.add len time (messageOf m payload)
-callOf len (produce es bs time size) = run.produce len (length es / 3) (length bs) time size
-callOf len (discard es id k) = run.discard (length es / 3) id k
-callOf len (close es id) = run.close (length es / 3) id
+callOf len (produce es bs time size) = run.produce len (placesIn es) (length bs) time size
+callOf len (discard es id k) = run.discard (placesIn es) id k
+callOf len (close es id) = run.close (placesIn es) id
 callOf len ready-ids = run.ready-ids
 callOf len commit = run.commit
 callOf len rollback = run.rollback
 callOf len reset = run.reset
-callOf len (set-threshold es id t) = run.set-threshold (length es / 3) id t
+callOf len (set-threshold es id t) = run.set-threshold (placesIn es) id t
 callOf len (set-priority id p) = run.set-priority id p
 callOf len (set-interleaving b) = run.set-interleaving b
 callOf len (restore time image) = run.restore len time image

@@ -14,7 +14,7 @@ use Rattle.queue_words.specs.Items.{itemAt}
 use Rattle.queue_words.specs.Streams.{streamAt}
 use Rattle.queue_words.specs.declared.items.Item.{Item}
 use Rattle.queue_words.specs.declared.streams.OutgoingStream.{OutgoingStream}
-use Rattle.queue_streams.specs.Events.{putEvent}
+use Rattle.queue_streams.specs.Events.{placeWords, eventWords, putEvent}
 use Rattle.queue_streams.specs.Settings.{CalledWith, calledWith}
 use Rattle.queue_streams.specs.Waiting.{rescheduled}
 use Rattle.queue_streams.specs.declared.answers.Call.{Call}
@@ -46,7 +46,7 @@ put-length es k kind number amount = simp length-set refl
 noted-length : (es : List ℕ) (k kind number amount : ℕ) → length (noted es k kind number amount .events) ≡ length es
 unfolding noted
 noted-length es k kind number amount =
-    pick-length (ltb 2304 k) _ _ _ refl (pick-length (ltb (length es) 6915) _ (notes (putEvent es k kind number amount) (k + 1)) _ refl (put-length es k kind number amount))
+    pick-length (ltb 2304 k) _ _ _ refl (pick-length (ltb (length es) eventWords) _ (notes (putEvent es k kind number amount) (k + 1)) _ refl (put-length es k kind number amount))
 
 low-length : (es : List ℕ) (k kind number threshold old new : ℕ) → length (lowNoted es k kind number threshold old new .events) ≡ length es
 unfolding lowNoted
@@ -88,16 +88,16 @@ expired-length ws es k id row =
 
 -- ------------------------------------------------------------------ the count
 
-noted-count : (es : List ℕ) (k kind number amount : ℕ) → 6915 ≤ length es → k ≤ 2304 → noted es k kind number amount .count ≤ k + 1
+noted-count : (es : List ℕ) (k kind number amount : ℕ) → eventWords ≤ length es → k ≤ 2304 → noted es k kind number amount .count ≤ k + 1
 unfolding noted
-noted-count es k kind number amount h g = by (ltb 2304 k) (ltb (length es) 6915) refl refl
+noted-count es k kind number amount h g = by (ltb 2304 k) (ltb (length es) eventWords) refl refl
   where
-    by : (a b : Bool) → ltb 2304 k ≡ a → ltb (length es) 6915 ≡ b → pick a (notes es 2306) (pick b (notes es 2306) (notes (putEvent es k kind number amount) (k + 1))) .count ≤ k + 1
+    by : (a b : Bool) → ltb 2304 k ≡ a → ltb (length es) eventWords ≡ b → pick a (notes es 2306) (pick b (notes es 2306) (notes (putEvent es k kind number amount) (k + 1))) .count ≤ k + 1
     by true b e f = absurd (omega (arith, ltb-true 2304 k e))
-    by false true e f = absurd (omega (arith, ltb-true (length es) 6915 f))
+    by false true e f = absurd (omega (arith, ltb-true (length es) eventWords f))
     by false false e f = omega arith
 
-low-count : (es : List ℕ) (k kind number threshold old new : ℕ) → 6915 ≤ length es → k ≤ 2304 → lowNoted es k kind number threshold old new .count ≤ k + 1
+low-count : (es : List ℕ) (k kind number threshold old new : ℕ) → eventWords ≤ length es → k ≤ 2304 → lowNoted es k kind number threshold old new .count ≤ k + 1
 unfolding lowNoted
 low-count es k kind number threshold old new h g = by (leb old threshold) (ltb threshold new)
   where
@@ -106,7 +106,7 @@ low-count es k kind number threshold old new h g = by (leb old threshold) (ltb t
     by false true = omega arith
     by false false = noted-count es k kind number new h g
 
-total-count : (ws es : List ℕ) (k n : ℕ) → 6915 ≤ length es → k ≤ 2304 → totalNotes ws es k n .count ≤ k + 1
+total-count : (ws es : List ℕ) (k n : ℕ) → eventWords ≤ length es → k ≤ 2304 → totalNotes ws es k n .count ≤ k + 1
 unfolding totalNotes
 total-count ws es k n h g = low-count es k 2 0 (optionsAt ws .«total_threshold») (totalsAt ws .total) (totalsAt ws .total - n) h g
 
@@ -115,11 +115,11 @@ unfolding totalNotes
 total-length ws es k n = low-length es k 2 0 (optionsAt ws .«total_threshold») (totalsAt ws .total) (totalsAt ws .total - n)
 
 -- Sending reports at most two events.
-pub sent-count : (ws es : List ℕ) (k id : ℕ) (s : OutgoingStream) (n : ℕ) → 6915 ≤ length es → k ≤ 2303 → sentNotes ws es k id s n .count ≤ k + 2
+pub sent-count : (ws es : List ℕ) (k id : ℕ) (s : OutgoingStream) (n : ℕ) → eventWords ≤ length es → k ≤ 2303 → sentNotes ws es k id s n .count ≤ k + 2
 unfolding sentNotes streamNotes
 sent-count ws es k id s n h g =
     let a : totalNotes ws es k n .count ≤ k + 1 = total-count ws es k n h (omega arith) in
-    let l : 6915 ≤ length (totalNotes ws es k n .events) = omega (arith, h, total-length ws es k n) in
+    let l : eventWords ≤ length (totalNotes ws es k n .events) = omega (arith, h, total-length ws es k n) in
     omega (arith, a, low-count (totalNotes ws es k n .events) (totalNotes ws es k n .count) 1 id (s .«low_threshold») (s .«buffered_amount») (s .«buffered_amount» - n) l (omega (arith, a, g)))
 
 -- The events that an answer counts.
@@ -139,7 +139,7 @@ few-pick : (b : Bool) (p q : ProducedWith) → (b ≡ true → Few p) → (b ≡
 few-pick true p q f g = f refl
 few-pick false p q f g = g refl
 
-sent-few : (ws st es bs : List ℕ) (k at id row : ℕ) (s : OutgoingStream) (m : Item) (n : ℕ) → 6915 ≤ length es → k ≤ 2303 → Few (sent ws st es bs k at id row s m n)
+sent-few : (ws st es bs : List ℕ) (k at id row : ℕ) (s : OutgoingStream) (m : Item) (n : ℕ) → eventWords ≤ length es → k ≤ 2303 → Few (sent ws st es bs k at id row s m n)
 unfolding sent
 sent-few ws st es bs k at id row s m n h g =
     few-pick (ltb 0 (sendCode ws (length st) s m n (length bs))) (refusedWith (sendCode ws (length st) s m n (length bs)) ws es bs)
@@ -148,7 +148,7 @@ sent-few ws st es bs k at id row s m n h g =
     (λ e. few-refused (sendCode ws (length st) s m n (length bs)) ws es bs)
     (λ e. omega (arith, g, sent-count ws es k id s n h g))
 
-hand-few : (ws st es bs : List ℕ) (size k at id row : ℕ) → 6915 ≤ length es → Few (handedOut ws st es bs size k at id row)
+hand-few : (ws st es bs : List ℕ) (size k at id row : ℕ) → eventWords ≤ length es → Few (handedOut ws st es bs size k at id row)
 unfolding handedOut
 hand-few ws st es bs size k at id row h =
     few-pick (ltb 2303 k) (refusedWith 16 ws es bs) _ (λ e. few-refused 16 ws es bs)
@@ -157,7 +157,7 @@ hand-few ws st es bs size k at id row h =
     (λ e. few-pick (ltb 1023 (streamAt ws row .first)) (refusedWith 16 ws es bs) _ (λ e. few-refused 16 ws es bs)
     (λ e. sent-few ws st es bs k at id row (streamAt ws row) (itemAt ws (streamAt ws row .first)) (leastOf (activeAt ws at .«bytes_remaining») size) h (ltb-false 2303 k f)))))
 
-look-few : (expired : ℕ → ℕ → ProducedWith) (ws st es bs : List ℕ) (size k : ℕ) → ((id row : ℕ) → Few (expired id row)) → 6915 ≤ length es
+look-few : (expired : ℕ → ℕ → ProducedWith) (ws st es bs : List ℕ) (size k : ℕ) → ((id row : ℕ) → Few (expired id row)) → eventWords ≤ length es
     → (l : Look) → Few (afterLook expired ws st es bs size k l)
 look-few expired ws st es bs size k f h look.Nothing =
     few-pick (ltb 2305 k) (refusedWith 16 ws es bs) (producedWith (produced.Nothing k) ws es bs) (λ e. few-refused 16 ws es bs) (λ e. ltb-false 2305 k e)
@@ -165,12 +165,12 @@ look-few expired ws st es bs size k f h look.Broken = few-refused 16 ws es bs
 look-few expired ws st es bs size k f h (look.Expired id row) = f id row
 look-few expired ws st es bs size k f h (look.Chosen at id row) = hand-few ws st es bs size k at id row h
 
-drop-few : (again : List ℕ → List ℕ → ℕ → ProducedWith) (ws es bs : List ℕ) → 6915 ≤ length es → ((l v : List ℕ) (j : ℕ) → 6915 ≤ length v → Few (again l v j))
+drop-few : (again : List ℕ → List ℕ → ℕ → ProducedWith) (ws es bs : List ℕ) → eventWords ≤ length es → ((l v : List ℕ) (j : ℕ) → eventWords ≤ length v → Few (again l v j))
     → (d : Call) → Few (afterDrop again ws es bs d)
 drop-few again ws es bs h f (call.Accepted j) = f ws es j h
 drop-few again ws es bs h f (call.Refused code) = few-refused code ws es bs
 
-pub pass-few : (n : ℕ) (ws st es bs : List ℕ) (time size k : ℕ) → 6915 ≤ length es → Few (passOver n ws st es bs time size k)
+pub pass-few : (n : ℕ) (ws st es bs : List ℕ) (time size k : ℕ) → eventWords ≤ length es → Few (passOver n ws st es bs time size k)
 unfolding passOver
 pass-few zero ws st es bs time size k h = look-few (λ (id row : ℕ). refusedWith 16 ws es bs) ws st es bs size k (λ id row. few-refused 16 ws es bs) h (lookAhead ws time)
 pass-few (suc n) ws st es bs time size k h =
@@ -179,7 +179,7 @@ pass-few (suc n) ws st es bs time size k h =
     (omega (arith, h, expired-length ws es k id row)) (λ l v j g. pass-few n l st v bs time size j g) (expiredDropped ws es k id row .answer))
     h (lookAhead ws time)
 
-past-few : (ws st es bs : List ℕ) (time size : ℕ) → 6915 ≤ length es → Few (producedPast ws st es bs time size)
+past-few : (ws st es bs : List ℕ) (time size : ℕ) → eventWords ≤ length es → Few (producedPast ws st es bs time size)
 unfolding producedPast pastOf
 past-few ws st es bs time size h =
     few-pick (ltb 1024 (totalsAt ws .waiting)) (refusedWith 16 ws es bs) (settled ws es bs (passOver (totalsAt ws .waiting) ws st es bs time size 0)) (λ e. few-refused 16 ws es bs)
@@ -191,7 +191,7 @@ past-few ws st es bs time size h =
     by p f (produced.Refused code) = few-refused code ws es bs
 
 -- The call counts no more events than the list has places, where it has them.
-pub produce-few : (ws st es bs : List ℕ) (time size : ℕ) → 6915 ≤ length es → Few (produceNext ws st es bs time size)
+pub produce-few : (ws st es bs : List ℕ) (time size : ℕ) → eventWords ≤ length es → Few (produceNext ws st es bs time size)
 unfolding produceNext
 produce-few ws st es bs time size h =
     few-pick (ltb 0 (produceCode ws (length st) (length es) (length bs) time size)) (refusedWith (produceCode ws (length st) (length es) (length bs) time size) ws es bs)
@@ -202,7 +202,7 @@ produce-few ws st es bs time size h =
 
 -- The words behind the 2,305 places.
 abbrev pub behind : List ℕ → List ℕ
-behind es = drop 6915 es
+behind es = drop eventWords es
 
 drop-set : (n : ℕ) (es : List ℕ) (i v : ℕ) → i < n → drop n (set es i v) ≡ drop n es
 drop-set zero es i v h = absurd (omega arith)
@@ -212,7 +212,7 @@ drop-set (suc n) (x ∷ xs) (suc i) v h = drop-set n xs i v (omega arith)
 
 put-behind : (es : List ℕ) (k kind number amount : ℕ) → k ≤ 2304 → behind (putEvent es k kind number amount) ≡ behind es
 unfolding putEvent
-put-behind es k kind number amount h = drop-set 6915 (set (set es (k * 3) kind) (k * 3 + 1) number) (k * 3 + 2) amount (omega arith) ∙ drop-set 6915 (set es (k * 3) kind) (k * 3 + 1) number (omega arith) ∙ drop-set 6915 es (k * 3) kind (omega arith)
+put-behind es k kind number amount h = drop-set eventWords (set (set es (k * placeWords) kind) (k * placeWords + 1) number) (k * placeWords + 2) amount (omega arith) ∙ drop-set eventWords (set es (k * placeWords) kind) (k * placeWords + 1) number (omega arith) ∙ drop-set eventWords es (k * placeWords) kind (omega arith)
 
 pick-behind : (b : Bool) (x y : Notes) (l : List ℕ) → (b ≡ true → behind (x .events) ≡ l) → (b ≡ false → behind (y .events) ≡ l) → behind (pick b x y .events) ≡ l
 pick-behind true x y l e g = e refl
@@ -222,7 +222,7 @@ noted-behind : (es : List ℕ) (k kind number amount : ℕ) → behind (noted es
 unfolding noted
 noted-behind es k kind number amount =
     pick-behind (ltb 2304 k) (notes es 2306) _ (behind es) (λ e. refl)
-    (λ f. pick-behind (ltb (length es) 6915) (notes es 2306) (notes (putEvent es k kind number amount) (k + 1)) (behind es) (λ e. refl) (λ e. put-behind es k kind number amount (ltb-false 2304 k f)))
+    (λ f. pick-behind (ltb (length es) eventWords) (notes es 2306) (notes (putEvent es k kind number amount) (k + 1)) (behind es) (λ e. refl) (λ e. put-behind es k kind number amount (ltb-false 2304 k f)))
 
 low-behind : (es : List ℕ) (k kind number threshold old new : ℕ) → behind (lowNoted es k kind number threshold old new .events) ≡ behind es
 unfolding lowNoted

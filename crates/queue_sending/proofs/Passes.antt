@@ -18,6 +18,7 @@ use Rattle.queue_words.specs.Header.{optionsAt, totalsAt}
 use Rattle.queue_words.specs.declared.header.Totals.{Totals}
 use Rattle.queue_words.specs.declared.items.Item.{Item}
 use Rattle.queue_words.specs.declared.streams.OutgoingStream.{OutgoingStream}
+use Rattle.queue_streams.specs.Events.{eventWords}
 use Rattle.queue_streams.specs.Settings.{CalledWith, calledWith}
 use Rattle.queue_streams.specs.declared.answers.Call.{Call}
 use Rattle.queue_streams.specs.declared.answers.Call.the-variants as call
@@ -289,7 +290,7 @@ module _ (ws st es bs : List ℕ) (time size n : ℕ) (r : Produced) (l v u : Li
   unfolding pastOf
   past-is = ap (λ (p : ProducedWith). settled ws es bs p) ep
 
-  pub past-refused : q ≡ true → (zs saved w : List ℕ) → 6915 ≤ length es → saved ≡ copied zs es 6915 → w ≡ copied v saved 6915 → producedWith r ws w u ≡ pastOf ws st es bs time size n
+  pub past-refused : q ≡ true → (zs saved w : List ℕ) → eventWords ≤ length es → saved ≡ copied zs es eventWords → w ≡ copied v saved eventWords → producedWith r ws w u ≡ pastOf ws st es bs time size n
   past-refused g zs saved w long esaved ew = by r refl ∙ past-is
     where
       by : (r′ : Produced) → r ≡ r′ → producedWith r ws w u ≡ settled ws es bs (producedWith r l v u)
@@ -299,7 +300,7 @@ module _ (ws st es bs : List ℕ) (time size n : ℕ) (r : Produced) (l v u : Li
           let a : passOver n ws st es bs time size 0 .answer ≡ produced.Refused code = sym (ap (λ (x : ProducedWith). x .answer) ep) ∙ e in
           let b : u ≡ bs = ap (λ (x : ProducedWith). x .buffer) ep ∙ pass-keeps n ws st es bs time size 0 .keeps code a in
           let d : behind v ≡ behind es = ap (λ (x : ProducedWith). behind (x .events)) ep ∙ pass-behind (behind es) n ws st es bs time size 0 refl in
-          let f : w ≡ es = ew ∙ ap (λ (x : List ℕ). copied v x 6915) esaved ∙ put-back 6915 zs es v long d in
+          let f : w ≡ es = ew ∙ ap (λ (x : List ℕ). copied v x eventWords) esaved ∙ put-back eventWords zs es v long d in
           rw (e, b, f)
 
   pub past-kept : q ≡ false → producedWith r l v u ≡ pastOf ws st es bs time size n
@@ -311,13 +312,13 @@ module _ (ws st es bs : List ℕ) (time size n : ℕ) (r : Produced) (l v u : Li
       by (produced.Refused code) e = let z : false ≡ true = sym g ∙ eq ∙ ap refusal e in absurd (true-false (sym z))
 
 -- where the arguments are not refused, the list of events has its places
-pub code-places : (ws : List ℕ) (len places room time size code : ℕ) → code ≡ produceCode ws len places room time size → code ≤ 0 → 6915 ≤ places
+pub code-places : (ws : List ℕ) (len places room time size code : ℕ) → code ≡ produceCode ws len places room time size → code ≤ 0 → eventWords ≤ places
 unfolding produceCode
-code-places ws len places room time size code ec h = by (eqb (optionsAt ws .«store_length») len) (ltb places 6915) _ refl (subst (λ (x : ℕ). x ≤ 0) ec h)
+code-places ws len places room time size code ec h = by (eqb (optionsAt ws .«store_length») len) (ltb places eventWords) _ refl (subst (λ (x : ℕ). x ≤ 0) ec h)
   where
-    by : (a b : Bool) (x : ℕ) → ltb places 6915 ≡ b → pick a (pick b 3 x) 2 ≤ 0 → 6915 ≤ places
+    by : (a b : Bool) (x : ℕ) → ltb places eventWords ≡ b → pick a (pick b 3 x) 2 ≤ 0 → eventWords ≤ places
     by true true x e h = absurd (omega arith)
-    by true false x e h = ltb-false places 6915 e
+    by true false x e h = ltb-false places eventWords e
     by false b x e h = absurd (omega arith)
 
 -- ------------------------------------------------------------------ a refused call

@@ -10,6 +10,7 @@ use Rattle.queue_words.specs.Items.{itemAt}
 use Rattle.queue_words.specs.Streams.{streamAt}
 use Rattle.queue_words.specs.declared.items.Item.{Item}
 use Rattle.queue_words.specs.declared.streams.OutgoingStream.{OutgoingStream}
+use Rattle.queue_streams.specs.Events.{eventWords}
 use Rattle.queue_streams.specs.Settings.{CalledWith, calledWith}
 use Rattle.queue_streams.specs.Waiting.{rescheduled}
 use Rattle.queue_streams.specs.declared.answers.Call.{Call}
@@ -29,7 +30,7 @@ use Rattle.queue_sending.specs.declared.data.Produced.the-variants as pr
 unfoldable pub produceCode : List ℕ → ℕ → ℕ → ℕ → ℕ → ℕ → ℕ
 produceCode ws len places room time size =
     pick (eqb (optionsAt ws .«store_length») len)
-    (pick (ltb places 6915) 3
+    (pick (ltb places eventWords) 3
     (pick (ltb 4611686018427387903 time) 4
     (pick (eqb size 0) 9
     (pick (ltb 262144 size) 9

@@ -2,6 +2,7 @@
 ghost use mathlib.Core.Path.{_≡_};
 ghost use Prim.Native.Nat.{_<_, _≤_};
 ghost use lib.ListN.{length};
+ghost use Rattle.queue_streams.specs.Events.{eventWords};
 ghost use Rattle.queue_streams.specs.Settings.{calledWith};
 ghost use Rattle.queue_sending.specs.Data.{producedWith};
 ghost use Rattle.queue_sending.specs.Produce.{produceCode, headExpired, expiredDropped, passed, sentChosen, sentAfter, copied, refusal, pastOf, producedPast, produceNext};
@@ -13,7 +14,7 @@ use message_chains::amounts::remaining;
 use message_chains::heads::drop_head;
 use message_chains::heads::head_code;
 use queue_streams::answers::Call;
-use queue_streams::events::EVENT_PLACES;
+use queue_streams::events::EVENT_WORDS;
 use queue_streams::waiting::reschedule;
 use queue_words::QUEUE_WORDS;
 use queue_words::header::load_options;
@@ -42,7 +43,7 @@ fn produce_code(
     if o.store_length != len {
         return 2;
     }
-    if places < 6915 {
+    if places < EVENT_WORDS as u64 {
         return 3;
     }
     if time > MAX_TIME {
@@ -210,18 +211,18 @@ fn produce_past(
     size: u64,
     waiting: usize,
 ) -> Produced
-    requires { ⌜ 6915 ≤ length (now events) ⌝ }
+    requires { ⌜ eventWords ≤ length (now events) ⌝ }
     ensures { λ r. ⌜ producedWith r (now (queue .exit)) (now (events .exit)) (now (buffer .exit)) ≡ pastOf (now (queue .entry)) (now (store .entry)) (now (events .entry)) (now (buffer .entry)) time size waiting ⌝ }
 {
     let words = *queue;
-    let mut saved = [0u64; EVENT_PLACES];
-    copy_events(&mut saved, &*events, EVENT_PLACES);
+    let mut saved = [0u64; EVENT_WORDS];
+    copy_events(&mut saved, &*events, EVENT_WORDS);
     let passed = pass_over(queue, events, time, waiting, 0);
     let p = send_passed(queue, store, events, buffer, time, size, passed);
     let refused = is_refused(p);
     if refused {
         *queue = words;
-        copy_events(events, &saved, EVENT_PLACES);
+        copy_events(events, &saved, EVENT_WORDS);
         return p;
     }
     p
@@ -237,7 +238,7 @@ fn produce_waiting(
     time: u64,
     size: u64,
 ) -> Produced
-    requires { ⌜ 6915 ≤ length (now events) ⌝ }
+    requires { ⌜ eventWords ≤ length (now events) ⌝ }
     ensures { λ r. ⌜ producedWith r (now (queue .exit)) (now (events .exit)) (now (buffer .exit)) ≡ producedPast (now (queue .entry)) (now (store .entry)) (now (events .entry)) (now (buffer .entry)) time size ⌝ }
 {
     let t = load_totals(&*queue);

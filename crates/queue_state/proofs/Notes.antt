@@ -10,7 +10,7 @@ use Rattle.queue_words.specs.Header.{optionsAt, totalsAt}
 use Rattle.queue_words.specs.declared.streams.OutgoingStream.{OutgoingStream}
 use Rattle.queue_model.specs.Types.{Event, Stream}
 use Rattle.queue_model.specs.Amounts.{low-event, total-falls, stream-falls, lifecycle-events}
-use Rattle.queue_streams.specs.Events.{putEvent, written}
+use Rattle.queue_streams.specs.Events.{placeWords, eventWords, putEvent, written}
 use Rattle.message_chains.specs.Notes.{Notes, notes, noted, lowNoted, lifecycleNoted}
 use Rattle.message_chains.specs.Heads.{totalNotes, streamNotes, sentNotes, dropNotes}
 use Rattle.payload_store.proofs.Cases.{by-lt}
@@ -20,7 +20,7 @@ use Rattle.queue_state.specs.Model.{optionsOf}
 
 pub put-event-length : (es : List ℕ) (k kind n a : ℕ) → length (putEvent es k kind n a) ≡ length es
 unfolding putEvent
-put-event-length es k kind n a = length-set (set (set es (k * 3) kind) (k * 3 + 1) n) (k * 3 + 2) a ∙ length-set (set es (k * 3) kind) (k * 3 + 1) n ∙ length-set es (k * 3) kind
+put-event-length es k kind n a = length-set (set (set es (k * placeWords) kind) (k * placeWords + 1) n) (k * placeWords + 2) a ∙ length-set (set es (k * placeWords) kind) (k * placeWords + 1) n ∙ length-set es (k * placeWords) kind
 
 pub written-length : (es : List ℕ) (k : ℕ) (vs : List Event) → length (written es k vs) ≡ length es
 unfolding written
@@ -49,9 +49,9 @@ listed-none es k = rw (add-zero k)
 
 -- ---- one event
 
-pub noted-is : (es : List ℕ) (k kind n a : ℕ) → 6915 ≤ length es → k < 2305 → noted es k kind n a ≡ listed es k (record { kind = kind; number = n; amount = a } ∷ [])
+pub noted-is : (es : List ℕ) (k kind n a : ℕ) → eventWords ≤ length es → k < 2305 → noted es k kind n a ≡ listed es k (record { kind = kind; number = n; amount = a } ∷ [])
 unfolding noted written
-noted-is es k kind n a l h = rw (le-ltb 2304 k (omega arith), le-ltb (length es) 6915 l)
+noted-is es k kind n a l h = rw (le-ltb 2304 k (omega arith), le-ltb (length es) eventWords l)
 
 -- ---- an amount that falls
 
@@ -67,7 +67,7 @@ low-fires : (kind n t old new : ℕ) → t < old → new ≤ t → low-event kin
 unfolding low-event
 low-fires kind n t old new h l = rw (lt-ltb t old h, le-leb new t l)
 
-pub low-noted : (es : List ℕ) (k kind n t old new : ℕ) → 6915 ≤ length es → k + length (low-event kind n t old new) ≤ 2305
+pub low-noted : (es : List ℕ) (k kind n t old new : ℕ) → eventWords ≤ length es → k + length (low-event kind n t old new) ≤ 2305
     → lowNoted es k kind n t old new ≡ listed es k (low-event kind n t old new)
 unfolding lowNoted
 low-noted es k kind n t old new l h = by-lt t old
@@ -80,12 +80,12 @@ low-noted es k kind n t old new l h = by-lt t old
 
 -- ---- a message that is gone
 
-pub lifecycle-noted : (es : List ℕ) (k n : ℕ) → 6915 ≤ length es → k + length (lifecycle-events n) ≤ 2305 → lifecycleNoted es k n ≡ listed es k (lifecycle-events n)
+pub lifecycle-noted : (es : List ℕ) (k n : ℕ) → eventWords ≤ length es → k + length (lifecycle-events n) ≤ 2305 → lifecycleNoted es k n ≡ listed es k (lifecycle-events n)
 unfolding lifecycleNoted lifecycle-events written
 lifecycle-noted es k zero l h = sym (listed-none es k)
 lifecycle-noted es k (suc n) l h =
     let a = noted-is es k 3 (suc n) 0 l (omega arith) in
-    let l′ : 6915 ≤ length (putEvent es k 3 (suc n) 0) = rw (put-event-length es k 3 (suc n) 0) l in
+    let l′ : eventWords ≤ length (putEvent es k 3 (suc n) 0) = rw (put-event-length es k 3 (suc n) 0) l in
     let b = noted-is (putEvent es k 3 (suc n) 0) (k + 1) 4 (suc n) 0 l′ (omega arith) in
     let c : k + 1 + 1 ≡ k + 2 = omega arith in
     let d : k + 1 ≡ suc k = omega arith in
@@ -93,13 +93,13 @@ lifecycle-noted es k (suc n) l h =
 
 -- ---- the total and a stream's amount, each alone
 
-pub total-noted : (ws es : List ℕ) (k n : ℕ) → 6915 ≤ length es → k + length (total-falls (optionsOf (optionsAt ws)) (totalsAt ws .total) n) ≤ 2305
+pub total-noted : (ws es : List ℕ) (k n : ℕ) → eventWords ≤ length es → k + length (total-falls (optionsOf (optionsAt ws)) (totalsAt ws .total) n) ≤ 2305
     → totalNotes ws es k n ≡ listed es k (total-falls (optionsOf (optionsAt ws)) (totalsAt ws .total) n)
 unfolding totalNotes total-falls
 total-noted ws es k n l h = low-noted es k 2 0 (optionsAt ws .«total_threshold») (totalsAt ws .total) (totalsAt ws .total - n) l h
 
 -- s′: the stream of the model, with this id and threshold
-pub stream-noted : (es : List ℕ) (k id : ℕ) (s : OutgoingStream) (s′ : Stream) (n : ℕ) → s′ .id ≡ id → s′ .threshold ≡ s .«low_threshold» → 6915 ≤ length es
+pub stream-noted : (es : List ℕ) (k id : ℕ) (s : OutgoingStream) (s′ : Stream) (n : ℕ) → s′ .id ≡ id → s′ .threshold ≡ s .«low_threshold» → eventWords ≤ length es
     → k + length (stream-falls s′ (s .«buffered_amount») n) ≤ 2305 → streamNotes es k id s n ≡ listed es k (stream-falls s′ (s .«buffered_amount») n)
 unfolding streamNotes stream-falls
 stream-noted es k id s s′ n ei et l h =
@@ -108,14 +108,14 @@ stream-noted es k id s s′ n ei et l h =
 
 -- ---- "Sending and dropping report total, stream, then 3 and 4 for a drop with an id"
 
-module _ (ws es : List ℕ) (k id : ℕ) (s : OutgoingStream) (s′ : Stream) (n : ℕ) (ei : s′ .id ≡ id) (et : s′ .threshold ≡ s .«low_threshold») (l : 6915 ≤ length es) where
+module _ (ws es : List ℕ) (k id : ℕ) (s : OutgoingStream) (s′ : Stream) (n : ℕ) (ei : s′ .id ≡ id) (et : s′ .threshold ≡ s .«low_threshold») (l : eventWords ≤ length es) where
   pub sent-noted : k + length (total-falls (optionsOf (optionsAt ws)) (totalsAt ws .total) n ++ stream-falls s′ (s .«buffered_amount») n) ≤ 2305
       → sentNotes ws es k id s n ≡ listed es k (total-falls (optionsOf (optionsAt ws)) (totalsAt ws .total) n ++ stream-falls s′ (s .«buffered_amount») n)
   unfolding sentNotes
   sent-noted h =
       let z = length-append (total-falls (optionsOf (optionsAt ws)) (totalsAt ws .total) n) (stream-falls s′ (s .«buffered_amount») n) in
       let a = total-noted ws es k n l (omega arith) in
-      let l′ : 6915 ≤ length (written es k (total-falls (optionsOf (optionsAt ws)) (totalsAt ws .total) n)) = rw (written-length es k (total-falls (optionsOf (optionsAt ws)) (totalsAt ws .total) n)) l in
+      let l′ : eventWords ≤ length (written es k (total-falls (optionsOf (optionsAt ws)) (totalsAt ws .total) n)) = rw (written-length es k (total-falls (optionsOf (optionsAt ws)) (totalsAt ws .total) n)) l in
       rw a
       (stream-noted (written es k (total-falls (optionsOf (optionsAt ws)) (totalsAt ws .total) n)) (k + length (total-falls (optionsOf (optionsAt ws)) (totalsAt ws .total) n)) id s s′ n ei et l′ (omega arith)
       ∙ sym (listed-append es k (total-falls (optionsOf (optionsAt ws)) (totalsAt ws .total) n) (stream-falls s′ (s .«buffered_amount») n)))
@@ -130,5 +130,5 @@ module _ (ws es : List ℕ) (k id : ℕ) (s : OutgoingStream) (s′ : Stream) (n
       behind vs h f =
           let z = length-append vs (lifecycle-events m) in
           let a : sentNotes ws es k id s n ≡ listed es k vs = f (omega arith) in
-          let l′ : 6915 ≤ length (written es k vs) = rw (written-length es k vs) l in
+          let l′ : eventWords ≤ length (written es k vs) = rw (written-length es k vs) l in
           rw a (lifecycle-noted (written es k vs) (k + length vs) m l′ (omega arith) ∙ sym (listed-append es k vs (lifecycle-events m)))

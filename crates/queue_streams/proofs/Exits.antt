@@ -19,7 +19,7 @@ use Rattle.queue_words.specs.declared.known.Found.the-variants.{At, Gap, Broken
 use Rattle.queue_words.specs.declared.known.Known.{Known}
 use Rattle.queue_words.specs.declared.streams.OutgoingStream.{OutgoingStream}
 use Rattle.queue_words.proofs.Finds.{find-hit, find-missed}
-use Rattle.queue_streams.specs.Events.{putEvent}
+use Rattle.queue_streams.specs.Events.{eventWords, putEvent}
 use Rattle.queue_streams.specs.Known.{newStream, placeOf, lookUp, shifted, withKnown, inserted}
 use Rattle.queue_streams.specs.Settings.{called, calledWith, withPriority, withThreshold, setPriority, raised, thresholdAt, setThreshold}
 use Rattle.queue_streams.specs.declared.answers.Call.{Call}
@@ -146,11 +146,11 @@ module _
   pub threshold-silent : r ≡ false → calledWith (Accepted 0) l es ≡ thresholdAt ws es id t row (streamAt ws row)
   threshold-silent h = rw (← ex, ← er, h, el)
 
-pub threshold-few : (ws es : List ℕ) (id t : ℕ) → length es < 6915 → calledWith (Refused 3) ws es ≡ setThreshold ws es id t
+pub threshold-few : (ws es : List ℕ) (id t : ℕ) → length es < eventWords → calledWith (Refused 3) ws es ≡ setThreshold ws es id t
 unfolding setThreshold
 threshold-few ws es id t h = rw (lt-ltb _ _ h)
 
-module _ (ws es : List ℕ) (id t : ℕ) (h : 6915 ≤ length es) (r : Place) (er : r ≡ lookUp ws id) where
+module _ (ws es : List ℕ) (id t : ℕ) (h : eventWords ≤ length es) (r : Place) (er : r ≡ lookUp ws id) where
   pub threshold-row : (row : ℕ) (a : Call) (l m : List ℕ) → r ≡ place.Row row → calledWith a l m ≡ thresholdAt ws es id t row (streamAt ws row)
       → calledWith a l m ≡ setThreshold ws es id t
   unfolding setThreshold

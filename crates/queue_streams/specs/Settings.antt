@@ -8,7 +8,7 @@ use Rattle.queue_words.specs.Flags.{pick}
 use Rattle.queue_words.specs.Header.{optionsAt}
 use Rattle.queue_words.specs.Streams.{streamAt, putStream}
 use Rattle.queue_words.specs.declared.streams.OutgoingStream.{OutgoingStream}
-use Rattle.queue_streams.specs.Events.{putEvent}
+use Rattle.queue_streams.specs.Events.{eventWords, putEvent}
 use Rattle.queue_streams.specs.Known.{newStream, lookUp, inserted}
 use Rattle.queue_streams.specs.declared.answers.Call.{Call}
 use Rattle.queue_streams.specs.declared.answers.Call.the-variants.{Accepted, Refused}
@@ -71,7 +71,7 @@ setPriority ws id p = priorityIn ws id p (lookUp ws id)
 abbrev pub raised : ℕ → ℕ → ℕ → Bool
 raised amount old new = ltb old amount && leb amount new
 
--- The event of a stream whose threshold is raised so: kind 1.
+-- The event of a stream whose threshold is raised so: kind 1, with the amount at "the raise that fires it" (document 02, 2/13).
 abbrev pub thresholdAt : List ℕ → List ℕ → ℕ → ℕ → ℕ → OutgoingStream → CalledWith
 thresholdAt ws es id t row s =
     pick (raised (s .«buffered_amount») (s .«low_threshold») t)
@@ -86,4 +86,4 @@ thresholdIn ws es id t (place.Refused n) = calledWith (Refused n) ws es
 
 -- 3: "the event list has fewer than 2,305 places".
 unfoldable pub setThreshold : List ℕ → List ℕ → ℕ → ℕ → CalledWith
-setThreshold ws es id t = pick (ltb (length es) 6915) (calledWith (Refused 3) ws es) (thresholdIn ws es id t (lookUp ws id))
+setThreshold ws es id t = pick (ltb (length es) eventWords) (calledWith (Refused 3) ws es) (thresholdIn ws es id t (lookUp ws id))

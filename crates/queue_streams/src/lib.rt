@@ -12,6 +12,8 @@ pub use answers::Call;
 pub use answers::Flag;
 pub use answers::Number;
 pub use events::EVENT_PLACES;
+pub use events::EVENT_WORDS;
+pub use events::PLACE_WORDS;
 pub use events::put_event;
 pub use known::Place;
 pub use known::insert_stream;

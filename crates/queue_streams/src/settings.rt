@@ -1,11 +1,12 @@
 // Setting a stream's priority and its threshold. Both make the stream known.
 ghost use mathlib.Core.Path.{_≡_};
-ghost use Prim.Native.Nat.{_<_};
+ghost use Prim.Native.Nat.{_<_, _≤_};
 ghost use lib.ListN.{length};
 ghost use Rattle.queue_words.specs.Streams.{streamAt};
+ghost use Rattle.queue_streams.specs.Events.{eventWords};
 ghost use Rattle.queue_streams.specs.Settings.{called, calledWith, setPriority, setThreshold, raised, thresholdAt};
 use crate::answers::Call;
-use crate::events::EVENT_PLACES;
+use crate::events::EVENT_WORDS;
 use crate::events::put_event;
 use crate::known::Place;
 use crate::known::insert_stream;
@@ -54,7 +55,7 @@ fn set_threshold_in(
     threshold: u64,
     row: usize,
 ) -> Call
-    requires { ⌜ (row < 256) × (6914 < length (now events)) ⌝ }
+    requires { ⌜ (row < 256) × (eventWords ≤ length (now events)) ⌝ }
     ensures { λ r. ⌜ calledWith r (now (queue .exit)) (now (events .exit)) ≡ thresholdAt (now (queue .entry)) (now (events .entry)) id threshold row (streamAt (now (queue .entry)) row) ⌝ }
 {
     let mut s = load_stream(&*queue, row);
@@ -76,7 +77,7 @@ pub fn set_buffered_amount_low_threshold(
 ) -> Call
     ensures { λ r. ⌜ calledWith r (now (queue .exit)) (now (events .exit)) ≡ setThreshold (now (queue .entry)) (now (events .entry)) id threshold ⌝ }
 {
-    if events.len() < EVENT_PLACES {
+    if events.len() < EVENT_WORDS {
         return Call::Refused(3);
     }
     let place = look_up(&*queue, id);

@@ -28,7 +28,7 @@ use crate::state::CREATED_PRIORITY;
 use crate::state::CREATED_STORE;
 use crate::state::CREATED_THRESHOLD;
 use crate::state::CREATED_TOTAL;
-use crate::state::EVENT_WORDS;
+use crate::state::EVENT_BUFFER;
 use crate::state::FRAGMENT;
 use crate::state::IMAGE;
 use crate::state::LENT_EVENTS;
@@ -213,7 +213,7 @@ fn answer_produce(
     queue: &mut [u64; QUEUE_WORDS],
     kept: &mut [u64; QUEUE_WORDS],
     store: &[u8; STORE],
-    events: &mut [u64; EVENT_WORDS],
+    events: &mut [u64; EVENT_BUFFER],
     fragment: &mut [u8; FRAGMENT],
     output: &mut [u8; BUFFER],
     state: &mut [u64; STATE],
@@ -228,7 +228,7 @@ fn answer_produce(
 fn answer_event_call(
     queue: &mut [u64; QUEUE_WORDS],
     kept: &mut [u64; QUEUE_WORDS],
-    events: &mut [u64; EVENT_WORDS],
+    events: &mut [u64; EVENT_BUFFER],
     output: &mut [u8; BUFFER],
     state: &mut [u64; STATE],
 ) {
@@ -336,7 +336,7 @@ pub fn answer(
     kept: &mut [u64; QUEUE_WORDS],
     store: &mut [u8; STORE],
     kept_store: &mut [u8; STORE],
-    events: &mut [u64; EVENT_WORDS],
+    events: &mut [u64; EVENT_BUFFER],
     fragment: &mut [u8; FRAGMENT],
     payload: &mut [u8; PAYLOAD],
     image: &mut [u8; IMAGE],

@@ -6,12 +6,14 @@ use crate::state::CREATED_PRIORITY;
 use crate::state::CREATED_STORE;
 use crate::state::CREATED_THRESHOLD;
 use crate::state::CREATED_TOTAL;
+use crate::state::EVENT_BUFFER;
 use crate::state::IMAGE_LENGTH;
 use crate::state::LENT_EVENTS;
 use crate::state::LENT_FRAGMENT;
 use crate::state::LENT_IMAGE;
 use crate::state::LENT_STORE;
 use crate::state::LETTER;
+use crate::state::MOST_PLACES;
 use crate::state::STATE;
 use crate::state::low8;
 use crate::state::low16;
@@ -20,6 +22,7 @@ use send_queue::Call;
 use send_queue::Lifetime;
 use send_queue::MaxRetransmissions;
 use send_queue::Message;
+use send_queue::PLACE_WORDS;
 use send_queue::Produced;
 use send_queue::QUEUE_WORDS;
 use send_queue::Saved;
@@ -43,10 +46,10 @@ pub const TOO_SHORT: u8 = 99;
 
 // The words of so many places of the event list.
 fn event_words(places: u64) -> usize {
-    if places > 4096 {
-        return 8192;
+    if places > MOST_PLACES as u64 {
+        return EVENT_BUFFER;
     }
-    (places * 2) as usize
+    places as usize * PLACE_WORDS
 }
 
 pub fn lent_create(queue: &mut [u64; QUEUE_WORDS], store: &[u8], state: &[u64; STATE]) -> Call {

@@ -26,7 +26,7 @@ use parse::parse;
 use ranges::is_call;
 use send_queue::QUEUE_WORDS;
 use state::BUFFER;
-use state::EVENT_WORDS;
+use state::EVENT_BUFFER;
 use state::FRAGMENT;
 use state::IMAGE;
 use state::LINE;
@@ -80,7 +80,7 @@ fn run(
     kept: &mut [u64; QUEUE_WORDS],
     store: &mut [u8; STORE],
     kept_store: &mut [u8; STORE],
-    events: &mut [u64; EVENT_WORDS],
+    events: &mut [u64; EVENT_BUFFER],
     fragment: &mut [u8; FRAGMENT],
     payload: &mut [u8; PAYLOAD],
     image: &mut [u8; IMAGE],
@@ -119,14 +119,14 @@ fn main() {
     let mut kept = [0u64; QUEUE_WORDS];
     let mut store = [0u8; STORE];
     let mut kept_store = [0u8; STORE];
-    let mut events = [0u64; EVENT_WORDS];
+    let mut events = [0u64; EVENT_BUFFER];
     let mut fragment = [0u8; FRAGMENT];
     let mut payload = [0u8; PAYLOAD];
     let mut image = [0u8; IMAGE];
     let mut input = [0u8; BUFFER];
     let mut output = [0u8; BUFFER];
     let mut state = [0u64; STATE];
-    mark_events(&mut events, EVENT_WORDS);
+    mark_events(&mut events, EVENT_BUFFER);
     mark_fragment(&mut fragment);
     run(
         &mut queue,

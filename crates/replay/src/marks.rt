@@ -3,8 +3,8 @@ ghost use mathlib.Core.Bool.{true};
 ghost use mathlib.Core.Path.{_≡_};
 ghost use Prim.Native.Nat.{ℕ, _≤_, _<_};
 ghost use lib.ListN.{length, getD};
-ghost use Rattle.replay.specs.Marks.{eventMark, byteMark};
-use crate::state::EVENT_WORDS;
+ghost use Rattle.replay.specs.Marks.{eventBuffer, eventMark, byteMark};
+use crate::state::EVENT_BUFFER;
 use crate::state::STORE;
 use queue_words::whole;
 use send_queue::QUEUE_WORDS;
@@ -12,7 +12,7 @@ use send_queue::QUEUE_WORDS;
 fn event_mark(i: usize) -> u64
     ensures { λ r. ⌜ r ≡ eventMark i ⌝ }
 {
-    (i % 8192) as u64 + 7000000000000000000
+    (i % EVENT_BUFFER) as u64 + 7000000000000000000
 }
 
 fn byte_mark(i: usize) -> u8
@@ -22,9 +22,9 @@ fn byte_mark(i: usize) -> u8
 }
 
 // Puts marks on the first n words.
-pub fn mark_events(events: &mut [u64; EVENT_WORDS], n: usize) {
+pub fn mark_events(events: &mut [u64; EVENT_BUFFER], n: usize) {
     let mut i = 0;
-    while i < 8192 {
+    while i < EVENT_BUFFER {
         if i >= n {
             return;
         }
@@ -34,11 +34,11 @@ pub fn mark_events(events: &mut [u64; EVENT_WORDS], n: usize) {
 }
 
 // Whether each word from a place on has its mark.
-pub fn events_marked(events: &[u64; EVENT_WORDS], from: usize) -> bool
-    ensures { λ r. ⌜ (r ≡ true → (k : ℕ) → k < 8192 → from ≤ k → getD (now (events .entry)) k 0 ≡ eventMark k) ⌝ }
+pub fn events_marked(events: &[u64; EVENT_BUFFER], from: usize) -> bool
+    ensures { λ r. ⌜ (r ≡ true → (k : ℕ) → k < eventBuffer → from ≤ k → getD (now (events .entry)) k 0 ≡ eventMark k) ⌝ }
 {
     let mut i = from;
-    while i < 8192 {
+    while i < EVENT_BUFFER {
         if events[i] != event_mark(i) {
             return false;
         }

@@ -2,6 +2,7 @@
 use crate::plan::is_plan;
 use crate::state::COUNT;
 use crate::state::LETTER;
+use crate::state::MOST_PLACES;
 use crate::state::QUEUES;
 use crate::state::STATE;
 use crate::state::low8;
@@ -41,7 +42,7 @@ fn most_new(k: usize) -> u64 {
 
 fn most_lent(k: usize) -> u64 {
     match k {
-        0 => 4096,
+        0 => MOST_PLACES as u64,
         1 => 300000,
         _ => 2100000,
     }

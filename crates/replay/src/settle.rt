@@ -11,13 +11,15 @@ use crate::output::put_broken;
 use crate::output::put_byte;
 use crate::output::put_number;
 use crate::state::BUFFER;
-use crate::state::EVENT_WORDS;
+use crate::state::EVENT_BUFFER;
 use crate::state::FRAGMENT;
 use crate::state::IMAGE;
 use crate::state::LENT_STORE;
+use crate::state::MOST_PLACES;
 use crate::state::STATE;
 use crate::state::STORE;
 use send_queue::Call;
+use send_queue::PLACE_WORDS;
 use send_queue::QUEUE_WORDS;
 
 // A refusal's number, which is above 0.
@@ -92,21 +94,22 @@ pub fn settle_no_events(n: usize, output: &mut [u8; BUFFER], state: &mut [u64; S
     put_broken(output, state, b"events without a list");
 }
 
-// A line for each event.
+// A line for each event: kind, number and amount.
 fn put_events(
-    events: &[u64; EVENT_WORDS],
+    events: &[u64; EVENT_BUFFER],
     n: usize,
     output: &mut [u8; BUFFER],
     state: &mut [u64; STATE],
 ) {
-    if n > 4096 {
+    if n > MOST_PLACES {
         return;
     }
     let mut i = 0;
     while i < n {
         put_byte(output, state, b'!');
-        put_number(output, state, events[i * 2]);
-        put_number(output, state, events[i * 2 + 1]);
+        put_number(output, state, events[i * PLACE_WORDS]);
+        put_number(output, state, events[i * PLACE_WORDS + 1]);
+        put_number(output, state, events[i * PLACE_WORDS + 2]);
         put_byte(output, state, b'\n');
         i += 1;
     }
@@ -114,24 +117,24 @@ fn put_events(
 
 // The event list: n events, and then nothing but marks. The marks are put back.
 pub fn settle_events(
-    events: &mut [u64; EVENT_WORDS],
+    events: &mut [u64; EVENT_BUFFER],
     n: usize,
     output: &mut [u8; BUFFER],
     state: &mut [u64; STATE],
 ) {
-    if n > 4096 {
+    if n > MOST_PLACES {
         put_broken(output, state, b"more events than places");
-        mark_events(events, 8192);
+        mark_events(events, EVENT_BUFFER);
         return;
     }
     put_events(&*events, n, output, state);
-    let marked = events_marked(&*events, n * 2);
+    let marked = events_marked(&*events, n * PLACE_WORDS);
     if marked {
-        mark_events(events, n * 2);
+        mark_events(events, n * PLACE_WORDS);
         return;
     }
     put_broken(output, state, b"event list changed past its events");
-    mark_events(events, 8192);
+    mark_events(events, EVENT_BUFFER);
 }
 
 // The fragment buffer: n bytes, and then nothing but marks.

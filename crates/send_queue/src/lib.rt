@@ -46,8 +46,10 @@ pub use saving::Saved;
 // Answers, the words and the event list.
 pub use queue_streams::Call;
 pub use queue_streams::EVENT_PLACES;
+pub use queue_streams::EVENT_WORDS;
 pub use queue_streams::Flag;
 pub use queue_streams::Number;
+pub use queue_streams::PLACE_WORDS;
 pub use queue_words::QUEUE_WORDS;
 // Counters and ids.
 pub use types::Fsn;

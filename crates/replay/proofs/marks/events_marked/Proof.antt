@@ -5,7 +5,7 @@ use native.Mathlib.Omega.{arith}
 use borrow.Author.Count.{below-more}
 use borrow.Author.Needs.{needs}
 use lib.ListN.{getD}
-use Rattle.replay.specs.Marks.{eventMark}
+use Rattle.replay.specs.Marks.{eventBuffer, eventMark}
 use Rattle.replay.proofs.Copies.{never}
 use Rattle.replay.proofs.marks.events_marked.Statement.{statement}
 use Rattle.replay.proofs.marks.events_marked.Tie as tie
@@ -14,7 +14,7 @@ abbrev Inv-loop : tie.InvT-loop
 Inv-loop events from i₀ i = (k : ℕ) → k < i → from ≤ k → getD events k 0 ≡ eventMark k
 
 abbrev μ-loop : tie.MeasureT-loop
-μ-loop events from i₀ i = 8192 - i
+μ-loop events from i₀ i = eventBuffer - i
 
 loop-holds : tie.Need-loop-holds Inv-loop μ-loop
 loop-holds c = λ k h f. absurd (omega arith)
