@@ -1,3 +1,4 @@
 -- Answers as numbers, for a host in C or Rust. Assumes nothing.
 pub mod Numbers
 pub mod Given
+pub mod Layout

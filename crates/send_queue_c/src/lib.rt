@@ -2,6 +2,7 @@
 // 0 says accepted, any other number is a refusal of document 01 or 02. A refused call changes nothing, in no array.
 pub mod copying;
 pub mod images;
+pub mod layout;
 pub mod messages;
 pub mod numbers;
 pub mod planning;

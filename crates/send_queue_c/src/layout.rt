@@ -1,0 +1,14 @@
+// The layout that a host is compiled for.
+ghost use mathlib.Core.Path.{_≡_};
+ghost use Rattle.send_queue_c.specs.Layout.{layout};
+
+// DSQ_LAYOUT of c/send_queue.h.
+pub const LAYOUT: u64 = 2;
+
+// A host compares it with the number that it was compiled with.
+#[no_mangle]
+pub extern "C" fn dsq_layout() -> u64
+    ensures { λ r. ⌜ r ≡ layout ⌝ }
+{
+    LAYOUT
+}
