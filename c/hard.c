@@ -4,8 +4,8 @@
  * usage: hard [CALLS] [SEED]
  *
  * It ends when so many calls were on damaged words or with an image; those on the words of a queue come on top. Each answer must be one of
- * those that the header lists behind the function; at one refusal in eight, and at every refused restoring, all that was lent is compared
- * with what it was before the call. */
+ * those that the header lists behind the function, and each event of a kind that there is, without an amount where its kind has none; at
+ * one refusal in eight, and at every refused restoring, all that was lent is compared with what it was before the call. */
 #include "send_queue.h"
 
 #include <stdio.h>
@@ -42,7 +42,7 @@ static void *block(size_t bytes) {
 
 /* Numbers at which something may go wrong. */
 static uint64_t odd_number(void) {
-    static const uint64_t some[] = {0, 1, 2, 3, 20, 255, 256, 257, 1023, 1024, 1025, 1200, 4610, 5999, 6000, 6001, 20767, 20768, 65535, 65536, 262144, 262145,
+    static const uint64_t some[] = {0, 1, 2, 3, 20, 255, 256, 257, 1023, 1024, 1025, 1200, DSQ_EVENT_WORDS, 5999, 6000, 6001, 20767, 20768, 65535, 65536, 262144, 262145,
         UINT32_MAX, UINT64_C(4294967296), DSQ_MAX_TIME, DSQ_MAX_TIME + 1, UINT64_MAX >> 1, UINT64_MAX - 1, UINT64_MAX};
     return below(4) ? some[below(sizeof some / sizeof *some)] : next();
 }
@@ -236,6 +236,20 @@ static uint8_t call(enum kind k) {
     }
 }
 
+/* Those that can be refused for the event list write events: of the kinds 1 to 4, and an amount with the first two only. */
+static int right_events(enum kind k) {
+    uint64_t i, count = listed[k] & N(3) ? now.out[DSQ_OUT_EVENTS] : 0;
+    if (count > DSQ_MAX_EVENTS)
+        return 0;
+    for (i = 0; i < count; i++) {
+        const uint64_t *place = now.events + DSQ_PLACE_WORDS * i;
+        uint64_t kind = place[DSQ_PLACE_KIND];
+        if (kind < DSQ_EVENT_STREAM_LOW || kind > DSQ_EVENT_END || (kind >= DSQ_EVENT_EXPIRED && place[DSQ_PLACE_AMOUNT] != 0))
+            return 0;
+    }
+    return 1;
+}
+
 static enum kind a_kind(void) {
     static const enum kind often[] = {ADD, ADD, ADD, ADD, PRODUCE, PRODUCE, PRODUCE, PRODUCE, PRODUCE, CLOSE, DISCARD};
     return below(2) ? often[below(sizeof often / sizeof *often)] : (enum kind)below(KINDS - 1);
@@ -294,6 +308,10 @@ int main(int argc, char **argv) {
         }
         if (r != 0 && (look || k == RESTORE) && changed()) {
             printf("hard: call %ld of kind %d is refused with %u, and something has changed\n", calls, (int)k, r);
+            return 1;
+        }
+        if (r == 0 && !right_events(k)) {
+            printf("hard: call %ld of kind %d writes an event that is none\n", calls, (int)k);
             return 1;
         }
         if (r == 0)

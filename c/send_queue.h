@@ -15,6 +15,7 @@
  *     pass over 1,024 of them (measured: c/stack.c); give a thread more.
  *
  * Lengths count elements: events_length counts words, of which DSQ_EVENT_WORDS are asked for.
+ * The library and this header belong together: a host asks once whether dsq_layout() is DSQ_LAYOUT.
  * A flag that is passed in is 0 for no and anything else for yes; one that is told is 0 or 1. Times are counts of nanoseconds. */
 #ifndef DSQ_SEND_QUEUE_H
 #define DSQ_SEND_QUEUE_H
@@ -26,9 +27,14 @@
 extern "C" {
 #endif
 
-/* The words of a queue, and of the list of events: DSQ_MAX_EVENTS places of two words. */
+/* The layout that a host with this header is compiled for: the words of a queue, of an event, of the event list and of an out-array, what
+ * each place means, and the arguments of the functions. It moves when one of these does. In layout 1, whose header has no such number, an
+ * event had two words; a list for 2,305 of those is refused here (DSQ_EVENT_LIST_SHORT), not written past. */
+#define DSQ_LAYOUT 2
+
+/* The words of a queue, and of the list of events: DSQ_MAX_EVENTS places of DSQ_PLACE_WORDS words. */
 #define DSQ_QUEUE_WORDS 20768
-#define DSQ_EVENT_WORDS 4610
+#define DSQ_EVENT_WORDS 6915
 
 /* The most that a queue takes. */
 #define DSQ_MAX_STREAMS 256
@@ -109,7 +115,17 @@ enum dsq_out {
     DSQ_OUT_WORDS = 16
 };
 
-/* An event is kind and number: event k of a call is events[2 * k] and events[2 * k + 1]. */
+/* The words of an event: event k of a call begins at events[DSQ_PLACE_WORDS * k]. */
+enum dsq_place {
+    DSQ_PLACE_KIND = 0,
+    DSQ_PLACE_NUMBER = 1,
+    DSQ_PLACE_AMOUNT = 2,
+    DSQ_PLACE_WORDS = 3
+};
+
+/* The kinds of events, and the number that each has. The amount of the first two is the one at which the event fired: the stream's or the
+ * total, after the fall or at the raise. It need not be the amount after the whole call: one that drops several messages steps message by
+ * message (three messages of 10 bytes, closed at the threshold 15, tell 10 and not 0). The amount of the last two is 0. */
 enum dsq_event {
     DSQ_EVENT_STREAM_LOW = 1, /* a stream's amount fell to or below its threshold, or that was raised to it or past it; the stream's id */
     DSQ_EVENT_TOTAL_LOW = 2,  /* the total fell to or below its threshold; 0 */
@@ -122,6 +138,11 @@ enum dsq_readiness {
     DSQ_READY = 0,
     DSQ_SEND_QUEUE_NOT_EMPTY = 2
 };
+
+/* ---------------------------------------------------------------- the layout */
+
+/* The library's DSQ_LAYOUT. Where it is another number than this header's, make no other call. */
+uint64_t dsq_layout(void);
 
 /* The numbers behind a function's description are the refusals that it can give, in the order in which they are checked.
  *

@@ -59,31 +59,43 @@ struct host {
     struct array all[ARRAYS];
 };
 
+static struct array array(void *at, size_t bytes)
+{
+    struct array a = {at, bytes, NULL};
+    a.copy = allocate(bytes, 0);
+    return a;
+}
+
+/* Another event list, of so many words. */
+static void lend_events(struct host *h, size_t words)
+{
+    free(h->all[2].at);
+    free(h->all[2].copy);
+    h->events = allocate(words * sizeof *h->events, 0xEE);
+    h->events_length = words;
+    h->all[2] = array(h->events, words * sizeof *h->events);
+}
+
 /* Arrays full of marks; no queue is in the words yet. */
 static struct host *lend(size_t store_length, size_t buffer_length, size_t image_length)
 {
     struct host *h = allocate(sizeof *h, 0);
-    int i;
     h->queue = allocate(DSQ_QUEUE_WORDS * sizeof *h->queue, 0xA5);
     h->store = allocate(store_length, 0x53);
     h->store_length = store_length;
-    h->events_length = DSQ_EVENT_WORDS;
-    h->events = allocate(h->events_length * sizeof *h->events, 0xEE);
     h->buffer = allocate(buffer_length, 0xBB);
     h->buffer_length = buffer_length;
     h->image = allocate(image_length, 0x11);
     h->image_length = image_length;
     h->ids = allocate(DSQ_MAX_STREAMS * sizeof *h->ids, 0x1D);
     h->out = allocate(DSQ_OUT_WORDS * sizeof *h->out, 0x0A);
-    h->all[0] = (struct array){h->queue, DSQ_QUEUE_WORDS * sizeof *h->queue, NULL};
-    h->all[1] = (struct array){h->store, store_length, NULL};
-    h->all[2] = (struct array){h->events, h->events_length * sizeof *h->events, NULL};
-    h->all[3] = (struct array){h->buffer, buffer_length, NULL};
-    h->all[4] = (struct array){h->image, image_length, NULL};
-    h->all[5] = (struct array){h->ids, DSQ_MAX_STREAMS * sizeof *h->ids, NULL};
-    h->all[6] = (struct array){h->out, DSQ_OUT_WORDS * sizeof *h->out, NULL};
-    for (i = 0; i < ARRAYS; i++)
-        h->all[i].copy = allocate(h->all[i].bytes, 0);
+    h->all[0] = array(h->queue, DSQ_QUEUE_WORDS * sizeof *h->queue);
+    h->all[1] = array(h->store, store_length);
+    lend_events(h, DSQ_EVENT_WORDS);
+    h->all[3] = array(h->buffer, buffer_length);
+    h->all[4] = array(h->image, image_length);
+    h->all[5] = array(h->ids, DSQ_MAX_STREAMS * sizeof *h->ids);
+    h->all[6] = array(h->out, DSQ_OUT_WORDS * sizeof *h->out);
     return h;
 }
 
@@ -266,9 +278,16 @@ static int sends_nothing(struct host *h)
     return produce(h, 1000) == DSQ_ACCEPTED && h->out[DSQ_OUT_VALUE] == 0;
 }
 
-static int event(const struct host *h, size_t k, uint64_t kind, uint64_t number)
+static int event(const struct host *h, size_t k, uint64_t kind, uint64_t number, uint64_t told)
 {
-    return h->events[2 * k] == kind && h->events[2 * k + 1] == number;
+    const uint64_t *place = h->events + DSQ_PLACE_WORDS * k;
+    return place[DSQ_PLACE_KIND] == kind && place[DSQ_PLACE_NUMBER] == number && place[DSQ_PLACE_AMOUNT] == told;
+}
+
+/* A drop of the message with this lifecycle id, in place k and the next. */
+static int dropped(const struct host *h, size_t k, uint64_t id)
+{
+    return event(h, k, DSQ_EVENT_EXPIRED, id, 0) && event(h, k + 1, DSQ_EVENT_END, id, 0);
 }
 
 /* ---------------------------------------------------------------- images by hand */
@@ -378,8 +397,8 @@ static void main_path(void)
     h->time = 8;
     CHECK(sends(h, 1000, 5, 1000, 0, 1, 0));
     CHECK(h->buffer[1000] == 0xBB);
-    CHECK(h->out[DSQ_OUT_EVENTS] == 1 && event(h, 0, DSQ_EVENT_STREAM_LOW, 5));
-    CHECK(h->events[2] == UINT64_C(0xEEEEEEEEEEEEEEEE));
+    CHECK(h->out[DSQ_OUT_EVENTS] == 1 && event(h, 0, DSQ_EVENT_STREAM_LOW, 5, 530));
+    CHECK(h->events[DSQ_PLACE_WORDS] == UINT64_C(0xEEEEEEEEEEEEEEEE));
     CHECK(h->out[DSQ_OUT_MESSAGE_ID] == 0);
     CHECK(h->out[DSQ_OUT_UNORDERED] == 1);
     CHECK(counts(h, 0, 0, 0));
@@ -390,7 +409,7 @@ static void main_path(void)
     /* its last */
     CHECK(sends(h, 1000, 5, 500, 1000, 0, 1));
     CHECK(counts(h, 0, 0, 1));
-    CHECK(h->out[DSQ_OUT_EVENTS] == 1 && event(h, 0, DSQ_EVENT_TOTAL_LOW, 0));
+    CHECK(h->out[DSQ_OUT_EVENTS] == 1 && event(h, 0, DSQ_EVENT_TOTAL_LOW, 0, 30));
     CHECK(h->out[DSQ_OUT_LIFECYCLE_ID] == 99);
     /* the message behind it */
     CHECK(sends(h, 1000, 5, 30, 0, 1, 1));
@@ -411,16 +430,15 @@ static void main_path(void)
     CHECK(discard(h, 8, 4) == DSQ_ACCEPTED && h->out[DSQ_OUT_EVENTS] == 0);
     CHECK(discard(h, 7, 4) == DSQ_ACCEPTED && amount(h, 7) == 25);
     CHECK(h->out[DSQ_OUT_EVENTS] == 3);
-    CHECK(event(h, 0, DSQ_EVENT_TOTAL_LOW, 0) && event(h, 1, DSQ_EVENT_EXPIRED, 70) && event(h, 2, DSQ_EVENT_END, 70));
+    CHECK(event(h, 0, DSQ_EVENT_TOTAL_LOW, 0, 25) && dropped(h, 1, 70));
     CHECK(discard(h, 7, 5) == DSQ_ACCEPTED && h->out[DSQ_OUT_EVENTS] == 3);
-    CHECK(event(h, 0, DSQ_EVENT_STREAM_LOW, 7) && event(h, 1, DSQ_EVENT_EXPIRED, 71) && event(h, 2, DSQ_EVENT_END, 71));
+    CHECK(event(h, 0, DSQ_EVENT_STREAM_LOW, 7, 0) && dropped(h, 1, 71));
     CHECK(amount(h, 7) == 0 && dsq_is_empty(h->queue) == 1);
 
     /* closing a stream with nothing half-sent drops all; stream before total */
     CHECK(add(h, 7, 40, 0, NEVER, 72) == DSQ_ACCEPTED);
     CHECK(close_stream(h, 7) == DSQ_ACCEPTED && h->out[DSQ_OUT_EVENTS] == 4);
-    CHECK(event(h, 0, DSQ_EVENT_STREAM_LOW, 7) && event(h, 1, DSQ_EVENT_TOTAL_LOW, 0));
-    CHECK(event(h, 2, DSQ_EVENT_EXPIRED, 72) && event(h, 3, DSQ_EVENT_END, 72));
+    CHECK(event(h, 0, DSQ_EVENT_STREAM_LOW, 7, 0) && event(h, 1, DSQ_EVENT_TOTAL_LOW, 0, 0) && dropped(h, 2, 72));
     CHECK(has_ready(h) == 1);
     /* one with a half-sent message keeps it, and is ready when it ends */
     CHECK(plain(h, 5, 100) == DSQ_ACCEPTED && plain(h, 5, 9) == DSQ_ACCEPTED);
@@ -521,16 +539,15 @@ static void examples(void)
     CHECK(sends(h, 100, 1, 10, 0, 1, 1) && h->out[DSQ_OUT_EXPIRES_AT] == 6000000);
     h->time = 6000000;
     CHECK(sends_nothing(h) && h->out[DSQ_OUT_EVENTS] == 4);
-    CHECK(event(h, 0, DSQ_EVENT_TOTAL_LOW, 0) && event(h, 1, DSQ_EVENT_STREAM_LOW, 1));
-    CHECK(event(h, 2, DSQ_EVENT_EXPIRED, 8) && event(h, 3, DSQ_EVENT_END, 8));
+    CHECK(event(h, 0, DSQ_EVENT_TOTAL_LOW, 0, 0) && event(h, 1, DSQ_EVENT_STREAM_LOW, 1, 0) && dropped(h, 2, 8));
     give_back(h);
 
     /* "Amount 10, threshold 4, 6 sent: fires." "Threshold 4 raised to 10 at amount 10: fires; 10 to 12: silent." */
     h = new_queue(SMALL_STORE);
     CHECK(plain(h, 1, 10) == DSQ_ACCEPTED && set_threshold(h, 1, 4) == DSQ_ACCEPTED && h->out[DSQ_OUT_EVENTS] == 0);
-    CHECK(sends(h, 6, 1, 6, 0, 1, 0) && h->out[DSQ_OUT_EVENTS] == 1 && event(h, 0, DSQ_EVENT_STREAM_LOW, 1));
+    CHECK(sends(h, 6, 1, 6, 0, 1, 0) && h->out[DSQ_OUT_EVENTS] == 1 && event(h, 0, DSQ_EVENT_STREAM_LOW, 1, 4));
     CHECK(plain(h, 2, 10) == DSQ_ACCEPTED && set_threshold(h, 2, 4) == DSQ_ACCEPTED && h->out[DSQ_OUT_EVENTS] == 0);
-    CHECK(set_threshold(h, 2, 10) == DSQ_ACCEPTED && h->out[DSQ_OUT_EVENTS] == 1 && event(h, 0, DSQ_EVENT_STREAM_LOW, 2));
+    CHECK(set_threshold(h, 2, 10) == DSQ_ACCEPTED && h->out[DSQ_OUT_EVENTS] == 1 && event(h, 0, DSQ_EVENT_STREAM_LOW, 2, 10));
     CHECK(set_threshold(h, 2, 12) == DSQ_ACCEPTED && h->out[DSQ_OUT_EVENTS] == 0);
     give_back(h);
 
@@ -558,6 +575,63 @@ static void examples(void)
     CHECK(plain(h, 1, 1500) == DSQ_ACCEPTED && sends(h, 1000, 1, 1000, 0, 1, 0) && amount(h, 1) == 500);
     CHECK(dsq_reset(h->queue) == DSQ_ACCEPTED && amount(h, 1) == 1500);
     CHECK(sends(h, 1000, 1, 1000, 0, 1, 0) && counts(h, 0, 0, 1));
+    give_back(h);
+}
+
+/* ---------------------------------------------------------------- the layout, and the amounts that events tell */
+
+static void layout(void)
+{
+    CHECK(dsq_layout() == DSQ_LAYOUT);
+    CHECK(DSQ_EVENT_WORDS == DSQ_PLACE_WORDS * DSQ_MAX_EVENTS);
+}
+
+/* Three messages of 10 bytes on stream 1, whose threshold is 15, and 100 bytes on stream 2; the total's threshold is 115. */
+static struct host *three_of_ten(uint64_t lifetime)
+{
+    struct host *h = lend(SMALL_STORE, BUFFER, 100);
+    uint64_t id;
+    CHECK(create(h, 1000, 256, 0, 115, 1) == DSQ_ACCEPTED && set_threshold(h, 1, 15) == DSQ_ACCEPTED);
+    for (id = 1; id <= 3; id++)
+        CHECK(add(h, 1, 10, 0, lifetime, id) == DSQ_ACCEPTED);
+    CHECK(plain(h, 2, 100) == DSQ_ACCEPTED);
+    return h;
+}
+
+/* "the amount after the fall, stepped as in the Rust, or the raise that fires it; kinds 3 and 4 carry 0" (document 02, 2/13) */
+static void amounts(void)
+{
+    struct host *h;
+
+    /* closing steps message by message: both fire at the second message, and its end is not the call's */
+    h = three_of_ten(NEVER);
+    CHECK(close_stream(h, 1) == DSQ_ACCEPTED && h->out[DSQ_OUT_EVENTS] == 8);
+    CHECK(dropped(h, 0, 1));
+    CHECK(event(h, 2, DSQ_EVENT_STREAM_LOW, 1, 10) && event(h, 3, DSQ_EVENT_TOTAL_LOW, 0, 110) && dropped(h, 4, 2));
+    CHECK(dropped(h, 6, 3));
+    CHECK(amount(h, 1) == 0 && dsq_total_buffered_amount(h->queue) == 100);
+    give_back(h);
+
+    /* and so does passing over expired heads, total before stream; then stream 2 is sent from */
+    h = three_of_ten(0);
+    h->time = 1000000;
+    CHECK(sends(h, 40, 2, 40, 0, 1, 0) && h->out[DSQ_OUT_EVENTS] == 8);
+    CHECK(dropped(h, 0, 1));
+    CHECK(event(h, 2, DSQ_EVENT_TOTAL_LOW, 0, 110) && event(h, 3, DSQ_EVENT_STREAM_LOW, 1, 10) && dropped(h, 4, 2));
+    CHECK(dropped(h, 6, 3));
+    CHECK(amount(h, 1) == 0 && dsq_total_buffered_amount(h->queue) == 60);
+    give_back(h);
+
+    /* a discard is one step, and so is a fragment, whatever it leaves */
+    h = three_of_ten(NEVER);
+    CHECK(discard(h, 1, 0) == DSQ_ACCEPTED && h->out[DSQ_OUT_EVENTS] == 2 && dropped(h, 0, 1));
+    CHECK(sends(h, 7, 1, 7, 0, 1, 0) && h->out[DSQ_OUT_EVENTS] == 2);
+    CHECK(event(h, 0, DSQ_EVENT_TOTAL_LOW, 0, 113) && event(h, 1, DSQ_EVENT_STREAM_LOW, 1, 13));
+    give_back(h);
+
+    /* a raise past the amount tells the amount, and not the threshold */
+    h = three_of_ten(NEVER);
+    CHECK(set_threshold(h, 1, 31) == DSQ_ACCEPTED && h->out[DSQ_OUT_EVENTS] == 1 && event(h, 0, DSQ_EVENT_STREAM_LOW, 1, 30));
     give_back(h);
 }
 
@@ -636,6 +710,7 @@ static void limits(void)
 
 static void refusals(void)
 {
+    static const size_t few[] = {0, 2 * DSQ_MAX_EVENTS, DSQ_EVENT_WORDS - 1};
     struct host *h = lend(SMALL_STORE, BUFFER, DSQ_MAX_IMAGE(SMALL_STORE));
     struct host *g;
     struct draft d;
@@ -662,15 +737,16 @@ static void refusals(void)
     REFUSED(h, DSQ_STORE_WRONG, restore(h, h->image, 20));
     h->store_length = SMALL_STORE;
 
-    /* 3 */
-    h->events_length = DSQ_EVENT_WORDS - 1;
-    REFUSED(h, DSQ_EVENT_LIST_SHORT, produce(h, 1000));
-    REFUSED(h, DSQ_EVENT_LIST_SHORT, discard(h, 1, 0));
-    REFUSED(h, DSQ_EVENT_LIST_SHORT, close_stream(h, 1));
-    REFUSED(h, DSQ_EVENT_LIST_SHORT, set_threshold(h, 1, 200));
-    h->events_length = 0;
-    REFUSED(h, DSQ_EVENT_LIST_SHORT, produce(h, 0));
-    h->events_length = DSQ_EVENT_WORDS;
+    /* 3: no list; the list of a host compiled for two words an event; one word too few */
+    for (i = 0; i < sizeof few / sizeof *few; i++) {
+        lend_events(h, few[i]);
+        REFUSED(h, DSQ_EVENT_LIST_SHORT, produce(h, 1000));
+        REFUSED(h, DSQ_EVENT_LIST_SHORT, produce(h, 0));
+        REFUSED(h, DSQ_EVENT_LIST_SHORT, discard(h, 1, 0));
+        REFUSED(h, DSQ_EVENT_LIST_SHORT, close_stream(h, 1));
+        REFUSED(h, DSQ_EVENT_LIST_SHORT, set_threshold(h, 1, 200));
+    }
+    lend_events(h, DSQ_EVENT_WORDS);
 
     /* 4 */
     h->time = DSQ_MAX_TIME + 1;
@@ -1018,8 +1094,10 @@ static void damaged_words(void)
 
 int main(void)
 {
+    layout();
     main_path();
     examples();
+    amounts();
     limits();
     refusals();
     planning();
