@@ -1,8 +1,7 @@
 //! A small job of a card feeder: profiles go to eight writing heads, one stream a head, through the send queue.
 //!
-//! First the heads get their first packets in a wanted order. Then comes the job: the heads' backlogs run low, a head's job is closed in the
-//! middle of a profile, and half-way the queue is carried to a second host as an image. At the end every profile is compared byte for byte
-//! with what was queued.
+//! The heads' backlogs run low and are topped up, a head's job is closed in the middle of a profile, and half-way the queue is carried to a
+//! second host as an image. At the end every profile is compared byte for byte with what was queued.
 
 use desqariy::*;
 use std::collections::BTreeMap;
@@ -64,10 +63,22 @@ struct Feeder {
     link: Receiver,
     now: SocketTime,
     fragments: u64,
+    /// A head's next profile, which waits outside the queue until the head's backlog is low.
+    next: BTreeMap<StreamId, u64>,
+    queued: Vec<u64>,
     dropped: Vec<u64>,
 }
 
 impl Feeder {
+    /// Queues a profile for its head; its length.
+    fn add(&mut self, id: u64, lifetime: Option<Duration>) -> Outcome<usize> {
+        let (head, bytes) = (StreamId((id / 100) as u16), profile(id));
+        let options = SendOptions { lifecycle_id: LifecycleId::new(id), lifetime, ..Default::default() };
+        self.queue.add(self.now, Message::new(head, PpId(53), &bytes), &options)?;
+        self.queued.push(id);
+        Ok(bytes.len())
+    }
+
     /// Sends packets, at most so many; how many there were.
     fn send(&mut self, packets: usize) -> Outcome<usize> {
         let mut packet = [0; PACKET];
@@ -88,7 +99,7 @@ impl Feeder {
                 }
             }
             let nothing = fragment.is_none();
-            self.tell();
+            self.tell()?;
             if nothing {
                 return Ok(sent);
             }
@@ -97,17 +108,28 @@ impl Feeder {
     }
 
     /// Tells what the last call reported.
-    fn tell(&mut self) {
-        for event in self.queue.events() {
+    fn tell(&mut self) -> Outcome<()> {
+        for event in self.queue.events().collect::<Vec<_>>() {
             match event {
-                Event::StreamLow(stream) => {
-                    println!("  head {stream}: backlog low, {} bytes left", self.queue.buffered_amount(stream));
+                Event::OnBufferedAmountLow { stream_id, amount } => self.top_up(stream_id, amount)?,
+                Event::OnTotalBufferedAmountLow { amount } => {
+                    println!("  feeder: all backlogs low, {amount} bytes left")
                 }
-                Event::TotalLow => println!("  feeder: all backlogs together low"),
-                Event::Expired(profile) => println!("  profile {profile}: dropped"),
-                Event::End(profile) => self.dropped.push(profile.value()),
+                Event::OnLifecycleMessageExpired(profile) => println!("  profile {profile}: dropped"),
+                Event::OnLifecycleEnd(profile) => self.dropped.push(profile.value()),
             }
         }
+        Ok(())
+    }
+
+    /// A head's backlog is low: its next profile is queued. The event tells what is left, so the queue need not be asked.
+    fn top_up(&mut self, head: StreamId, left: usize) -> Outcome<()> {
+        print!("  head {head}: backlog low, {left} bytes left");
+        match self.next.remove(&head) {
+            Some(id) => println!("; profile {id} makes it {}", left + self.add(id, None)?),
+            None => println!(),
+        }
+        Ok(())
     }
 }
 
@@ -159,17 +181,15 @@ fn main() -> Outcome<()> {
         link: Receiver::default(),
         now: SocketTime::zero(),
         fragments: 0,
+        next: STREAMS.map(|stream| (StreamId(stream), number(stream, 4))).collect(),
+        queued: Vec::new(),
         dropped: Vec::new(),
     };
     feeder.queue.set_priority(StreamId(1), 512)?;
-    let mut queued = Vec::new();
     for stream in STREAMS {
         for place in 1..=3 {
             let id = number(stream, place);
-            let lifetime = (id == 803).then_some(Duration::from_millis(2));
-            let options = SendOptions { lifecycle_id: LifecycleId::new(id), lifetime, ..Default::default() };
-            feeder.queue.add(feeder.now, Message::new(StreamId(stream), PpId(53), &profile(id)), &options)?;
-            queued.push(id);
+            feeder.add(id, (id == 803).then_some(Duration::from_millis(2)))?;
         }
         println!("  head {stream}: 3 profiles, {} bytes", feeder.queue.buffered_amount(StreamId(stream)));
     }
@@ -180,8 +200,9 @@ fn main() -> Outcome<()> {
     feeder.send(45)?;
 
     println!("head {CLOSED}: its job is closed, {} bytes left", feeder.queue.buffered_amount(CLOSED));
+    let new = feeder.next.remove(&CLOSED).ok_or("head 5 was topped up before")?;
     feeder.queue.prepare_reset_stream(CLOSED)?;
-    feeder.tell();
+    feeder.tell()?;
     let rest = feeder.queue.buffered_amount(CLOSED);
     if rest == 0 || feeder.queue.has_streams_ready_to_be_reset() {
         return Err("head 5 was not in the middle of a profile".into());
@@ -211,18 +232,16 @@ fn main() -> Outcome<()> {
     feeder.queue = second;
     feeder.now = clock;
     // Head 5 counts from 0 again; a new job for it.
-    let new = number(CLOSED.0, 4);
-    feeder.queue.add(clock, Message::new(CLOSED, PpId(53), &profile(new)), &SendOptions::default())?;
-    queued.push(new);
+    feeder.add(new, None)?;
     feeder.send(usize::MAX)?;
     println!("second host: nothing waits; {} packets in all", feeder.fragments);
 
-    check(&feeder, &queued)
+    check(&feeder)
 }
 
 /// Every profile came whole, to its head and in order, but for the dropped ones.
-fn check(feeder: &Feeder, queued: &[u64]) -> Outcome<()> {
-    if !feeder.queue.is_empty() || !feeder.link.open.is_empty() {
+fn check(feeder: &Feeder) -> Outcome<()> {
+    if !feeder.queue.is_empty() || !feeder.link.open.is_empty() || !feeder.next.is_empty() {
         return Err("something was left over".into());
     }
     let mut dropped = feeder.dropped.clone();
@@ -231,7 +250,7 @@ fn check(feeder: &Feeder, queued: &[u64]) -> Outcome<()> {
         return Err(format!("dropped: {dropped:?}").into());
     }
     for stream in STREAMS {
-        let mut want = queued.iter().filter(|id| **id / 100 == u64::from(stream) && !dropped.contains(id));
+        let mut want = feeder.queued.iter().filter(|id| **id / 100 == u64::from(stream) && !dropped.contains(id));
         for (_, bytes) in feeder.link.whole.iter().filter(|(to, _)| to.0 == stream) {
             let id = want.next().ok_or_else(|| format!("head {stream}: a profile too many"))?;
             if *bytes != profile(*id) {

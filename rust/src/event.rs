@@ -1,31 +1,48 @@
 //! What a call reports beside its answer.
 
 use crate::ids::StreamId;
+use crate::limits::PLACE_WORDS;
 use crate::message::LifecycleId;
 use std::slice::ChunksExact;
 
-/// Something that a call reports.
+/// Something that a call reports. The names are those of dcSCTP's `SocketEvent`, whose low marks have no amount.
+///
+/// An amount is the one at which the event fired. It need not be the amount after the whole call: a call that drops several messages steps
+/// message by message, so three messages of 10 bytes, closed with the threshold 15, report 10 and not 0.
 #[derive(Clone, Copy, Debug, Eq, PartialEq)]
 pub enum Event {
     /// The stream's buffered amount fell to its threshold or below, or a threshold below it was raised to it or past it.
-    StreamLow(StreamId),
+    OnBufferedAmountLow {
+        /// The stream.
+        stream_id: StreamId,
+        /// Its buffered amount after the fall, or at the raise.
+        amount: usize,
+    },
     /// The total buffered amount fell to its threshold or below.
-    TotalLow,
+    OnTotalBufferedAmountLow {
+        /// The total after the fall.
+        amount: usize,
+    },
     /// The message with this id was dropped: its time was over, or it was discarded, or its stream was closed.
-    Expired(LifecycleId),
+    OnLifecycleMessageExpired(LifecycleId),
     /// Nothing more will be reported of this id.
-    End(LifecycleId),
+    OnLifecycleEnd(LifecycleId),
 }
 
 impl Event {
-    /// The event of this kind and number.
-    fn of(kind: u64, number: u64) -> Self {
-        let id = || LifecycleId::new(number).expect("an event of a message names its lifecycle id");
+    /// The event in a place of the list.
+    fn of(place: &[u64]) -> Self {
+        let [kind, number, amount] = *place else { unreachable!("a place has three words") };
+        let amount = amount as usize;
+        let id = || {
+            assert!(amount == 0, "an event of a message has no amount");
+            LifecycleId::new(number).expect("an event of a message names its lifecycle id")
+        };
         match kind {
-            1 => Self::StreamLow(StreamId(number as u16)),
-            2 => Self::TotalLow,
-            3 => Self::Expired(id()),
-            4 => Self::End(id()),
+            1 => Self::OnBufferedAmountLow { stream_id: StreamId(number as u16), amount },
+            2 => Self::OnTotalBufferedAmountLow { amount },
+            3 => Self::OnLifecycleMessageExpired(id()),
+            4 => Self::OnLifecycleEnd(id()),
             _ => unreachable!("an event has a kind from 1 to 4"),
         }
     }
@@ -36,9 +53,9 @@ impl Event {
 pub struct Events<'a>(ChunksExact<'a, u64>);
 
 impl<'a> Events<'a> {
-    /// The events in these words, kind and number in turn.
+    /// The events in these words, place by place.
     pub(crate) fn new(words: &'a [u64]) -> Self {
-        Self(words.chunks_exact(2))
+        Self(words.chunks_exact(PLACE_WORDS))
     }
 }
 
@@ -46,7 +63,7 @@ impl Iterator for Events<'_> {
     type Item = Event;
 
     fn next(&mut self) -> Option<Event> {
-        self.0.next().map(|event| Event::of(event[0], event[1]))
+        self.0.next().map(Event::of)
     }
 
     fn size_hint(&self) -> (usize, Option<usize>) {

@@ -2,9 +2,10 @@
 //!
 //! Why the calls are safe. The C functions ask for pointers that are valid for the lengths given, that do not overlap where one is written,
 //! and that are aligned. Here every pointer is made from a reference of a fixed or given length, which lives through the call; Rust's rules
-//! for `&mut` say that it overlaps nothing. The fixed lengths are the library's (tests/header.rs compares them). Words and bytes have no
-//! forbidden values. The library reads and writes inside its buffers only (that is proved), keeps no pointer and has no state of its own.
-//! It never unwinds. With too little stack the process ends at the guard page: large frames touch their pages in order.
+//! for `&mut` say that it overlaps nothing. The fixed lengths are those of the library's source (tests/header.rs compares them), and the linked
+//! library is of that source's layout (`SendQueue::new` asks it). Words and bytes have no forbidden values. The library reads and writes
+//! inside its buffers only (that is proved), keeps no pointer and has no state of its own. It never unwinds. With too little stack the process
+//! ends at the guard page: large frames touch their pages in order.
 
 use crate::limits::EVENT_WORDS;
 use crate::limits::MAX_PLANNED;
@@ -25,6 +26,7 @@ pub(crate) type Priorities = [u16; MAX_PLANNED];
 
 mod c {
     unsafe extern "C" {
+        pub fn dsq_layout() -> u64;
         pub fn dsq_create(
             queue: *mut u64,
             store: *const u8,
@@ -126,6 +128,11 @@ mod c {
             time: u64,
         ) -> u8;
     }
+}
+
+pub(crate) fn layout() -> u64 {
+    // SAFETY: it takes nothing and gives a number.
+    unsafe { c::dsq_layout() }
 }
 
 pub(crate) fn create(

@@ -15,10 +15,16 @@ pub const MAX_TIME: u64 = 4_611_686_018_427_387_903;
 /// The most streams that a wanted order names ([`plan_priorities`](crate::plan_priorities)).
 pub const MAX_PLANNED: usize = 32;
 
+/// The layout of words, events and arguments that this crate is written for.
+pub(crate) const LAYOUT: u64 = 2;
 /// Words of a queue's state.
 pub(crate) const QUEUE_WORDS: usize = 20_768;
-/// Words of the event list: 2,305 places of kind and number.
-pub(crate) const EVENT_WORDS: usize = 4_610;
+/// No call reports more events.
+pub(crate) const MAX_EVENTS: usize = 2_305;
+/// Words of an event: kind, number and amount.
+pub(crate) const PLACE_WORDS: usize = 3;
+/// Words of the event list.
+pub(crate) const EVENT_WORDS: usize = MAX_EVENTS * PLACE_WORDS;
 /// Places of what a call tells beside its number.
 pub(crate) const OUT_WORDS: usize = 16;
 /// An image's bytes beside its payloads, at most: records of all streams and messages, and the trailer.

@@ -11,9 +11,11 @@ use crate::fragment::DataToSend;
 use crate::ids::OutgoingMessageId;
 use crate::ids::StreamId;
 use crate::limits::EVENT_WORDS;
+use crate::limits::LAYOUT;
 use crate::limits::MAX_PAYLOAD;
 use crate::limits::MAX_STORE;
 use crate::limits::OUT_WORDS;
+use crate::limits::PLACE_WORDS;
 use crate::limits::QUEUE_WORDS;
 use crate::message::Message;
 use crate::message::SendOptions;
@@ -52,8 +54,12 @@ pub(crate) fn accepted(number: u8) {
 impl SendQueue {
     /// A new queue. Fragments of up to `max_payload_bytes` are meant to be sent: the scheduler reckons with that size.
     ///
+    /// Panics where the linked library has another layout than this crate is written for.
+    ///
     /// Refused: [`Refusal::PayloadLimitWrong`], [`Refusal::StoreWrong`].
     pub fn new(max_payload_bytes: usize, options: &Options) -> Result<Self, Refusal> {
+        let layout = ffi::layout();
+        assert!(layout == LAYOUT, "libsend_queue_c.a has layout {layout}, and this crate is written for {LAYOUT}");
         let mut queue = Self {
             words: zeros::<QUEUE_WORDS>(),
             // A longer store than any queue takes need not be had for it to be refused.
@@ -147,7 +153,7 @@ impl SendQueue {
     /// What the last call reported, in order. A call that was refused has reported nothing. Asking and saving do not count as calls. (A
     /// fragment lent by [`produce`](SendQueue::produce) must be let go of first.)
     pub fn events(&self) -> Events<'_> {
-        Events::new(&self.events[..2 * self.event_count])
+        Events::new(&self.events[..PLACE_WORDS * self.event_count])
     }
 
     /// Keeps the number of events that a call wrote; a refused one leaves its place at 0.

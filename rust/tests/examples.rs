@@ -17,6 +17,10 @@ fn add(queue: &mut SendQueue, stream: u16, length: usize) {
     queue.add(NOW, Message::new(StreamId(stream), PpId(53), &vec![1; length]), &SendOptions::default()).unwrap();
 }
 
+fn low(stream: u16, amount: usize) -> Event {
+    Event::OnBufferedAmountLow { stream_id: StreamId(stream), amount }
+}
+
 /// Stream and length of every fragment until nothing waits.
 fn sent(queue: &mut SendQueue) -> Vec<(u16, usize)> {
     let mut list = Vec::new();
@@ -66,7 +70,7 @@ fn a_lifetime_of_0_ends_a_millisecond_later() {
         q.add(added, Message::new(StreamId(1), PpId(53), &[0; 10]), &options).unwrap();
         assert_eq!(q.produce(SocketTime(now), 1_000).unwrap().is_some(), waits);
         let id = LifecycleId::new(7).unwrap();
-        let dropped = [Event::Expired(id), Event::End(id)];
+        let dropped = [Event::OnLifecycleMessageExpired(id), Event::OnLifecycleEnd(id)];
         assert_eq!(q.events().skip(2).collect::<Vec<_>>(), if waits { &[][..] } else { &dropped });
     }
 }
@@ -87,7 +91,7 @@ fn low_when_the_amount_falls_to_its_threshold() {
     q.set_buffered_amount_low_threshold(StreamId(1), 4).unwrap();
     add(&mut q, 1, 10);
     assert_eq!(q.produce(NOW, 6).unwrap().unwrap().data.payload.len(), 6);
-    assert_eq!(q.events().collect::<Vec<_>>(), [Event::StreamLow(StreamId(1))]);
+    assert_eq!(q.events().collect::<Vec<_>>(), [low(1, 4)]);
 }
 
 #[test]
@@ -96,7 +100,7 @@ fn low_when_the_threshold_rises_to_the_amount() {
     q.set_buffered_amount_low_threshold(StreamId(1), 4).unwrap();
     add(&mut q, 1, 10);
     q.set_buffered_amount_low_threshold(StreamId(1), 10).unwrap();
-    assert_eq!(q.events().collect::<Vec<_>>(), [Event::StreamLow(StreamId(1))]);
+    assert_eq!(q.events().collect::<Vec<_>>(), [low(1, 10)]);
     q.set_buffered_amount_low_threshold(StreamId(1), 12).unwrap();
     assert_eq!(q.events().len(), 0);
 }

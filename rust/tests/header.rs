@@ -49,7 +49,7 @@ fn of_header(header: &str) -> Functions {
         let mut words = head.rsplit(' ');
         let (name, answer) = (words.next().unwrap(), words.next().unwrap());
         let mut list: Vec<String> = Vec::new();
-        for parameter in parameters.trim_end_matches(')').split(", ") {
+        for parameter in parameters.trim_end_matches(')').split(", ").filter(|p| *p != "void") {
             let plain = parameter.split('[').next().unwrap();
             let (kind, name) = plain.rsplit_once(' ').unwrap();
             let pointer = parameter.contains('[') || name.starts_with('*');
@@ -99,7 +99,7 @@ fn of_parameter(name: &str, kind: &str, list: &mut Vec<String>) {
 
 fn of_source() -> Functions {
     let mut functions = Functions::new();
-    for file in ["images", "messages", "planning", "questions", "sending", "streams"] {
+    for file in ["images", "layout", "messages", "questions", "sending", "streams"] {
         for part in text(&format!("../crates/send_queue_c/src/{file}.rt")).split("pub extern \"C\" fn ").skip(1) {
             let (name, rest) = part.split_once('(').unwrap();
             let (parameters, rest) = rest.split_once(") -> ").unwrap();
@@ -135,12 +135,16 @@ fn the_lengths_and_places_are_the_proved_ones() {
     let words = text("../crates/queue_words/src/lib.rt");
     let events = text("../crates/queue_streams/src/events.rt");
     let places = text("../crates/send_queue_c/src/numbers.rt");
-    let lists = text("../crates/priority_plan/src/lists.rt");
+    let layout = text("../crates/send_queue_c/src/layout.rt");
     for (define, source, constant) in [
+        ("#define DSQ_LAYOUT", &layout, "const LAYOUT: u64"),
+        ("#define DSQ_LAYOUT", &limits, "const LAYOUT: u64"),
         ("#define DSQ_QUEUE_WORDS", &words, "const QUEUE_WORDS: usize"),
         ("#define DSQ_QUEUE_WORDS", &limits, "const QUEUE_WORDS: usize"),
-        ("#define DSQ_EVENT_WORDS", &events, "const EVENT_PLACES: usize"),
-        ("#define DSQ_EVENT_WORDS", &limits, "const EVENT_WORDS: usize"),
+        ("#define DSQ_MAX_EVENTS", &events, "const EVENT_PLACES: usize"),
+        ("#define DSQ_MAX_EVENTS", &limits, "const MAX_EVENTS: usize"),
+        ("DSQ_PLACE_WORDS =", &events, "const PLACE_WORDS: usize"),
+        ("DSQ_PLACE_WORDS =", &limits, "const PLACE_WORDS: usize"),
         ("DSQ_OUT_WORDS =", &places, "const OUT_WORDS: usize"),
         ("DSQ_OUT_WORDS =", &limits, "const OUT_WORDS: usize"),
         ("#define DSQ_MAX_PLANNED", &lists, "const MAX_PLANNED: usize"),
@@ -153,12 +157,27 @@ fn the_lengths_and_places_are_the_proved_ones() {
     ] {
         assert_eq!(number(&header, define), number(source, constant), "{define}");
     }
+    let list = number(&header, "DSQ_PLACE_WORDS =") * number(&header, "#define DSQ_MAX_EVENTS");
+    assert_eq!(number(&header, "#define DSQ_EVENT_WORDS"), list);
     let list = without_comments(header.split_once("enum dsq_out {").unwrap().1.split_once("};").unwrap().0);
     for entry in list.split(',') {
         let (name, place) = entry.trim().split_once(" = ").unwrap();
         let constant = format!("const {}: usize", name.trim_start_matches("DSQ_OUT_").replace("WORDS", "OUT_WORDS"));
         assert_eq!(place.parse(), Ok(number(&places, &constant)), "{name}");
     }
+}
+
+/// The layout, and a sum over what the header declares. Whoever changes a declaration decides whether a host compiled before would be wrong
+/// with it. Then the layout moves, here and in the header, limits.rs and send_queue_c. What is only added has a new sum and no new layout.
+const LAYOUT: (u64, u32) = (2, 2_986_811_551);
+
+#[test]
+fn the_layout_goes_with_what_the_header_declares() {
+    let header = text("../c/send_queue.h");
+    let declared = without_comments(&header);
+    let letters = declared.split_whitespace().flat_map(str::bytes);
+    let sum = letters.fold(17_u32, |s, b| s.wrapping_mul(31).wrapping_add(u32::from(b)));
+    assert_eq!((number(&header, "#define DSQ_LAYOUT"), sum), LAYOUT, "a declaration has changed: see `LAYOUT` here");
 }
 
 /// `DSQ_STORE_FULL` is `StoreFull`.

@@ -13,6 +13,10 @@ fn queue() -> SendQueue {
     SendQueue::new(1_000, &Options::default()).unwrap()
 }
 
+fn low(stream: u16, amount: usize) -> Event {
+    Event::OnBufferedAmountLow { stream_id: StreamId(stream), amount }
+}
+
 #[test]
 fn a_queue_can_go_to_another_thread() {
     fn check<T: Send + Sync + 'static>() {}
@@ -85,7 +89,7 @@ fn a_refused_fragment_leaves_the_buffer_and_has_no_events() {
     assert_eq!(q.produce_into(NOW, &mut buffer).unwrap().unwrap().data.payload, b"1234");
     assert_eq!(q.produce_into(NOW, &mut buffer).unwrap().unwrap().data.payload, b"5");
     assert_eq!(&buffer, b"5234");
-    assert_eq!(q.events().collect::<Vec<_>>(), [Event::StreamLow(StreamId(1))]);
+    assert_eq!(q.events().collect::<Vec<_>>(), [low(1, 0)]);
     assert_eq!(q.produce(NOW, MAX_PAYLOAD), Ok(None));
 }
 
@@ -97,12 +101,49 @@ fn events_are_those_of_the_last_call() {
     q.add(NOW, message(1, b"12345"), &options).unwrap();
     q.discard(StreamId(1), OutgoingMessageId(0));
     let id = id.unwrap();
-    let want = [Event::StreamLow(StreamId(1)), Event::Expired(id), Event::End(id)];
+    let want = [low(1, 0), Event::OnLifecycleMessageExpired(id), Event::OnLifecycleEnd(id)];
     assert_eq!(q.events().collect::<Vec<_>>(), want);
     assert_eq!(q.events().len(), 3, "asking again, or for something else, changes nothing");
     assert!(q.is_empty() && q.events().len() == 3);
     q.discard(StreamId(1), OutgoingMessageId(0));
     assert_eq!(q.events().len(), 0);
+}
+
+/// Document 02, 2/13: "the amount after the fall, stepped as in the Rust, or the raise that fires it".
+#[test]
+fn a_low_mark_tells_the_amount_at_which_it_fired() {
+    let total = |amount| Event::OnTotalBufferedAmountLow { amount };
+    let options = Options { total_buffered_amount_low_threshold: 115, ..Options::default() };
+    let three_of_ten = |lifetime| {
+        let mut q = SendQueue::new(1_000, &options).unwrap();
+        q.set_buffered_amount_low_threshold(StreamId(1), 15).unwrap();
+        let options = SendOptions { lifetime, ..Default::default() };
+        for _ in 0..3 {
+            q.add(NOW, message(1, &[0; 10]), &options).unwrap();
+        }
+        q.add(NOW, message(2, &[0; 100]), &SendOptions::default()).unwrap();
+        q
+    };
+
+    let mut q = three_of_ten(None);
+    q.prepare_reset_stream(StreamId(1)).unwrap();
+    assert_eq!(q.events().collect::<Vec<_>>(), [low(1, 10), total(110)], "closing steps message by message");
+    assert_eq!((q.buffered_amount(StreamId(1)), q.total_buffered_amount()), (0, 100));
+
+    let mut q = three_of_ten(Some(Duration::ZERO));
+    assert_eq!(q.produce(SocketTime(1_000_000), 40).unwrap().unwrap().data.payload.len(), 40);
+    assert_eq!(q.events().collect::<Vec<_>>(), [total(110), low(1, 10)], "passing over expired heads does too");
+    assert_eq!((q.buffered_amount(StreamId(1)), q.total_buffered_amount()), (0, 60));
+
+    let mut q = three_of_ten(None);
+    q.discard(StreamId(1), OutgoingMessageId(0));
+    assert_eq!(q.events().len(), 0);
+    assert!(q.produce(NOW, 7).unwrap().is_some());
+    assert_eq!(q.events().collect::<Vec<_>>(), [total(113), low(1, 13)], "a fragment is one step");
+
+    let mut q = three_of_ten(None);
+    q.set_buffered_amount_low_threshold(StreamId(1), 31).unwrap();
+    assert_eq!(q.events().collect::<Vec<_>>(), [low(1, 30)], "a raise tells the amount, not the threshold");
 }
 
 #[test]

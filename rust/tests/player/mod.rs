@@ -125,13 +125,13 @@ impl Player {
 
     fn events(&mut self, answer: &mut String) {
         for event in self.queue().events() {
-            let (kind, number) = match event {
-                Event::StreamLow(id) => (1, u64::from(id.0)),
-                Event::TotalLow => (2, 0),
-                Event::Expired(id) => (3, id.value()),
-                Event::End(id) => (4, id.value()),
+            let (kind, number, amount) = match event {
+                Event::OnBufferedAmountLow { stream_id, amount } => (1, u64::from(stream_id.0), amount),
+                Event::OnTotalBufferedAmountLow { amount } => (2, 0, amount),
+                Event::OnLifecycleMessageExpired(id) => (3, id.value(), 0),
+                Event::OnLifecycleEnd(id) => (4, id.value(), 0),
             };
-            writeln!(answer, "! {kind} {number}").unwrap();
+            writeln!(answer, "! {kind} {number} {amount}").unwrap();
         }
     }
 
