@@ -3,7 +3,8 @@
 //! usage: beside [CALLS] [SEED]
 //!
 //! Compared are refusals, fragments with all that goes with them, events, ready ids, images byte for byte, and after each call the answers
-//! to all questions. At the first difference the calls since the last start are shown, in the format of the reference's trace tool.
+//! to all questions. Of events kind and number are compared; the original's have no amount, so that of ours is held to the original's state.
+//! At the first difference the calls since the last start are shown, in the format of the reference's trace tool.
 
 #![allow(dead_code, unused_imports)]
 

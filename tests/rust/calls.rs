@@ -140,7 +140,7 @@ macro_rules! questions {
 }
 pub(crate) use questions;
 
-/// What a call answers: 0 or the refusal; numbers; a fragment's or an image's bytes; events as kind and number.
+/// What a call answers: 0 or the refusal; numbers; a fragment's or an image's bytes; events as kind and number (pair.rs judges amounts).
 #[derive(Debug, Default, PartialEq)]
 pub struct Answer {
     pub refusal: u8,

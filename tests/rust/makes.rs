@@ -157,7 +157,7 @@ impl<'a> Maker<'a> {
 
     fn size(&mut self) -> u64 {
         let limit = self.creation.0;
-        let total = self.pair.theirs().questions(0)[1];
+        let total = self.pair.theirs().total();
         let some = self.dice.from_to(1, 2 * limit);
         let sizes = [1, limit, limit, limit, limit / 2, limit + 1, limit - 1, some, total, MAX_PAYLOAD];
         self.dice.pick(&sizes).clamp(1, MAX_PAYLOAD)
@@ -243,7 +243,7 @@ impl<'a> Maker<'a> {
         let any = self.dice.next() as u32;
         let (stream, id) = match self.half_sent {
             Some(half) if self.dice.chance(300) => half,
-            _ if self.pair.theirs().questions(0)[1] < 50_000 && self.dice.chance(900) => {
+            _ if self.pair.theirs().total() < 50_000 && self.dice.chance(900) => {
                 let messages = self.pair.theirs().record(0).tx.queued_messages;
                 if messages.is_empty() {
                     return;

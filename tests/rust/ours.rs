@@ -99,14 +99,25 @@ impl Ours {
         answer
     }
 
+    /// Kind and number of each event. That an event of kind 3 or 4 has no amount the crate asserts.
     fn events(&self) -> Vec<(u8, u64)> {
         let pair = |event| match event {
-            Event::StreamLow(id) => (1, u64::from(id.0)),
-            Event::TotalLow => (2, 0),
-            Event::Expired(id) => (3, id.value()),
-            Event::End(id) => (4, id.value()),
+            Event::OnBufferedAmountLow { stream_id, .. } => (1, u64::from(stream_id.0)),
+            Event::OnTotalBufferedAmountLow { .. } => (2, 0),
+            Event::OnLifecycleMessageExpired(id) => (3, id.value()),
+            Event::OnLifecycleEnd(id) => (4, id.value()),
         };
         self.queue.events().map(pair).collect()
+    }
+
+    /// The low marks of the last call that reports: a stream, or none for the total; and the amount.
+    pub fn low_marks(&self) -> Vec<(Option<u16>, u64)> {
+        let mark = |event| match event {
+            Event::OnBufferedAmountLow { stream_id, amount } => Some((Some(stream_id.0), amount as u64)),
+            Event::OnTotalBufferedAmountLow { amount } => Some((None, amount as u64)),
+            _ => None,
+        };
+        self.queue.events().filter_map(mark).collect()
     }
 
     fn add(&mut self, a: &Adding) -> u8 {

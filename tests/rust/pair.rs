@@ -17,6 +17,8 @@ pub struct Tally {
     bytes: u64,
     restored: u64,
     events: [u64; 5],
+    /// Low marks that told the amount after the call, and those that told a step before it.
+    amounts: [u64; 2],
     refusals: [u64; 17],
 }
 
@@ -55,7 +57,10 @@ impl fmt::Display for Tally {
             let seen = counts.iter().enumerate().skip(1).filter(|(_, n)| **n > 0);
             seen.map(|(k, n)| format!(" {k}: {}", thousands(*n))).collect::<Vec<_>>().join(",")
         };
-        write!(f, "\nevents by kind:{}\nrefusals by number:{}", list(&self.events), list(&self.refusals))
+        let [after, before] = self.amounts.map(thousands);
+        write!(f, "\nevents by kind:{}", list(&self.events))?;
+        write!(f, "\nlow marks with the amount after the call: {after}, with one before it: {before}")?;
+        write!(f, "\nrefusals by number:{}", list(&self.refusals))
     }
 }
 
@@ -86,11 +91,13 @@ impl Pair {
     /// Makes the call on both queues; the answer, which is the same.
     pub fn call(&mut self, call: Call) -> Answer {
         self.note(&call);
+        let total = self.queues.as_ref().map_or(0, |(theirs, _)| theirs.total());
         let (want, got) = self.answers(&call);
         self.tally.count(&call, &want);
         if want != got {
             self.differ(&want.beside(&got), &got.beside(&want));
         }
+        self.judge_amounts(&call, total, &want);
         if let Call::Save { .. } = call
             && want.refusal == 0
         {
@@ -167,6 +174,26 @@ impl Pair {
                 let refused = |answer: Option<u8>| Answer::refused(answer.unwrap_or(0));
                 (refused(want.err()), refused(got.err()))
             }
+        }
+    }
+
+    /// The amounts of the low marks, as far as the original's own state tells them. A mark fires at or below its threshold, and until the
+    /// call ends the amount can only fall further; a call of one step leaves the amount that it told.
+    fn judge_amounts(&mut self, call: &Call, total: u64, answer: &Answer) {
+        let Some((theirs, ours)) = &self.queues else { return };
+        let one_step = match call {
+            Call::Discard { .. } | Call::Threshold { .. } => true,
+            Call::Produce { .. } => theirs.total() + answer.bytes.len() as u64 == total,
+            Call::Close { .. } => false,
+            _ => return,
+        };
+        for (stream, told) in ours.low_marks() {
+            let (after, threshold) = theirs.watched(stream);
+            if told < after || told > threshold || (one_step && told != after) {
+                let want = format!("stream {stream:?} has {after} after the call, its threshold is {threshold}");
+                self.differ(&want, &format!("its low mark tells {told}"));
+            }
+            self.tally.amounts[usize::from(told != after)] += 1;
         }
     }
 

@@ -35,6 +35,7 @@ pub struct Theirs {
     known: BTreeSet<u16>,
     store: usize,
     priority: u16,
+    total_threshold: u64,
 }
 
 fn time(ns: u64) -> SocketTime {
@@ -62,7 +63,7 @@ impl Theirs {
         };
         let sink = Rc::new(RefCell::new(Sink::default()));
         let queue = SendQueue::new(limit as usize, &options, sink.clone());
-        Ok(Theirs { queue, sink, known: BTreeSet::new(), store, priority })
+        Ok(Theirs { queue, sink, known: BTreeSet::new(), store, priority, total_threshold: total })
     }
 
     pub fn interleave(&mut self, on: bool) {
@@ -96,6 +97,17 @@ impl Theirs {
 
     pub fn questions(&self, stream: u16) -> [u64; 8] {
         questions!(&self.queue, StreamId(stream))
+    }
+
+    pub fn total(&self) -> u64 {
+        self.queue.total_buffered_amount() as u64
+    }
+
+    /// The amount and the threshold of a stream, or of all of them together.
+    pub fn watched(&self, stream: Option<u16>) -> (u64, u64) {
+        let Some(stream) = stream else { return (self.total(), self.total_threshold) };
+        let [amount, _, _, threshold, ..] = self.questions(stream);
+        (amount, threshold)
     }
 
     /// The answer to any call but creation and what concerns the current image alone.
