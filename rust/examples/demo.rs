@@ -1,7 +1,8 @@
 //! A small job of a card feeder: profiles go to eight writing heads, one stream a head, through the send queue.
 //!
-//! The heads' backlogs run low and are topped up, a head's job is closed in the middle of a profile, and half-way the queue is carried to a
-//! second host as an image. At the end every profile is compared byte for byte with what was queued.
+//! First the heads get their first packets in a wanted order. Then comes the job: the heads' backlogs run low and are topped up, a head's job is
+//! closed in the middle of a profile, and half-way the queue is carried to a second host as an image. At the end every profile is compared byte
+//! for byte with what was queued.
 
 use desqariy::*;
 use std::collections::BTreeMap;

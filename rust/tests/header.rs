@@ -99,7 +99,7 @@ fn of_parameter(name: &str, kind: &str, list: &mut Vec<String>) {
 
 fn of_source() -> Functions {
     let mut functions = Functions::new();
-    for file in ["images", "layout", "messages", "questions", "sending", "streams"] {
+    for file in ["images", "layout", "messages", "planning", "questions", "sending", "streams"] {
         for part in text(&format!("../crates/send_queue_c/src/{file}.rt")).split("pub extern \"C\" fn ").skip(1) {
             let (name, rest) = part.split_once('(').unwrap();
             let (parameters, rest) = rest.split_once(") -> ").unwrap();
@@ -135,6 +135,7 @@ fn the_lengths_and_places_are_the_proved_ones() {
     let words = text("../crates/queue_words/src/lib.rt");
     let events = text("../crates/queue_streams/src/events.rt");
     let places = text("../crates/send_queue_c/src/numbers.rt");
+    let lists = text("../crates/priority_plan/src/lists.rt");
     let layout = text("../crates/send_queue_c/src/layout.rt");
     for (define, source, constant) in [
         ("#define DSQ_LAYOUT", &layout, "const LAYOUT: u64"),

@@ -2,7 +2,7 @@
 use mathlib.Core.Path.{_≡_, refl, sym, ap, ap₂, _∙_, subst}
 use mathlib.Core.Bool.{true}
 use mathlib.Core.List.{List, [], _∷_, _++_}
-use Prim.Native.Nat.{ℕ, _+_}
+use Prim.Native.Nat.{ℕ, _+_, _<_}
 use native.Mathlib.Omega.{arith}
 use lib.ListN.{length}
 use Rattle.queue_model.specs.Types as plain
@@ -14,6 +14,7 @@ use Rattle.queue_model.specs.Waiting.{is-waiting}
 use Rattle.queue_model.specs.FairTurns as model
 use Rattle.queue_model.proofs.Invariant.Sixteen.{reachable-options}
 use Rattle.queue_model.proofs.FairTurns.Theorem as theorem
+use Rattle.queue_model.proofs.FairTurns.Seen.{BothOpen, open-on, both-wait}
 use Rattle.queue_streams.specs.Events.{placesIn}
 use Rattle.queue_streams.specs.declared.answers.Number.the-variants as number-answer
 use Rattle.queue_questions.specs.Questions.{priorityOf, amountOf}

@@ -1,20 +1,20 @@
 // What the program keeps between lines, in one array of 160 words.
 //
-//     words       holds
-//      0 to 10    the numbers of the line, at most 11
-//     11          how many they are
-//     12          the line's letter
-//     13          the number of the line in the trace
-//     14 to 17    the lengths lent: places of the event list, bytes of the fragment buffer, of the image buffer and of the store
-//     18          1 if there is a queue
-//     19          bytes waiting in the output buffer
-//     20 to 21    the next byte of the input buffer, and where its bytes end
-//     22          the length of the current image
-//     23 to 28    the numbers of the line that created the queue
-//     29          the interleaving choice, 0 or 1
+//     words         holds
+//       0 to 130    the numbers of the line, at most 131
+//     131           how many they are
+//     132           the line's letter
+//     133           the number of the line in the trace
+//     134 to 137    the lengths lent: places of the event list, bytes of the fragment buffer, of the image buffer and of the store
+//     138           1 if there is a queue
+//     139           bytes waiting in the output buffer
+//     140 to 141    the next byte of the input buffer, and where its bytes end
+//     142           the length of the current image
+//     143 to 148    the numbers of the line that created the queue
+//     149           the interleaving choice, 0 or 1
 use send_queue::PLACE_WORDS;
 
-pub const STATE: usize = 32;
+pub const STATE: usize = 160;
 
 pub const NUMBERS: usize = 131;
 
