@@ -5,5 +5,8 @@ pub mod Fine
 pub mod Sends
 pub mod Accepted
 pub mod Sixteen
+pub mod Each
+pub mod Pending
 pub mod Events
 pub mod Serving
+pub mod Fates

@@ -12,7 +12,7 @@ use Rattle.queue_model.specs.Add.{expiry, new-item}
 use Rattle.queue_model.specs.Produce.{give-numbers}
 use Rattle.queue_model.specs.Questions.{readiness}
 use Rattle.queue_model.specs.Image.{bit, ms-left-at, write-image}
-use Rattle.queue_model.specs.Run.{Call, add, produce, discard, close, ready-ids, reset, set-threshold, set-priority, set-interleaving, ask-amount, run, after}
+use Rattle.queue_model.specs.Run.{Call, add, produce, discard, close, ready-ids, commit, rollback, reset, set-threshold, set-priority, set-interleaving, ask-amount, run, after}
 
 -- The queue of the examples: payload limit 1,000, default priority 256, thresholds 0.
 queue : Queue
@@ -163,9 +163,17 @@ unfolding shows fires fires-at thrice put get begun ended noted ready-with
 facts =
     -- "a remaining half-sent one makes the stream pending"; "When a pending stream's message ends or is discarded, it is paused."
     (shows (put 5 1500 0 none ∷ get 0 1000 ∷ close 2305 5 ∷ ready-ids ∷ get 0 1000 ∷ ready-ids ∷ []) gives (begun 5 ++ ended 5 ++ (5 ∷ [])))
-    -- "messages added to a paused or resetting stream do not start it"; to a pending one without messages they do.
+    -- "messages added to a paused or resetting stream do not start it".
     ∷ (shows (close 2305 5 ∷ put 5 10 0 none ∷ get 0 10 ∷ []) gives (888 ∷ []))
-    ∷ (shows (put 5 1500 0 (some 0) ∷ get 0 1000 ∷ close 2305 5 ∷ get 1000000 1000 ∷ put 5 10 0 none ∷ get 0 10 ∷ []) gives (begun 5 ++ (888 ∷ 5 ∷ 10 ∷ 1 ∷ 1 ∷ 1 ∷ 1 ∷ 0 ∷ [])))
+    -- "When a pending stream's half-sent head expires, the stream becomes paused": it is ready, a message behind it waits for the commit, and is then the first of the stream.
+    ∷ (shows (put 5 1500 0 (some 0) ∷ get 0 1000 ∷ close 2305 5 ∷ put 5 10 0 none ∷ get 1000000 1000 ∷ ready-ids ∷ get 1000000 10 ∷ commit ∷ get 1000000 10 ∷ [])
+    gives (begun 5 ++ (888 ∷ 5 ∷ 888 ∷ 5 ∷ 10 ∷ 1 ∷ 1 ∷ 0 ∷ 0 ∷ 0 ∷ [])))
+    -- The same with another stream, to which "the choice goes"; then a rollback, and a whole-queue reset.
+    ∷ (shows (put 5 1500 0 (some 0) ∷ get 0 1000 ∷ close 2305 5 ∷ put 5 10 0 none ∷ put 7 10 0 none ∷ get 1000000 1000 ∷ ready-ids ∷ rollback ∷ get 1000000 10 ∷ [])
+    gives (begun 5 ++ (7 ∷ 10 ∷ 1 ∷ 1 ∷ 0 ∷ 0 ∷ 0 ∷ 5 ∷ 5 ∷ 10 ∷ 1 ∷ 1 ∷ 1 ∷ 1 ∷ 0 ∷ [])))
+    ∷ (shows (put 5 1500 0 (some 0) ∷ get 0 1000 ∷ close 2305 5 ∷ put 5 10 0 none ∷ get 1000000 1000 ∷ reset ∷ get 1000000 10 ∷ []) gives (begun 5 ++ (888 ∷ 5 ∷ 10 ∷ 1 ∷ 1 ∷ 0 ∷ 0 ∷ 0 ∷ [])))
+    -- An open stream "stays as it was when its half-sent message expires", and goes on with the message behind it.
+    ∷ (shows (put 5 1500 0 (some 0) ∷ get 0 1000 ∷ put 5 10 0 none ∷ get 1000000 1000 ∷ ready-ids ∷ []) gives (begun 5 ++ (5 ∷ 10 ∷ 1 ∷ 1 ∷ 1 ∷ 1 ∷ 0 ∷ [])))
     -- "Sending and dropping report total, stream, then 3 and 4 for a drop with an id; closing reports stream before total."
     ∷ (fires (noted 5 9 ∷ discard 2305 5 0 ∷ []) gives (2 ∷ 0 ∷ 0 ∷ 1 ∷ 5 ∷ 0 ∷ 3 ∷ 9 ∷ 0 ∷ 4 ∷ 9 ∷ 0 ∷ []))
     ∷ (fires (noted 5 9 ∷ close 2305 5 ∷ []) gives (1 ∷ 5 ∷ 0 ∷ 2 ∷ 0 ∷ 0 ∷ 3 ∷ 9 ∷ 0 ∷ 4 ∷ 9 ∷ 0 ∷ []))

@@ -9,7 +9,7 @@ use Rattle.types.specs.Wrap.{wrap-suc}
 use Rattle.queue_model.specs.Logic.{if_then_else_}
 use Rattle.queue_model.specs.Table.{find, put}
 use Rattle.queue_model.specs.Types.{Item, PauseState, not-paused, pending, paused, resetting, Counters, Stream, Active, Queue, Event, Fragment, fragment, nothing-waits, Step, refuse, reply, remaining, expired, with-items, with-pause, with-counters, with-numbers, with-state}
-use Rattle.queue_model.specs.Scheduler.{set-bytes-remaining, peek, accept}
+use Rattle.queue_model.specs.Scheduler.{remove-stream, set-bytes-remaining, peek, accept}
 use Rattle.queue_model.specs.Streams.{find-stream, put-stream, waiting, head-size, weight-of, reschedule}
 use Rattle.queue_model.specs.Refusals.{Check, checked, store-other, places-few, time-late, size-wrong, buffer-short, short-of, short-of-head}
 use Rattle.queue_model.specs.Amounts.{sent-events, drop-head-events}
@@ -30,13 +30,24 @@ unfolding head-in
 head-of none = no-head
 head-of (some s) = head-in s (s .items)
 
--- The queue without a stream's head; the stream waits with what is behind it, in whatever state it is: "A stream stays as it was when its half-sent message expires,
--- closing included."
+-- The queue without a stream's head; the stream waits with what is behind it and stays as it was.
 unfoldable pub drop-head : Queue → Stream → Item → List Item → Queue
 unfolding put reschedule
 drop-head q s i is =
     let s′ = with-items s (s .amount - remaining i) is in
     with-state q (q .total - remaining i) (put-stream s′ (q .streams)) (reschedule (q .interleaving) s′ (q .scheduler))
+
+-- A head that is dropped, as expired or by a discard. "When a pending stream's message ends or is discarded, it is paused"; document 02, 3/13: "When a pending stream's half-sent
+-- head expires, the stream becomes paused, its later messages wait for commit, rollback, whole-queue reset or what else 01 lists as scheduling a paused stream, and the choice goes
+-- to the other streams." (A pending stream's head is always half-sent: `pending-half`, proofs/Invariant/Pending.) In any other state "A stream stays as it was" and waits with what
+-- is behind ("or a discard, schedules a paused stream").
+unfoldable pub drop-in : PauseState → Queue → Stream → Item → List Item → Queue
+unfolding drop-head put remove-stream
+drop-in not-paused q s i is = drop-head q s i is
+drop-in pending q s i is =
+    with-state q (q .total - remaining i) (put-stream (with-pause paused (with-items s (s .amount - remaining i) is)) (q .streams)) (remove-stream (s .id) (q .scheduler))
+drop-in paused q s i is = drop-head q s i is
+drop-in resetting q s i is = drop-head q s i is
 
 -- ------------------------------------------------------------------ the choice
 
@@ -49,8 +60,8 @@ pub data Look : Type 0 where
 
 -- An expired head is dropped, half-sent or not; 16 where an amount would fall below 0.
 unfoldable pub look-expired : Queue → Stream → Item → List Item → Look
-unfolding short-of drop-head drop-head-events
-look-expired q s i is = if short-of q s (remaining i) then broken else dropped (drop-head q s i is) (drop-head-events q s i)
+unfolding short-of drop-in drop-head-events
+look-expired q s i is = if short-of q s (remaining i) then broken else dropped (drop-in (s .pause-state) q s i is) (drop-head-events q s i)
 
 -- 16: "The scheduler chose a stream with no waiting message".
 unfoldable pub look-at : ℕ → Queue → Active → Head → Look
@@ -118,7 +129,7 @@ make-fragment s i n =
 
 -- ------------------------------------------------------------------ handing out
 
--- "When a pending stream's message ends or is discarded, it is paused."
+-- "When a pending stream's message ends or is discarded, it is paused." (or expires: `drop-in`)
 unfoldable pub end-pending : PauseState → PauseState
 end-pending not-paused = not-paused
 end-pending pending = paused

@@ -16,8 +16,8 @@ use Rattle.queue_model.specs.Streams.{find-stream, put-stream, new-strea
 use Rattle.queue_model.specs.Refusals.{Check, first-refusal, short-of, refused-or, checked, short-of-head}
 use Rattle.queue_model.specs.Amounts.{drop-head-events, sent-events}
 use Rattle.queue_model.specs.Add.{added, add-checks, new-item, started}
-use Rattle.queue_model.specs.Produce.{Head, head-of, drop-head, Look, nothing, broken, dropped, chosen, look-at, look, numbered, handed-out-last, handed-out-part, handed-out, hand-out, pass-over, make-fragment, after-look, look-expired, look-for, produce-checks}
-use Rattle.queue_model.specs.Discard.{discard-in, discard-at, discard-checks, discarded}
+use Rattle.queue_model.specs.Produce.{Head, head-of, drop-head, drop-in, Look, nothing, broken, dropped, chosen, look-at, look, numbered, handed-out-last, handed-out-part, handed-out, hand-out, pass-over, make-fragment, after-look, look-expired, look-for, produce-checks}
+use Rattle.queue_model.specs.Discard.{discard-at, discard-checks, discarded}
 use Rattle.queue_model.specs.Close.{swept-bytes, closed, closing-bytes, close-checks, close-in, closed-scheduler, closed-state, kept}
 use Rattle.queue_model.specs.Reset.{reopen, paused-to-resetting, reopened, put-back, reset-stream, all-put-back, reset-checks}
 use Rattle.queue_model.specs.Settings.{priority-checks, raised-event, threshold-checks, switched}
@@ -156,13 +156,13 @@ module _ (q : Queue) (j k : ℕ) (s : Stream) (i : Item) (is : List Item) (h : H
   unfolding drop-head
   drop-amount l = lost q (q .interleaving) (q .total - remaining i) (q .next-message-id) (reschedule (q .interleaving) (with-items s (s .amount - remaining i) is) (q .scheduler)) s (with-items s (s .amount - remaining i) is) j k (remaining i) at-head head-is refl l
 
-  discard-amount : (p : PauseState) → remaining i ≤ s .amount → amount-of (discard-in p q s i is) k + for-stream k j (remaining i) ≡ amount-of q k
-  unfolding discard-in
-  discard-amount not-paused l = drop-amount l
-  discard-amount pending l =
+  drop-in-amount : (p : PauseState) → remaining i ≤ s .amount → amount-of (drop-in p q s i is) k + for-stream k j (remaining i) ≡ amount-of q k
+  unfolding drop-in
+  drop-in-amount not-paused l = drop-amount l
+  drop-in-amount pending l =
       lost q (q .interleaving) (q .total - remaining i) (q .next-message-id) (remove-stream (s .id) (q .scheduler)) s (with-pause paused (with-items s (s .amount - remaining i) is)) j k (remaining i) at-head head-is refl l
-  discard-amount paused l = drop-amount l
-  discard-amount resetting l = drop-amount l
+  drop-in-amount paused l = drop-amount l
+  drop-in-amount resetting l = drop-amount l
 
   handed-amount : (a : Active) (n : ℕ) → n ≤ s .amount → amount-of (handed-out q a s i is n) k + for-stream k j n ≡ amount-of q k
   unfolding handed-out handed-out-last handed-out-part
@@ -193,12 +193,12 @@ discards k j m q a = unless-refused a (for-stream k j (head-bytes m ((stream-at 
 discarded-balances : (k j m : ℕ) (q : Queue) (s : Stream) (i : Item) (is : List Item) → HeadAt (q .streams) j s i is → eqb (i .message-id) m ≡ true → Balances k q (discards k j m q) none-moves (discarded q s i is)
 unfolding discarded
 discarded-balances k j m q s i is h e =
-    balances-either k q (discards k j m q) none-moves (short-of q s (remaining i)) (refuse q 16) (reply done (drop-head-events q s i) (discard-in (s .pause-state) q s i is))
+    balances-either k q (discards k j m q) none-moves (short-of q s (remaining i)) (refuse q 16) (reply done (drop-head-events q s i) (drop-in (s .pause-state) q s i is))
     (λ f. balances-refused k q (discards k j m q) none-moves (λ r. refl) (λ r. nothing-moves (refused r)) 16)
     (λ f. let z = nothing-moves done in
     let its : (at (q .options) (q .streams) j) .items ≡ i ∷ is = ap (λ (x : Stream). x .items) (at-found (q .options) (q .streams) j s (h .found)) ∙ h .items in
     let c : for-stream k j (head-bytes m ((at (q .options) (q .streams) j) .items)) ≡ for-stream k j (remaining i) = ap (for-stream k j) (ap (head-bytes m) its ∙ head-hit m i is e) in
-    let d = discard-amount q j k s i is h (s .pause-state) (not-short-amount q s (remaining i) f) in record { balance = omega arith })
+    let d = drop-in-amount q j k s i is h (s .pause-state) (not-short-amount q s (remaining i) f) in record { balance = omega arith })
 
 -- A discard that finds no message to drop.
 kept-balances : (k j m : ℕ) (q : Queue) → head-bytes m ((at (q .options) (q .streams) j) .items) ≡ 0 → Balances k q (discards k j m q) none-moves (reply done [] q)
@@ -240,12 +240,12 @@ unfolding look look-for look-at look-expired
 look-balances k now q = go (peek (q .scheduler)) refl
   where
     drops : (a : Active) → peek (q .scheduler) ≡ some a → (x y : Bool) (s : Stream) (i : Item) (is : List Item) → HeadAt (q .streams) (a .stream-id) s i is → short-of q s (remaining i) ≡ y
-        → LookBalances k q (if x then (if y then broken else dropped (drop-head q s i is) (drop-head-events q s i)) else chosen a s i is)
+        → LookBalances k q (if x then (if y then broken else dropped (drop-in (s .pause-state) q s i is) (drop-head-events q s i)) else chosen a s i is)
     drops a e true true s i is h f = tt
     drops a e true false s i is h f =
         let c : choice-bytes k q (peek (q .scheduler)) ≡ for-stream k (a .stream-id) (remaining i) = ap (choice-bytes k q) e ∙ choice-some k q a
         ∙ ap (λ (x : Stream). for-stream k (a .stream-id) (head-size (x .items))) (at-found (q .options) (q .streams) (a .stream-id) s (h .found)) ∙ ap (λ (l : List Item). for-stream k (a .stream-id) (head-size l)) (h .items) ∙ ap (for-stream k (a .stream-id)) (head-size-first i is) in
-        let d = drop-amount q (a .stream-id) k s i is h (not-short-amount q s (remaining i) f) in omega arith
+        let d = drop-in-amount q (a .stream-id) k s i is h (s .pause-state) (not-short-amount q s (remaining i) f) in omega arith
     drops a e false y s i is h f = tt
 
     at-one : (a : Active) → peek (q .scheduler) ≡ some a → LookBalances k q (look-at now q a (head-of (find-stream (a .stream-id) (q .streams))))

@@ -14,8 +14,8 @@ use Rattle.queue_model.specs.Scheduler.{scheduled, find-active, put-acti
 use Rattle.queue_model.specs.Streams.{find-stream, put-stream, weight-of, head-size, reschedule, waiting, amounts, stream-key}
 use Rattle.queue_model.specs.Refusals.{max-payload, short-of}
 use Rattle.queue_model.specs.Amounts.{drop-head-events}
-use Rattle.queue_model.specs.Produce.{head, head-of, drop-head, head-in}
-use Rattle.queue_model.specs.Discard.{discard-in, discard-at, discard}
+use Rattle.queue_model.specs.Produce.{head, head-of, drop-head, drop-in, head-in}
+use Rattle.queue_model.specs.Discard.{discard-at, discard}
 use Rattle.queue_model.proofs.Tests.{ltb-false, eqb-true}
 use Rattle.queue_model.proofs.Table.{Every, every-put, every-find, Rising, rising-put, sum-put-old, sum-find, empty, first, split, find-key}
 use Rattle.queue_model.proofs.Scheduler.{set-none, set-some, reschedule-of}
@@ -217,12 +217,12 @@ module _ (ss : List Stream) (k : ℕ) (s : Stream) (i : Item) (is : List Item) (
         let f : ℕ → Scheduler → Queue = λ t sc. record { options = o; interleaving = il; total = t; next-message-id = n; streams = put-stream (behead s i is) ss; scheduler = sc } in
         ap₂ f (sym behead-amounts) (reschedule-put o il (behead s i is) ss (g .rising) (head-items .1))
 
-    discard-at-calm : (discard-at (i .message-id) (calm o il n ss) (head s i is)) .next ≡ discard-in (s .pause-state) (calm o il n ss) s i is
+    discard-at-calm : (discard-at (i .message-id) (calm o il n ss) (head s i is)) .next ≡ drop-in (s .pause-state) (calm o il n ss) s i is
     unfolding discard-at
     discard-at-calm =
         let q : Queue = calm o il n ss in
-        ap (λ (b : Bool). ((if b then (if short-of q s (remaining i) then refuse q 16 else reply done (drop-head-events q s i) (discard-in (s .pause-state) q s i is)) else reply done [] q)) .next) (eqb-true {a = i .message-id} refl)
-        ∙ ap (λ (b : Bool). ((if b then refuse q 16 else reply done (drop-head-events q s i) (discard-in (s .pause-state) q s i is))) .next) not-short
+        ap (λ (b : Bool). ((if b then (if short-of q s (remaining i) then refuse q 16 else reply done (drop-head-events q s i) (drop-in (s .pause-state) q s i is)) else reply done [] q)) .next) (eqb-true {a = i .message-id} refl)
+        ∙ ap (λ (b : Bool). ((if b then refuse q 16 else reply done (drop-head-events q s i) (drop-in (s .pause-state) q s i is))) .next) not-short
 
     pub head-of-found : head-of (find-stream k ss) ≡ head s i is
     unfolding head-of
@@ -232,11 +232,11 @@ module _ (ss : List Stream) (k : ℕ) (s : Stream) (i : Item) (is : List Item) (
     unfolding discard calm
     discard-of = refl
 
-    discard-in-open : discard-in not-paused (calm o il n ss) s i is ≡ drop-head (calm o il n ss) s i is
-    unfolding discard-in
-    discard-in-open = refl
+    drop-in-open : drop-in not-paused (calm o il n ss) s i is ≡ drop-head (calm o il n ss) s i is
+    unfolding drop-in
+    drop-in-open = refl
 
     pub discard-calm : (discard 2305 k (i .message-id) (calm o il n ss)) .next ≡ calm o il n (put-stream (behead s i is) ss)
     discard-calm =
         ap (λ (x : Step). x .next) (discard-of ∙ ap (discard-at (i .message-id) (calm o il n ss)) head-of-found)
-        ∙ discard-at-calm ∙ ap (λ (p : PauseState). discard-in p (calm o il n ss) s i is) (head-good .opened) ∙ discard-in-open ∙ drop-head-calm
+        ∙ discard-at-calm ∙ ap (λ (p : PauseState). drop-in p (calm o il n ss) s i is) (head-good .opened) ∙ drop-in-open ∙ drop-head-calm

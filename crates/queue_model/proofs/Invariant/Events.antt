@@ -15,8 +15,8 @@ use Rattle.queue_model.specs.Streams.{max-streams, find-stream, put-stre
 use Rattle.queue_model.specs.Refusals.{Check, first-refusal, refused-or, checked, event-places, short-of, short-of-head}
 use Rattle.queue_model.specs.Amounts.{low-event, total-falls, stream-falls, total-low, stream-low, lifecycle-events, sent-events, drop-head-events}
 use Rattle.queue_model.specs.Add.{add-checks, added}
-use Rattle.queue_model.specs.Produce.{Head, head-of, drop-head, Look, nothing, broken, dropped, chosen, look-expired, look-at, look-for, look, numbered, make-fragment, end-pending, next-size, moved-on, handed-out-last, handed-out-part, handed-out, hand-out, after-look, pass-over, produce-checks}
-use Rattle.queue_model.specs.Discard.{discard-in, discarded, discard-at, discard-checks}
+use Rattle.queue_model.specs.Produce.{Head, head-of, drop-head, drop-in, Look, nothing, broken, dropped, chosen, look-expired, look-at, look-for, look, numbered, make-fragment, end-pending, next-size, moved-on, handed-out-last, handed-out-part, handed-out, hand-out, after-look, pass-over, produce-checks}
+use Rattle.queue_model.specs.Discard.{discarded, discard-at, discard-checks}
 use Rattle.queue_model.specs.Close.{untouched, dropped-bytes, sweep-item, sweep-events, closed, close-in, close-checks}
 use Rattle.queue_model.specs.Reset.{is-paused, paused-ids, reset-checks, reopen}
 use Rattle.queue_model.specs.Settings.{raised-event, threshold-checks, priority-checks}
@@ -161,18 +161,18 @@ module _ (q : Queue) (k : ℕ) (s : Stream) (i : Item) (is : List Item) (w : Wel
       let a = fallen-potential p c n l sc in let b = sent-spends q s n in
       let e : length (s .items) ≡ suc (length is) = ap length (h .items) in omega arith
 
-  -- A head dropped as it expires pays for its events.
+  -- A head dropped from a stream that stays as it was pays for its events.
   head-spends : length (drop-head-events q s i) + potential (drop-head q s i is) ≤ potential q
   unfolding drop-head
   head-spends = gone-spends (s .pause-state) (s .counters) (reschedule (q .interleaving) (shrunk s (s .pause-state) (s .counters) (remaining i) is) (q .scheduler))
 
-  -- A discarded head pays for its events, in whatever state its stream is.
-  discard-spends : (p : PauseState) → length (drop-head-events q s i) + potential (discard-in p q s i is) ≤ potential q
-  unfolding discard-in
-  discard-spends not-paused = head-spends
-  discard-spends pending = gone-spends paused (s .counters) (remove-stream (s .id) (q .scheduler))
-  discard-spends paused = head-spends
-  discard-spends resetting = head-spends
+  -- A head dropped as it expires, or discarded, pays for its events, in whatever state its stream is.
+  drop-in-spends : (p : PauseState) → length (drop-head-events q s i) + potential (drop-in p q s i is) ≤ potential q
+  unfolding drop-in
+  drop-in-spends not-paused = head-spends
+  drop-in-spends pending = gone-spends paused (s .counters) (remove-stream (s .id) (q .scheduler))
+  drop-in-spends paused = head-spends
+  drop-in-spends resetting = head-spends
 
   -- A fragment handed out pays for its events.
   handed-spends : (a : Active) (n : ℕ) → length (sent-events q s n) + potential (handed-out q a s i is n) ≤ potential q
@@ -206,9 +206,9 @@ expired-spends : (q : Queue) (k : ℕ) (s : Stream) (i : Item) (is : List Item) 
 unfolding look-expired
 expired-spends q k s i is w h = go (short-of q s (remaining i))
   where
-    go : (b : Bool) → LookSpends q (if b then broken else dropped (drop-head q s i is) (drop-head-events q s i))
+    go : (b : Bool) → LookSpends q (if b then broken else dropped (drop-in (s .pause-state) q s i is) (drop-head-events q s i))
     go true = tt
-    go false = head-spends q k s i is w h
+    go false = drop-in-spends q k s i is w h (s .pause-state)
 
 -- A look at the head of an entry's stream.
 look-at-spends : (now : ℕ) (q : Queue) (a : Active) → Well q → LookSpends q (look-at now q a (head-of (find-stream (a .stream-id) (q .streams))))
@@ -309,9 +309,9 @@ discarded-few : (q : Queue) (k : ℕ) (s : Stream) (i : Item) (is : List Item) �
 unfolding discarded
 discarded-few q k s i is w h = go (short-of q s (remaining i))
   where
-    go : (b : Bool) → Few (if b then refuse q 16 else reply done (drop-head-events q s i) (discard-in (s .pause-state) q s i is))
+    go : (b : Bool) → Few (if b then refuse q 16 else reply done (drop-head-events q s i) (drop-in (s .pause-state) q s i is))
     go true = omega arith
-    go false = let a = discard-spends q k s i is w h (s .pause-state) in let b = potential-fits q w in omega arith
+    go false = let a = drop-in-spends q k s i is w h (s .pause-state) in let b = potential-fits q w in omega arith
 
 -- So does any head of an id, meant or not.
 discard-at-few : (m k : ℕ) (q : Queue) → Well q → Few (discard-at m q (head-of (find-stream k (q .streams))))

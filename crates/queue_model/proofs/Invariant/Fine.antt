@@ -455,12 +455,12 @@ kept-rest (i ∷ is) w = kept-whole i is (w .0 .no-offset (w .1 .0)) ∙ kept-re
 
 pub data Keeps (is : List Item) : Type 0 where
   keeps-none : kept is ≡ [] → Keeps is
-  keeps-first : (i : Item) (rest : List Item) → is ≡ i ∷ rest → kept is ≡ i ∷ [] → Keeps is
+  keeps-first : (i : Item) (rest : List Item) → is ≡ i ∷ rest → kept is ≡ i ∷ [] → 0 < i .offset → Keeps is
 
 pub keeps : (is : List Item) → WellItems is → Keeps is
 keeps [] w = keeps-none (unfold kept in refl)
 keeps (i ∷ is) w = elim (tri 0 (i .offset)) [
-  | less l ↦ keeps-first i is refl (kept-part i is (λ e. omega arith) ∙ ap (λ (l : List Item). i ∷ l) (kept-rest is (w .1)))
+  | less l ↦ keeps-first i is refl (kept-part i is (λ e. omega arith) ∙ ap (λ (l : List Item). i ∷ l) (kept-rest is (w .1))) l
   | same e ↦ keeps-none (kept-whole i is (sym e) ∙ kept-rest is (w .1))
   | more l ↦ absurd (omega arith)
 ]
@@ -468,7 +468,7 @@ keeps (i ∷ is) w = elim (tri 0 (i .offset)) [
 kept-well : (is : List Item) → WellItems is → WellItems (kept is)
 kept-well is w = elim (keeps is w) [
   | keeps-none e ↦ subst WellItems (sym e) tt
-  | keeps-first i rest e f ↦ subst WellItems (sym f) ((subst WellItems e w) .0, tt)
+  | keeps-first i rest e f l ↦ subst WellItems (sym f) ((subst WellItems e w) .0, tt)
 ]
 
 pub no-items : (is : List Item) → some-items is ≡ false → head-size is ≡ 0
@@ -498,7 +498,7 @@ module _ (q : Queue) (k : ℕ) (w : Well q) (fits : k < 2 ^ 16) (free : too-many
   unfolding closed-scheduler has-items head-size
   closed-waits = elim (keeps (s .items) (fit .well-items)) [
     | keeps-none e ↦ subst (λ (l : List Item). Waits limit P (closed-scheduler s l (q .scheduler))) (sym e) (ends (some-items (s .items)) refl)
-    | keeps-first i rest e f ↦ subst (λ (l : List Item). Waits limit P (closed-scheduler s l (q .scheduler))) (sym f)
+    | keeps-first i rest e f l ↦ subst (λ (l : List Item). Waits limit P (closed-scheduler s l (q .scheduler))) (sym f)
         (waits-put-same limit (q .interleaving) swept (q .streams) (q .scheduler) (λ h. ap head-size f ∙ ap head-size (sym e) ∙ sym (size-own q k)) (w .waits))
   ]
     where

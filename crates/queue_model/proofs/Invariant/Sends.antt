@@ -14,8 +14,8 @@ use Rattle.queue_model.specs.Scheduler.{active-key, find-active, schedul
 use Rattle.queue_model.specs.Streams.{find-stream, put-stream, at, stream-at, waiting, payload-bytes, head-size, weight-of, reschedule, stream-key}
 use Rattle.queue_model.specs.Refusals.{max-word, short-of, short-of-head}
 use Rattle.queue_model.specs.Amounts.{sent-events, drop-head-events}
-use Rattle.queue_model.specs.Produce.{Head, no-head, head, head-in, head-of, drop-head, Look, nothing, broken, dropped, chosen, look-expired, look-at, look-for, look, Numbered, give-numbers, numbered-in, numbered, make-fragment, end-pending, next-size, moved-on, handed-out-last, handed-out-part, handed-out, hand-out, after-look, pass-over, produce-checks}
-use Rattle.queue_model.specs.Discard.{discard-in, discarded, discard-at, discard-checks}
+use Rattle.queue_model.specs.Produce.{Head, no-head, head, head-in, head-of, drop-head, drop-in, Look, nothing, broken, dropped, chosen, look-expired, look-at, look-for, look, Numbered, give-numbers, numbered-in, numbered, make-fragment, end-pending, next-size, moved-on, handed-out-last, handed-out-part, handed-out, hand-out, after-look, pass-over, produce-checks}
+use Rattle.queue_model.specs.Discard.{discarded, discard-at, discard-checks}
 use Rattle.queue_model.proofs.Tests.{holds, leb-true, leb-false, eqb-true, less, same, more, tri, ltb-false}
 use Rattle.queue_model.proofs.Table.{found, missing, look-up, empty, first, split, every-find, every-own, find-key}
 use Rattle.queue_model.proofs.Scheduler.{set-none}
@@ -134,12 +134,12 @@ drop-options : (q : Queue) (s : Stream) (i : Item) (is : List Item) → (drop-he
 unfolding drop-head
 drop-options q s i is = refl
 
-discard-options : (p : PauseState) (q : Queue) (s : Stream) (i : Item) (is : List Item) → (discard-in p q s i is) .options ≡ q .options
-unfolding discard-in
-discard-options not-paused q s i is = drop-options q s i is
-discard-options pending q s i is = refl
-discard-options paused q s i is = drop-options q s i is
-discard-options resetting q s i is = drop-options q s i is
+drop-in-options : (p : PauseState) (q : Queue) (s : Stream) (i : Item) (is : List Item) → (drop-in p q s i is) .options ≡ q .options
+unfolding drop-in
+drop-in-options not-paused q s i is = drop-options q s i is
+drop-in-options pending q s i is = refl
+drop-in-options paused q s i is = drop-options q s i is
+drop-in-options resetting q s i is = drop-options q s i is
 
 handed-options : (q : Queue) (a : Active) (s : Stream) (i : Item) (is : List Item) (n : ℕ) → (handed-out q a s i is n) .options ≡ q .options
 unfolding handed-out handed-out-last handed-out-part
@@ -222,31 +222,43 @@ module _ (q : Queue) (k : ℕ) (s : Stream) (i : Item) (is : List Item) (w : Wel
       let s′ : Stream = gone (s .pause-state) (s .counters) in
       gone-well (s .pause-state) (s .counters) (reschedule (q .interleaving) s′ (q .scheduler)) (head-kept .counters-fit) (waits-put-rescheduled limit (q .interleaving) s′ (q .streams) (q .scheduler) (head-kept .priority-fits) (w .waits .sched))
 
-  pub drop-waiting : suc (waiting ((drop-head q s i is) .streams)) ≡ waiting (q .streams)
-  unfolding drop-head
-  drop-waiting =
-      let a = sum-put-id (λ x. length (x .items)) q k (gone (s .pause-state) (s .counters)) w head-is refl in
+  -- One message fewer waits, whatever becomes of the stream's state.
+  gone-waiting : (p : PauseState) (c : Counters) → suc (waiting (put-stream (gone p c) (q .streams))) ≡ waiting (q .streams)
+  gone-waiting p c =
+      let a = sum-put-id (λ x. length (x .items)) q k (gone p c) w head-is refl in
       let b : length ((stream-at q k) .items) ≡ length (s .items) = ap (λ (x : Stream). length (x .items)) at-head in
       let l = head-length in omega arith
 
-  pub discard-well : (p : PauseState) → Well (discard-in p q s i is)
-  unfolding discard-in
-  discard-well not-paused = drop-well
-  discard-well pending =
+  pub drop-waiting : suc (waiting ((drop-head q s i is) .streams)) ≡ waiting (q .streams)
+  unfolding drop-head
+  drop-waiting = gone-waiting (s .pause-state) (s .counters)
+
+  pub drop-in-well : (p : PauseState) → Well (drop-in p q s i is)
+  unfolding drop-in
+  drop-in-well not-paused = drop-well
+  drop-in-well pending =
       gone-well paused (s .counters) (remove-stream (s .id) (q .scheduler)) (head-kept .counters-fit)
       (subst (Waits limit (Listed (q .interleaving) (put-stream (gone paused (s .counters)) (q .streams)))) (set-none (s .id) (weight-of (q .interleaving) s) (q .scheduler)) (waits-put-set limit (q .interleaving) (gone paused (s .counters)) 0 (weight-of (q .interleaving) s) (q .streams) (q .scheduler) (λ z. absurd (omega arith)) (weight-fits-of (q .interleaving) s (head-kept .priority-fits)) (w .waits .sched)))
-  discard-well paused = drop-well
-  discard-well resetting = drop-well
+  drop-in-well paused = drop-well
+  drop-in-well resetting = drop-well
+
+  pub drop-in-waiting : (p : PauseState) → suc (waiting ((drop-in p q s i is) .streams)) ≡ waiting (q .streams)
+  unfolding drop-in
+  drop-in-waiting not-paused = drop-waiting
+  drop-in-waiting pending = gone-waiting paused (s .counters)
+  drop-in-waiting paused = drop-waiting
+  drop-in-waiting resetting = drop-waiting
 
   fine-discarded : Fine q (discarded q s i is)
   unfolding discarded
   fine-discarded =
-      subst (λ (b : Bool). Fine q (if b then refuse q 16 else reply done (drop-head-events q s i) (discard-in (s .pause-state) q s i is))) (sym (head-enough (remaining i) (omega arith)))
-      (record { next-well = discard-well (s .pause-state); not-sixteen = refl; same-options = discard-options (s .pause-state) q s i is })
+      subst (λ (b : Bool). Fine q (if b then refuse q 16 else reply done (drop-head-events q s i) (drop-in (s .pause-state) q s i is))) (sym (head-enough (remaining i) (omega arith)))
+      (record { next-well = drop-in-well (s .pause-state); not-sixteen = refl; same-options = drop-in-options (s .pause-state) q s i is })
 
   fine-expired : FineLook q (look-expired q s i is)
   unfolding look-expired
-  fine-expired = subst (λ (b : Bool). FineLook q (if b then broken else dropped (drop-head q s i is) (drop-head-events q s i))) (sym (head-enough (remaining i) (omega arith))) (drop-well, (drop-waiting, drop-options q s i is))
+  fine-expired = subst (λ (b : Bool). FineLook q (if b then broken else dropped (drop-in (s .pause-state) q s i is) (drop-head-events q s i))) (sym (head-enough (remaining i) (omega arith)))
+      (drop-in-well (s .pause-state), (drop-in-waiting (s .pause-state), drop-in-options (s .pause-state) q s i is))
 
   module _ (a : Active) (own : a .stream-id ≡ k) (size : a .bytes-remaining ≡ remaining i) (weigh : WeightFits (q .interleaving) (a .weight)) (stands : Holds (a .stream-id) (q .scheduler .active)) where
     own-fits : a .stream-id < 2 ^ 16

@@ -15,8 +15,8 @@ use Rattle.queue_model.specs.Streams.{find-stream, put-stream, stream-at
 use Rattle.queue_model.specs.Refusals.{Check, checked, short-of, short-of-head, max-payload}
 use Rattle.queue_model.specs.Amounts.{sent-events, drop-head-events}
 use Rattle.queue_model.specs.Add.{starts-waiting, started, added, add-checks, new-item}
-use Rattle.queue_model.specs.Produce.{Head, head-of, drop-head, Look, nothing, broken, dropped, chosen, look-expired, look-at, look-for, look, numbered, make-fragment, end-pending, next-size, moved-on, handed-out-last, handed-out-part, handed-out, hand-out, after-look, pass-over, produce-checks}
-use Rattle.queue_model.specs.Discard.{discard-in, discarded, discard-at, discard-checks}
+use Rattle.queue_model.specs.Produce.{Head, head-of, drop-head, drop-in, Look, nothing, broken, dropped, chosen, look-expired, look-at, look-for, look, numbered, make-fragment, end-pending, next-size, moved-on, handed-out-last, handed-out-part, handed-out, hand-out, after-look, pass-over, produce-checks}
+use Rattle.queue_model.specs.Discard.{discarded, discard-at, discard-checks}
 use Rattle.queue_model.specs.Close.{kept, closed-state, closed-scheduler, closed, close-in, close-checks}
 use Rattle.queue_model.specs.Reset.{is-paused, is-resetting, paused-to-resetting, opened, reopened, reopen, reset-stream, reset-checks}
 use Rattle.queue_model.specs.Settings.{threshold-checks, priority-checks, raised-event, switched}
@@ -257,12 +257,12 @@ module _ (q : Queue) (j : ℕ) (s : Stream) (i : Item) (is : List Item) (w : Wel
       serves-put t (q .streams) (q .scheduler) (reschedule (q .interleaving) t (q .scheduler)) (stay-reschedule (q .interleaving) t (q .scheduler))
       (served-any ((reschedule (q .interleaving) t (q .scheduler)) .active) (s .id) (s .pause-state) is (entered-reschedule (q .interleaving) t (q .scheduler) behind-well)) a
 
-  serves-discard-in : (p : PauseState) → Serves ((discard-in p q s i is) .streams) ((discard-in p q s i is) .scheduler)
-  unfolding discard-in
-  serves-discard-in not-paused = serves-drop-head
-  serves-discard-in pending = serves-put (with-pause paused (with-items s (s .amount - remaining i) is)) (q .streams) (q .scheduler) (remove-stream (s .id) (q .scheduler)) (stay-remove (s .id) (q .scheduler)) tt a
-  serves-discard-in paused = serves-drop-head
-  serves-discard-in resetting = serves-drop-head
+  serves-drop-in : (p : PauseState) → Serves ((drop-in p q s i is) .streams) ((drop-in p q s i is) .scheduler)
+  unfolding drop-in
+  serves-drop-in not-paused = serves-drop-head
+  serves-drop-in pending = serves-put (with-pause paused (with-items s (s .amount - remaining i) is)) (q .streams) (q .scheduler) (remove-stream (s .id) (q .scheduler)) (stay-remove (s .id) (q .scheduler)) tt a
+  serves-drop-in paused = serves-drop-head
+  serves-drop-in resetting = serves-drop-head
 
   head-id : s .id ≡ j
   head-id = find-key stream-key j (q .streams) s (h .found)
@@ -308,9 +308,9 @@ serves-discard-at x j q w a = elim (heads (q .streams) j) [
 ]
   where
     go : (s : Stream) (i : Item) (is : List Item) → HeadAt (q .streams) j s i is → (b c : Bool)
-        → AtEase ((if b then (if c then refuse q 16 else reply done (drop-head-events q s i) (discard-in (s .pause-state) q s i is)) else reply done [] q) .next)
+        → AtEase ((if b then (if c then refuse q 16 else reply done (drop-head-events q s i) (drop-in (s .pause-state) q s i is)) else reply done [] q) .next)
     go s i is h true true = a
-    go s i is h true false = serves-discard-in q j s i is w h a (s .pause-state)
+    go s i is h true false = serves-drop-in q j s i is w h a (s .pause-state)
     go s i is h false c = a
 
 serves-discard : (places j x : ℕ) (q : Queue) → Well q → AtEase q → AtEase ((Calls.discard places j x q) .next)
@@ -330,9 +330,9 @@ unfolding look look-for look-at look-expired
 serves-look now q w a = go (peek (q .scheduler))
   where
     drops : (c : Active) (s : Stream) (i : Item) (is : List Item) → HeadAt (q .streams) (c .stream-id) s i is → (x y : Bool)
-        → LookServes (if x then (if y then broken else dropped (drop-head q s i is) (drop-head-events q s i)) else chosen c s i is)
+        → LookServes (if x then (if y then broken else dropped (drop-in (s .pause-state) q s i is) (drop-head-events q s i)) else chosen c s i is)
     drops c s i is h true true = tt
-    drops c s i is h true false = serves-drop-head q (c .stream-id) s i is w h a
+    drops c s i is h true false = serves-drop-in q (c .stream-id) s i is w h a (s .pause-state)
     drops c s i is h false y = tt
 
     at-one : (c : Active) → LookServes (look-at now q c (head-of (find-stream (c .stream-id) (q .streams))))
@@ -409,7 +409,7 @@ served-closed s (i ∷ is) sc h = h
 entered-kept-part : (as′ : List Active) (k : ℕ) (is : List Item) → WellItems is → Entered as′ k is → Entered as′ k (kept is)
 entered-kept-part as′ k is w h = elim (keeps is w) [
   | keeps-none e ↦ subst (Entered as′ k) (sym e) tt
-  | keeps-first i rest e f ↦ subst (Entered as′ k) (sym f) (subst (Entered as′ k) e h)
+  | keeps-first i rest e f l ↦ subst (Entered as′ k) (sym f) (subst (Entered as′ k) e h)
 ]
 
 serves-close-in : (p : PauseState) (q : Queue) (j : ℕ) → Kept (stream-at q j) → (stream-at q j) .pause-state ≡ p → AtEase q → AtEase ((close-in p q (stream-at q j)) .next)
