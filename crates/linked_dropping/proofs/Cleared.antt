@@ -27,7 +27,7 @@ use Rattle.queue_state.proofs.Chains.{hit-same, hit-eq, hit-other, count-head, 
 use Rattle.queue_state.proofs.Splits.{by-index, far-tail}
 use Rattle.queue_state.proofs.Frames.{Same}
 use Rattle.queue_state.proofs.Releases.{Gone, gone}
-use Rattle.linked_dropping.proofs.Facts.{rest-is}
+use Rattle.queue_state.proofs.Facts.{rest-is}
 
 -- The bytes that remain of the message in a place.
 abbrev pub restAt : List ℕ → ℕ → ℕ

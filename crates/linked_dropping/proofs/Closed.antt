@@ -27,7 +27,7 @@ use Rattle.queue_state.proofs.Heads.{stored-places, stored-same}
 use Rattle.queue_state.proofs.Steps.{After, step}
 use Rattle.queue_state.proofs.Singles.{scheduler-same}
 use Rattle.linked_dropping.proofs.Cleared.{restAt, Clear, count-turned}
-use Rattle.linked_dropping.proofs.Leaves.{Leaves, leaves-of}
+use Rattle.queue_state.proofs.Leaves.{Leaves, leaves-of}
 
 -- The stream in position i has the messages in hd, which stay, and those in ps, which are gone.
 module _ (ws st : List ℕ) (g : Shape ws st) (i : ℕ) (hk : i < totalsAt ws .known) (hd ps : List ℕ)

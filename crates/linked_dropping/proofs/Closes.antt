@@ -57,8 +57,8 @@ use Rattle.queue_state.proofs.Looks.{Lookup, known-at, new-at, lookup, stream-f
 use Rattle.queue_state.proofs.Rooms.{Let, all-known, remove-known}
 use Rattle.queue_state.proofs.Singles.{model-options, model-total, model-streams, model-schedules}
 use Rattle.linked_dropping.proofs.Ends.{ends, stays}
-use Rattle.linked_dropping.proofs.Facts.{streamHere, found-here, amount-sum, amount-total, items-well, rest-is, offset-is}
-use Rattle.linked_dropping.proofs.Leaves.{Leaves, leaves-of, leaves-through, untouched-same}
+use Rattle.queue_state.proofs.Facts.{streamHere, found-here, amount-sum, amount-total, items-well, rest-is, offset-is}
+use Rattle.queue_state.proofs.Leaves.{Leaves, leaves-of, leaves-through, untouched-same}
 use Rattle.linked_dropping.proofs.Cleared.{restAt, Ready, cleared, clear-none, clear-all, clear-cut, cut-next}
 use Rattle.linked_dropping.proofs.Sweeps.{sweep-all}
 use Rattle.linked_dropping.proofs.Walks.{may-sweep}

@@ -1,8 +1,6 @@
 -- Discarding and closing are the model's steps.
 pub mod Ends
 pub mod Meant
-pub mod Facts
-pub mod Leaves
 pub mod Discards
 pub mod Cleared
 pub mod Sweeps

@@ -9,8 +9,8 @@ use Rattle.queue_model.specs.Types.{Item, Stream, Queue, done, refuse, reply, r
 use Rattle.queue_model.specs.Streams.{find-stream}
 use Rattle.queue_model.specs.Refusals.{checked, first-refusal, refused-or, short-of}
 use Rattle.queue_model.specs.Amounts.{drop-head-events}
-use Rattle.queue_model.specs.Produce.{head-of, head-in}
-use Rattle.queue_model.specs.Discard.{discard-in, discarded, discard-at, discard}
+use Rattle.queue_model.specs.Produce.{head-of, head-in, drop-in}
+use Rattle.queue_model.specs.Discard.{discarded, discard-at, discard}
 use Rattle.queue_model.specs.Run as run
 
 -- 3: "the event list has fewer than 2,305 places".
@@ -42,7 +42,7 @@ discard-other places k m q s i is h e z ne = discard-in-stream places k m q s h 
 
 -- The head that is meant.
 pub discard-head : (places k m : ℕ) (q : Queue) (s : Stream) (i : Item) (is : List Item) → 2305 ≤ places → find-stream k (q .streams) ≡ some s → s .items ≡ i ∷ is → i .message-id ≡ m
-    → short-of q s (remaining i) ≡ false → run.step (run.discard places k m) q ≡ reply done (drop-head-events q s i) (discard-in (s .pause-state) q s i is)
+    → short-of q s (remaining i) ≡ false → run.step (run.discard places k m) q ≡ reply done (drop-head-events q s i) (drop-in (s .pause-state) q s i is)
 unfolding head-in discard-at discarded
 discard-head places k m q s i is h e z y b =
     discard-in-stream places k m q s h e ∙ ap (λ (l : List Item). discard-at m q (head-in s l)) z ∙ rw (eq-eqb (i .message-id) m y, b)

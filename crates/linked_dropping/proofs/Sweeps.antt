@@ -22,7 +22,7 @@ use Rattle.queue_state.specs.Model.{nextOf, itemIn, optionsOf}
 use Rattle.queue_state.proofs.Chains.{count-head}
 use Rattle.queue_state.proofs.Releases.{Gone}
 use Rattle.queue_state.proofs.Notes.{listed, listed-append, written-length, written-append, low-noted, total-noted, lifecycle-noted}
-use Rattle.linked_dropping.proofs.Facts.{rest-is, lifecycle-is}
+use Rattle.queue_state.proofs.Facts.{rest-is, lifecycle-is}
 use Rattle.linked_dropping.proofs.Cleared.{restAt, Ready, first-fits, first-gone, ready-behind, behind-items, behind-rests, cleared}
 
 -- ---- events behind events

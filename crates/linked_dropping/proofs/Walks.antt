@@ -16,7 +16,7 @@ use Rattle.queue_closing.specs.declared.close.Walk.{Walk}
 use Rattle.queue_state.specs.Chains.{Linked, count, sumOf}
 use Rattle.queue_state.specs.Model.{nextOf}
 use Rattle.queue_state.proofs.Chains.{count-head}
-use Rattle.linked_dropping.proofs.Facts.{offset-is}
+use Rattle.queue_state.proofs.Facts.{offset-is}
 use Rattle.linked_dropping.proofs.Cleared.{restAt, Ready}
 
 -- The amounts suffice for the messages in these places.

@@ -27,7 +27,8 @@ use Rattle.stream_scheduler.specs.Rows.{weightOf}
 use Rattle.stream_scheduler.specs.Words.{acceptAt}
 use Rattle.queue_streams.specs.Waiting.{headSize, parametersFor, rescheduled}
 use Rattle.message_chains.specs.Heads.{released, withoutHead}
-use Rattle.queue_sending.specs.Fragment.{endPending, nextFirst, waitingOn, finished}
+use Rattle.message_chains.specs.Dropping.{endPending}
+use Rattle.queue_sending.specs.Fragment.{nextFirst, waitingOn, finished}
 use Rattle.queue_sending.specs.Numbers.{numberedItem, numberedStream}
 use Rattle.queue_state.specs.Chains.{Linked, count, each}
 use Rattle.queue_state.specs.Model.{nextOf, itemIn, pauseOf, streamOf, rowAt, streamsIn}

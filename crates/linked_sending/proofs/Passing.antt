@@ -17,7 +17,7 @@ use Rattle.queue_model.specs.Types.{Stream, Queue, Event, Step, reply, nothing-
 use Rattle.queue_model.specs.Types as plain
 use Rattle.queue_model.specs.Amounts.{low-event, total-falls, stream-falls, total-low, stream-low, sent-events, drop-head-events}
 use Rattle.queue_model.specs.Refusals.{short-of}
-use Rattle.queue_model.specs.Produce.{Look, nothing, broken, dropped, chosen, look-expired, look, drop-head, after-look, pass-over, hand-out}
+use Rattle.queue_model.specs.Produce.{Look, nothing, broken, dropped, chosen, look-expired, look, drop-in, after-look, pass-over, hand-out}
 use Rattle.queue_model.specs.Streams.{waiting}
 use Rattle.queue_model.proofs.Invariant.Well.{Well}
 use Rattle.queue_model.proofs.Invariant.Sends.{FineLook, Chosen, fine-look}
@@ -105,7 +105,7 @@ pub record Passes (st es₀ bs : List ℕ) (x : Option Step) (p : ProducedWith) 
 -- a dropped head's look
 drops : (ws st : List ℕ) (g : Good ws st) (at : ℕ) (c : Choice ws st (g .shape) at) (time : ℕ)
     → look time (model ws st) ≡ look-expired (model ws st) (streamIn ws st (c .pos)) (itemIn ws st (c .first)) (each (itemIn ws st) (c .rest))
-    → look time (model ws st) ≡ dropped (drop-head (model ws st) (streamIn ws st (c .pos)) (itemIn ws st (c .first)) (each (itemIn ws st) (c .rest))) (drop-head-events (model ws st) (streamIn ws st (c .pos)) (itemIn ws st (c .first)))
+    → look time (model ws st) ≡ dropped (drop-in ((streamIn ws st (c .pos)) .pause-state) (model ws st) (streamIn ws st (c .pos)) (itemIn ws st (c .first)) (each (itemIn ws st) (c .rest))) (drop-head-events (model ws st) (streamIn ws st (c .pos)) (itemIn ws st (c .first)))
 unfolding look-expired short-of
 drops ws st g at c time e =
     let a : rest (itemAt ws (c .first)) ≤ totalsAt ws .total = omega (arith, rest-in-amount ws st g at c, amount-in-total ws st g at c) in
@@ -123,10 +123,10 @@ record Next (ws st : List ℕ) (us : List ℕ) (ds : List Event) : Type 0 where
   next-pays : length ds + potential (model us st) ≤ potential (model ws st)
 
 next-of : (ws st es : List ℕ) (g : Good ws st) (at : ℕ) (c : Choice ws st (g .shape) at) (time k : ℕ) (d : CalledWith) → HeadExpired ws st g at c es k d
-    → look time (model ws st) ≡ dropped (drop-head (model ws st) (streamIn ws st (c .pos)) (itemIn ws st (c .first)) (each (itemIn ws st) (c .rest))) (drop-head-events (model ws st) (streamIn ws st (c .pos)) (itemIn ws st (c .first)))
+    → look time (model ws st) ≡ dropped (drop-in ((streamIn ws st (c .pos)) .pause-state) (model ws st) (streamIn ws st (c .pos)) (itemIn ws st (c .first)) (each (itemIn ws st) (c .rest))) (drop-head-events (model ws st) (streamIn ws st (c .pos)) (itemIn ws st (c .first)))
     → Next ws st (d .next) (drop-head-events (model ws st) (streamIn ws st (c .pos)) (itemIn ws st (c .first)))
 next-of ws st es g at c time k d h e =
-    let q′ : Queue = drop-head (model ws st) (streamIn ws st (c .pos)) (itemIn ws st (c .first)) (each (itemIn ws st) (c .rest)) in
+    let q′ : Queue = drop-in ((streamIn ws st (c .pos)) .pause-state) (model ws st) (streamIn ws st (c .pos)) (itemIn ws st (c .first)) (each (itemIn ws st) (c .rest)) in
     let ds : List Event = drop-head-events (model ws st) (streamIn ws st (c .pos)) (itemIn ws st (c .first)) in
     let f : FineLook (model ws st) (dropped q′ ds) = subst (FineLook (model ws st)) e (fine-look time (model ws st) (g .well)) in
     let p : LookSpends (model ws st) (dropped q′ ds) = subst (LookSpends (model ws st)) e (look-spends time (model ws st) (g .well)) in
@@ -187,7 +187,7 @@ module _ (st es₀ bs : List ℕ) (time size : ℕ) (le : eventWords ≤ length 
       → look time (model ws st) ≡ look-expired (model ws st) (streamIn ws st (c .pos)) (itemIn ws st (c .first)) (each (itemIn ws st) (c .rest)) → Passing (suc n) ws vs
   passing-expired n ws vs g h hw again at c a b =
       let ds : List Event = drop-head-events (model ws st) (streamIn ws st (c .pos)) (itemIn ws st (c .first)) in
-      let q′ : Queue = drop-head (model ws st) (streamIn ws st (c .pos)) (itemIn ws st (c .first)) (each (itemIn ws st) (c .rest)) in
+      let q′ : Queue = drop-in ((streamIn ws st (c .pos)) .pause-state) (model ws st) (streamIn ws st (c .pos)) (itemIn ws st (c .first)) (each (itemIn ws st) (c .rest)) in
       let e : look time (model ws st) ≡ dropped q′ ds = drops ws st g at c time b in
       let p : LookSpends (model ws st) (dropped q′ ds) = subst (LookSpends (model ws st)) e (look-spends time (model ws st) (g .well)) in
       let l : eventWords ≤ length (written es₀ 0 vs) = rw (written-length es₀ 0 vs) le in

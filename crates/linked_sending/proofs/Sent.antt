@@ -40,7 +40,8 @@ use Rattle.message_chains.specs.Amounts.{rest}
 use Rattle.message_chains.specs.Heads.{headCode, withoutHead, sentNotes}
 use Rattle.message_chains.specs.Notes.{Notes, notes}
 use Rattle.queue_sending.specs.Data.{dataToSend, ProducedWith, producedWith, refusedWith}
-use Rattle.queue_sending.specs.Fragment.{leastOf, sendCode, endPending, finished, lessTotal, lessAmount, wentOn, writtenSent, sent, handedOut}
+use Rattle.message_chains.specs.Dropping.{endPending}
+use Rattle.queue_sending.specs.Fragment.{leastOf, sendCode, finished, lessTotal, lessAmount, wentOn, writtenSent, sent, handedOut}
 use Rattle.queue_sending.specs.Produce.{refusal}
 use Rattle.queue_sending.specs.Numbers.{numberedItem, numberedStream, movedOn}
 use Rattle.queue_sending.specs.declared.data.Produced.{Produced}

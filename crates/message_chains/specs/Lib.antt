@@ -2,3 +2,4 @@
 pub mod Amounts
 pub mod Notes
 pub mod Heads
+pub mod Dropping

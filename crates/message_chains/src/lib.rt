@@ -1,12 +1,15 @@
 // The messages of a stream hang in a chain, the free places in another: what takes a message off its chain, and what its going
 // reports. A function that reads only is total; those that write are called once such a test has passed.
 pub mod amounts;
+pub mod dropping;
 pub mod heads;
 pub mod notes;
 
 pub use amounts::minus;
 pub use amounts::plus;
 pub use amounts::remaining;
+pub use dropping::drop_in_state;
+pub use dropping::end_pending;
 pub use heads::drop_head;
 pub use heads::head_code;
 pub use heads::release;

@@ -1,4 +1,4 @@
--- A scheduler that refuses has changed nothing; the free places one by one; the words of no loop step. Assumes nothing.
+-- The free places one by one; the words of no loop step. Assumes nothing.
 use mathlib.Core.Path.{_≡_, refl, sym, ap, subst, _∙_}
 use mathlib.Core.Bool.{Bool, true, false}
 use mathlib.Core.List.{List}
@@ -9,9 +9,6 @@ use borrow.Author.Tests.{ltb-false}
 use lib.Dec.{ltb, eqb}
 use Rattle.queue_words.specs.Flags.{pick}
 use Rattle.queue_words.specs.Items.{putNext, putPlace, putLength}
-use Rattle.queue_words.specs.declared.streams.OutgoingStream.{OutgoingStream}
-use Rattle.stream_scheduler.specs.Words.{Outcome, outcome, removeStream, setBytesRemaining}
-use Rattle.stream_scheduler.proofs.Frames.{Kept, kept-remove, kept-set}
 use Rattle.queue_words.specs.Find.{findStream}
 use Rattle.queue_words.specs.Header.{optionsAt}
 use Rattle.queue_words.specs.declared.known.Found.{Found}
@@ -19,21 +16,8 @@ use Rattle.queue_words.specs.declared.known.Found.the-variants.{At}
 use Rattle.queue_words.proofs.Finds.{find-hit}
 use Rattle.queue_messages.specs.Add.{argumentsCode}
 use Rattle.queue_messages.specs.Create.{freed}
-use Rattle.queue_messages.specs.Discard.{scheduledBehind}
 use Rattle.queue_messages.specs.Message.{nanoseconds}
 use Rattle.queue_messages.specs.declared.message.Lifetime.{Lifetime}
-
-kept-pick : (ws : List ℕ) (b : Bool) (x y : Outcome) → Kept ws x → Kept ws y → Kept ws (pick b x y)
-kept-pick ws true x y k l = k
-kept-pick ws false x y k l = l
-
-kept-behind : (ws : List ℕ) (id : ℕ) (s : OutgoingStream) (next : ℕ) → Kept ws (scheduledBehind ws id s next)
-unfolding scheduledBehind
-kept-behind ws id s next = kept-pick ws (eqb (s .«pause_state») 1) _ _ (kept-remove ws id) (kept-set ws id _ _)
-
--- a discard that the scheduler refuses leaves the words
-pub behind-refused : (ws : List ℕ) (id : ℕ) (s : OutgoingStream) (next : ℕ) (b : Bool) (us : List ℕ) → outcome b us ≡ scheduledBehind ws id s next → b ≡ false → us ≡ ws
-behind-refused ws id s next b us e f = ap (λ (o : Outcome). o .next) e ∙ kept-behind ws id s next .if-refused (ap (λ (o : Outcome). o .done) (sym e) ∙ f)
 
 -- the places freed so far
 pub freed-none : (ws : List ℕ) → ws ≡ freed ws 0

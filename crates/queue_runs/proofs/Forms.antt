@@ -10,9 +10,9 @@ use Rattle.queue_model.specs.Streams.{find-stream, stream-at, waiting}
 use Rattle.queue_model.specs.Refusals.{Check, first-refusal, refused-or, checked, short-of, short-of-head}
 use Rattle.queue_model.specs.Amounts.{drop-head-events, sent-events}
 use Rattle.queue_model.specs.Add as add
-use Rattle.queue_model.specs.Produce.{Head, no-head, head, head-of, Look, nothing, broken, dropped, chosen, look, numbered, make-fragment, handed-out, hand-out, after-look, pass-over, produce-checks}
+use Rattle.queue_model.specs.Produce.{Head, no-head, head, head-of, Look, nothing, broken, dropped, chosen, look, drop-in, numbered, make-fragment, handed-out, hand-out, after-look, pass-over, produce-checks}
 use Rattle.queue_model.specs.Produce as produce
-use Rattle.queue_model.specs.Discard.{discard-in, discarded, discard-at, discard-checks}
+use Rattle.queue_model.specs.Discard.{discarded, discard-at, discard-checks}
 use Rattle.queue_model.specs.Discard as discard
 use Rattle.queue_model.specs.Close.{closed, close-in, close-checks}
 use Rattle.queue_model.specs.Close as close
@@ -133,7 +133,7 @@ discarded-loud : (q : Queue) (s : Stream) (i : Item) (is : List Item) → Loud (
 unfolding discarded
 discarded-loud q s i is = go (short-of q s (remaining i))
   where
-    go : (b : Bool) → Loud ((if b then refuse q 16 else reply done (drop-head-events q s i) (discard-in (s .pause-state) q s i is)) .outcome)
+    go : (b : Bool) → Loud ((if b then refuse q 16 else reply done (drop-head-events q s i) (drop-in (s .pause-state) q s i is)) .outcome)
     go true = loud-refused 16
     go false = loud-done (drop-head-events q s i)
 

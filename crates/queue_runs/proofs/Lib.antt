@@ -16,3 +16,4 @@ pub mod OtherStore
 pub mod Account
 pub mod Waiting
 pub mod FairTurns
+pub mod Closing

@@ -37,6 +37,7 @@ use Rattle.queue_streams.specs.declared.answers.Number.{Number}
 use Rattle.queue_streams.specs.declared.known.Place.{Place}
 use Rattle.queue_streams.specs.declared.known.Place.the-variants as place
 use Rattle.message_chains.specs.Amounts.{rest}
+use Rattle.message_chains.specs.Dropping.{scheduledBehind, behindDropped, droppedInState}
 use Rattle.message_chains.specs.Heads.{headCode}
 use Rattle.queue_questions.specs.Questions.{streamOrNew, asked, priorityOf, amountOf, thresholdOf, waits, dataOf, readyAmong, readyOf}
 use Rattle.queue_questions.specs.declared.questions.Looked.{Looked}
@@ -53,7 +54,7 @@ use Rattle.queue_restarts.specs.Reset.{resetQueue, sumOf}
 use Rattle.queue_sending.specs.Choice.{lookAhead}
 use Rattle.queue_sending.specs.Data.{ProducedWith, producedWith, refusedWith}
 use Rattle.queue_sending.specs.Fragment.{leastOf, sendCode, sent, handedOut}
-use Rattle.queue_sending.specs.Produce.{produceCode, headExpired, expiredDropped, afterLook, afterDrop, afterCall, passOver, settledAs, pastOf, producedPast, produceNext}
+use Rattle.queue_sending.specs.Produce.{produceCode, expiredDropped, afterLook, afterDrop, afterCall, passOver, settledAs, pastOf, producedPast, produceNext}
 use Rattle.queue_sending.specs.declared.choice.Look.{Look}
 use Rattle.queue_sending.specs.declared.choice.Look.the-variants as look
 use Rattle.queue_sending.specs.declared.data.Produced.{Produced}
@@ -204,20 +205,22 @@ head-code l h ws s p next n =
     (code-pick l (eqb (totalsAt ws .waiting) 0) _ _ (code-in l 16 h)
     (code-pick l (ltb 1024 next) _ _ (code-in l 16 h) (drop-code l h ws p))))
 
-discard-listed : (ws es : List ℕ) (id k : ℕ) → Loud (3 ∷ 16 ∷ []) (discarding.discard ws es id k)
-unfolding discarding.discard discarding.discardIn discarding.headDiscarded discarding.behindDropped
-discard-listed ws es id k = loud-pick _ (ltb (length es) eventWords) _ _ (loud-refused _ 3 ws es refl) (go (findStream ws id))
-  where
-    head : (row : ℕ) (s : OutgoingStream) (m : Item) → Loud (3 ∷ 16 ∷ []) (discarding.headDiscarded ws es id row s m)
-    head row s m =
-        loud-code _ (headCode ws s (s .first) (m .next) (rest m)) ws es _ (head-code _ refl ws s (s .first) (m .next) (rest m))
-        (loud-pick _ (discarding.scheduledBehind ws id s (m .next) .done) _ _ (loud-done _ _ _ _) (loud-refused _ 16 ws es refl))
+-- a head dropped in its stream's state
+head-listed : (l : List ℕ) → among 16 l ≡ true → (ws es : List ℕ) (k id row : ℕ) (s : OutgoingStream) (m : Item) → Loud l (droppedInState ws es k id row s m)
+unfolding droppedInState behindDropped
+head-listed l h ws es k id row s m =
+    loud-code l (headCode ws s (s .first) (m .next) (rest m)) ws es _ (head-code l h ws s (s .first) (m .next) (rest m))
+    (loud-pick l (scheduledBehind ws id s (m .next) .done) _ _ (loud-done l _ _ _) (loud-refused l 16 ws es h))
 
+discard-listed : (ws es : List ℕ) (id k : ℕ) → Loud (3 ∷ 16 ∷ []) (discarding.discard ws es id k)
+unfolding discarding.discard discarding.discardIn
+discard-listed ws es id k = loud-pick _ (ltb (length es) 6915) _ _ (loud-refused _ 3 ws es refl) (go (findStream ws id))
+  where
     go : (x : Found) → Loud (3 ∷ 16 ∷ []) (discarding.discardFound ws es id k x)
     go (found.At p row) =
         loud-pick _ (ltb 1024 (streamAt ws row .first)) _ _ (loud-refused _ 16 ws es refl)
         (loud-pick _ (eqb (streamAt ws row .first) 1024) _ _ (loud-done _ 0 ws es)
-        (loud-pick _ (eqb (itemAt ws (streamAt ws row .first) .«message_id» .0) k) _ _ (head row (streamAt ws row) (itemAt ws (streamAt ws row .first))) (loud-done _ 0 ws es)))
+        (loud-pick _ (eqb (itemAt ws (streamAt ws row .first) .«message_id» .0) k) _ _ (head-listed _ refl ws es 0 id row (streamAt ws row) (itemAt ws (streamAt ws row .first))) (loud-done _ 0 ws es)))
     go (found.Gap p) = loud-done _ 0 ws es
     go found.Broken = loud-refused _ 16 ws es refl
 
@@ -500,14 +503,11 @@ after-listed expired ws st es bs size k h (look.Chosen at id row) = handed-liste
 
 -- an expired head dropped
 expired-listed : (ws es : List ℕ) (k id row : ℕ) → Loud sending (expiredDropped ws es k id row)
-unfolding expiredDropped headExpired
+unfolding expiredDropped
 expired-listed ws es k id row =
     loud-pick sending (ltb 255 row) _ _ (loud-refused sending 16 ws es refl)
     (loud-pick sending (ltb 1023 (streamAt ws row .first)) _ _ (loud-refused sending 16 ws es refl)
-    (head (streamAt ws row) (itemAt ws (streamAt ws row .first))))
-  where
-    head : (s : OutgoingStream) (m : Item) → Loud sending (headExpired ws es k id row s m)
-    head s m = loud-code sending (headCode ws s (s .first) (m .next) (rest m)) ws es _ (head-code sending refl ws s (s .first) (m .next) (rest m)) (loud-done sending _ _ _)
+    (head-listed sending refl ws es k id row (streamAt ws row) (itemAt ws (streamAt ws row .first))))
 
 drop-listed : (again : List ℕ → List ℕ → ℕ → ProducedWith) (ws es bs : List ℕ) → ((l e : List ℕ) (j : ℕ) → Sends (again l e j)) → (a : Call) → (callRefused a ≡ true → among (callNumber a) sending ≡ true) → Sends (afterDrop again ws es bs a)
 drop-listed again ws es bs h (call.Accepted k) f = h ws es k

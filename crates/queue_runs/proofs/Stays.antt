@@ -26,6 +26,7 @@ use Rattle.queue_streams.specs.declared.answers.Call.the-variants as call
 use Rattle.queue_streams.specs.declared.known.Place.{Place}
 use Rattle.queue_streams.specs.declared.known.Place.the-variants as place
 use Rattle.message_chains.specs.Amounts.{rest}
+use Rattle.message_chains.specs.Dropping.{scheduledBehind, behindDropped, droppedInState}
 use Rattle.message_chains.specs.Heads.{headCode}
 use Rattle.queue_messages.specs.Add as adding
 use Rattle.queue_messages.specs.Discard as discarding
@@ -113,13 +114,13 @@ threshold-stays ws es id t = loud-pick ws es (ltb (length es) eventWords) _ _ (l
     go (place.Refused n) = loud-refused ws es n
 
 discard-stays : (ws es : List ℕ) (id k : ℕ) → Loud ws es (discarding.discard ws es id k)
-unfolding discarding.discard discarding.discardIn discarding.headDiscarded discarding.behindDropped
-discard-stays ws es id k = loud-pick ws es (ltb (length es) eventWords) _ _ (loud-refused ws es 3) (go (findStream ws id))
+unfolding discarding.discard discarding.discardIn droppedInState behindDropped
+discard-stays ws es id k = loud-pick ws es (ltb (length es) 6915) _ _ (loud-refused ws es 3) (go (findStream ws id))
   where
-    head : (row : ℕ) (s : OutgoingStream) (m : Item) → Loud ws es (discarding.headDiscarded ws es id row s m)
+    head : (row : ℕ) (s : OutgoingStream) (m : Item) → Loud ws es (droppedInState ws es 0 id row s m)
     head row s m =
         loud-pick ws es (ltb 0 (headCode ws s (s .first) (m .next) (rest m))) _ _ (loud-refused ws es (headCode ws s (s .first) (m .next) (rest m)))
-        (loud-pick ws es (discarding.scheduledBehind ws id s (m .next) .done) _ _ (loud-done ws es _ _ _) (loud-refused ws es 16))
+        (loud-pick ws es (scheduledBehind ws id s (m .next) .done) _ _ (loud-done ws es _ _ _) (loud-refused ws es 16))
 
     go : (x : Found) → Loud ws es (discarding.discardFound ws es id k x)
     go (found.At p row) =

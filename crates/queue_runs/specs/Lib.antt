@@ -9,3 +9,4 @@ pub mod Numbers
 pub mod Account
 pub mod Waiting
 pub mod FairTurns
+pub mod Closing

@@ -16,10 +16,10 @@ use Rattle.queue_words.specs.declared.items.Item.{Item}
 use Rattle.queue_words.specs.declared.streams.OutgoingStream.{OutgoingStream}
 use Rattle.queue_streams.specs.Events.{placeWords, eventWords, putEvent}
 use Rattle.queue_streams.specs.Settings.{CalledWith, calledWith}
-use Rattle.queue_streams.specs.Waiting.{rescheduled}
 use Rattle.queue_streams.specs.declared.answers.Call.{Call}
 use Rattle.queue_streams.specs.declared.answers.Call.the-variants as call
 use Rattle.message_chains.specs.Amounts.{rest}
+use Rattle.message_chains.specs.Dropping.{scheduledBehind, endPending, behindDropped, droppedInState}
 use Rattle.message_chains.specs.Heads.{headCode, headDropped, totalNotes, streamNotes, sentNotes, dropNotes}
 use Rattle.message_chains.specs.Notes.{Notes, notes, noted, lowNoted, lifecycleNoted}
 use Rattle.queue_sending.specs.Choice.{lookAhead}
@@ -27,7 +27,7 @@ use Rattle.queue_sending.specs.Data.{dataToSend, ProducedWith, producedW
 use Rattle.queue_sending.specs.Fragment.{leastOf, sendCode, writtenSent, sent, handedOut}
 use Rattle.queue_sending.specs.Numbers.{numberedItem, numberedStream}
 use Rattle.payload_store.specs.Reading.{readPart}
-use Rattle.queue_sending.specs.Produce.{produceCode, pastOf, headExpired, expiredDropped, afterLook, afterDrop, passOver, settledAs, settled, producedPast, produceNext}
+use Rattle.queue_sending.specs.Produce.{produceCode, pastOf, expiredDropped, afterLook, afterDrop, passOver, settledAs, settled, producedPast, produceNext}
 use Rattle.queue_sending.specs.declared.choice.Look.{Look}
 use Rattle.queue_sending.specs.declared.choice.Look.the-variants as look
 use Rattle.queue_sending.specs.declared.data.Produced.{Produced}
@@ -71,19 +71,20 @@ call-length : (b : Bool) (x y : CalledWith) (n : ℕ) → length (x .events) ≡
 call-length true x y n e g = e
 call-length false x y n e g = g
 
-head-length : (ws es : List ℕ) (k id row : ℕ) (s : OutgoingStream) (m : Item) → length (headExpired ws es k id row s m .events) ≡ length es
-unfolding headExpired
+head-length : (ws es : List ℕ) (k id row : ℕ) (s : OutgoingStream) (m : Item) → length (droppedInState ws es k id row s m .events) ≡ length es
+unfolding droppedInState behindDropped
 head-length ws es k id row s m =
-    let l = rescheduled ws (totalsAt ws .interleaving) id (m .next) (s .priority) in
-    let d = dropNotes l es k id s (rest m) (m .«lifecycle_id») in
-    call-length (ltb 0 (headCode ws s (s .first) (m .next) (rest m))) _ (calledWith (call.Accepted (d .count)) (headDropped l row s (s .«pause_state») m) (d .events)) _ refl
-    (drop-length l es k id s (rest m) (m .«lifecycle_id»))
+    let o = scheduledBehind ws id s (m .next) in
+    let d = dropNotes (o .next) es k id s (rest m) (m .«lifecycle_id») in
+    call-length (ltb 0 (headCode ws s (s .first) (m .next) (rest m))) _ _ _ refl
+    (call-length (o .done) (calledWith (call.Accepted (d .count)) (headDropped (o .next) row s (endPending (s .«pause_state»)) m) (d .events)) (calledWith (call.Refused 16) ws es) _
+    (drop-length (o .next) es k id s (rest m) (m .«lifecycle_id»)) refl)
 
 expired-length : (ws es : List ℕ) (k id row : ℕ) → length (expiredDropped ws es k id row .events) ≡ length es
 unfolding expiredDropped
 expired-length ws es k id row =
     call-length (ltb 255 row) _ _ _ refl
-    (call-length (ltb 1023 (streamAt ws row .first)) _ (headExpired ws es k id row (streamAt ws row) (itemAt ws (streamAt ws row .first))) _ refl
+    (call-length (ltb 1023 (streamAt ws row .first)) _ (droppedInState ws es k id row (streamAt ws row) (itemAt ws (streamAt ws row .first))) _ refl
     (head-length ws es k id row (streamAt ws row) (itemAt ws (streamAt ws row .first))))
 
 -- ------------------------------------------------------------------ the count
@@ -250,19 +251,20 @@ call-behind : (b : Bool) (x y : CalledWith) (l : List ℕ) → behind (x .events
 call-behind true x y l e g = e
 call-behind false x y l e g = g
 
-head-behind : (ws es : List ℕ) (k id row : ℕ) (s : OutgoingStream) (m : Item) → behind (headExpired ws es k id row s m .events) ≡ behind es
-unfolding headExpired
+head-behind : (ws es : List ℕ) (k id row : ℕ) (s : OutgoingStream) (m : Item) → behind (droppedInState ws es k id row s m .events) ≡ behind es
+unfolding droppedInState behindDropped
 head-behind ws es k id row s m =
-    let l = rescheduled ws (totalsAt ws .interleaving) id (m .next) (s .priority) in
-    let d = dropNotes l es k id s (rest m) (m .«lifecycle_id») in
-    call-behind (ltb 0 (headCode ws s (s .first) (m .next) (rest m))) (calledWith (call.Refused (headCode ws s (s .first) (m .next) (rest m))) ws es)
-    (calledWith (call.Accepted (d .count)) (headDropped l row s (s .«pause_state») m) (d .events)) (behind es) refl (drop-behind l es k id s (rest m) (m .«lifecycle_id»))
+    let o = scheduledBehind ws id s (m .next) in
+    let d = dropNotes (o .next) es k id s (rest m) (m .«lifecycle_id») in
+    call-behind (ltb 0 (headCode ws s (s .first) (m .next) (rest m))) (calledWith (call.Refused (headCode ws s (s .first) (m .next) (rest m))) ws es) _ (behind es) refl
+    (call-behind (o .done) (calledWith (call.Accepted (d .count)) (headDropped (o .next) row s (endPending (s .«pause_state»)) m) (d .events)) (calledWith (call.Refused 16) ws es) (behind es)
+    (drop-behind (o .next) es k id s (rest m) (m .«lifecycle_id»)) refl)
 
 expired-behind : (ws es : List ℕ) (k id row : ℕ) → behind (expiredDropped ws es k id row .events) ≡ behind es
 unfolding expiredDropped
 expired-behind ws es k id row =
     call-behind (ltb 255 row) (calledWith (call.Refused 16) ws es) _ (behind es) refl
-    (call-behind (ltb 1023 (streamAt ws row .first)) (calledWith (call.Refused 16) ws es) (headExpired ws es k id row (streamAt ws row) (itemAt ws (streamAt ws row .first))) (behind es) refl
+    (call-behind (ltb 1023 (streamAt ws row .first)) (calledWith (call.Refused 16) ws es) (droppedInState ws es k id row (streamAt ws row) (itemAt ws (streamAt ws row .first))) (behind es) refl
     (head-behind ws es k id row (streamAt ws row) (itemAt ws (streamAt ws row .first))))
 
 -- "In the event list [..] places past what a call writes stay unchanged": those behind the 2,305 do.

@@ -15,6 +15,7 @@ use Rattle.payload_store.specs.Reading.{readCode, readPart}
 use Rattle.stream_scheduler.specs.Words.{acceptAt}
 use Rattle.queue_streams.specs.Waiting.{rescheduled}
 use Rattle.message_chains.specs.Amounts.{rest}
+use Rattle.message_chains.specs.Dropping.{endPending}
 use Rattle.message_chains.specs.Heads.{headCode, released, withoutHead, sentNotes}
 use Rattle.queue_sending.specs.Data.{dataToSend, ProducedWith, producedWith, refusedWith}
 use Rattle.queue_sending.specs.Numbers.{numberedItem, numberedStream, movedOn}
@@ -30,14 +31,11 @@ sendCode ws len s m n room =
     pick (ltb (rest m) n) 16
     (pick (ltb 0 (readCode ws len (s .first) (m .offset) n room)) 16 (headCode ws s (s .first) (m .next) n))
 
--- "When a pending stream's message ends or is discarded, it is paused": 1 is pending, 2 paused.
-unfoldable pub endPending : ℕ → ℕ
-endPending state = pick (eqb state 1) 2 state
-
 -- "a message behind it, unless the stream is now paused, then makes the stream begin anew": the place of the message with which it waits, 1024 for none.
 unfoldable pub nextFirst : ℕ → ℕ → ℕ
 nextFirst state next = pick (eqb state 2) 1024 next
 
+-- "When a pending stream's message ends or is discarded, it is paused": 1 is pending, 2 paused.
 -- "A last fragment ends its stream's waiting": the stream waits with what is behind the message, or not.
 unfoldable pub waitingOn : List ℕ → ℕ → OutgoingStream → ℕ → List ℕ
 waitingOn ws id s next = rescheduled ws (totalsAt ws .interleaving) id (nextFirst (endPending (s .«pause_state»)) next) (s .priority)

@@ -8,15 +8,10 @@ use Rattle.queue_words.specs.Flags.{pick}
 use Rattle.queue_words.specs.Header.{optionsAt, totalsAt}
 use Rattle.queue_words.specs.Items.{itemAt}
 use Rattle.queue_words.specs.Streams.{streamAt}
-use Rattle.queue_words.specs.declared.items.Item.{Item}
-use Rattle.queue_words.specs.declared.streams.OutgoingStream.{OutgoingStream}
-use Rattle.queue_streams.specs.Events.{eventWords}
 use Rattle.queue_streams.specs.Settings.{CalledWith, calledWith}
-use Rattle.queue_streams.specs.Waiting.{rescheduled}
 use Rattle.queue_streams.specs.declared.answers.Call.{Call}
 use Rattle.queue_streams.specs.declared.answers.Call.the-variants as call
-use Rattle.message_chains.specs.Amounts.{rest}
-use Rattle.message_chains.specs.Heads.{headCode, headDropped, dropNotes}
+use Rattle.message_chains.specs.Dropping.{droppedInState}
 use Rattle.queue_sending.specs.Choice.{lookAhead}
 use Rattle.queue_sending.specs.Data.{ProducedWith, producedWith, refusedWith}
 use Rattle.queue_sending.specs.Fragment.{handedOut}
@@ -37,20 +32,13 @@ produceCode ws len places room time size =
     (pick (ltb room size) 10 0)))))
     2
 
--- "An expired head of the chosen stream is dropped, half-sent or not"; "A stream stays as it was when its half-sent message expires, closing included."
--- the head m of the stream s dropped after k events; 16 where an amount would fall below 0
-unfoldable pub headExpired : List ℕ → List ℕ → ℕ → ℕ → ℕ → OutgoingStream → Item → CalledWith
-headExpired ws es k id row s m =
-    pick (ltb 0 (headCode ws s (s .first) (m .next) (rest m))) (calledWith (call.Refused (headCode ws s (s .first) (m .next) (rest m))) ws es)
-    (calledWith (call.Accepted (dropNotes (rescheduled ws (totalsAt ws .interleaving) id (m .next) (s .priority)) es k id s (rest m) (m .«lifecycle_id») .count))
-    (headDropped (rescheduled ws (totalsAt ws .interleaving) id (m .next) (s .priority)) row s (s .«pause_state») m)
-    (dropNotes (rescheduled ws (totalsAt ws .interleaving) id (m .next) (s .priority)) es k id s (rest m) (m .«lifecycle_id») .events))
-
+-- "An expired head of the chosen stream is dropped, half-sent or not"; "A stream stays as it was when its half-sent message expires", but document 02, 3/13: "When a pending
+-- stream's half-sent head expires, the stream becomes paused". After k events.
 unfoldable pub expiredDropped : List ℕ → List ℕ → ℕ → ℕ → ℕ → CalledWith
 expiredDropped ws es k id row =
     pick (ltb 255 row) (calledWith (call.Refused 16) ws es)
     (pick (ltb 1023 (streamAt ws row .first)) (calledWith (call.Refused 16) ws es)
-    (headExpired ws es k id row (streamAt ws row) (itemAt ws (streamAt ws row .first))))
+    (droppedInState ws es k id row (streamAt ws row) (itemAt ws (streamAt ws row .first))))
 
 -- What follows a look, after k events; `expired` is what follows an expired head.
 abbrev pub afterLook : (ℕ → ℕ → ProducedWith) → List ℕ → List ℕ → List ℕ → List ℕ → ℕ → ℕ → Look → ProducedWith

@@ -2,7 +2,7 @@
 ghost use mathlib.Core.Path.{_≡_};
 ghost use Prim.Native.Nat.{_<_};
 ghost use Rattle.queue_sending.specs.Data.{producedWith};
-ghost use Rattle.queue_sending.specs.Fragment.{leastOf, sendCode, endPending, nextFirst, finished, wentOn, writtenSent, sent, handedOut};
+ghost use Rattle.queue_sending.specs.Fragment.{leastOf, sendCode, nextFirst, finished, wentOn, writtenSent, sent, handedOut};
 use crate::data::Produced;
 use crate::data::data_to_send;
 use crate::numbers::moved_on;
@@ -10,6 +10,7 @@ use crate::numbers::numbered_item;
 use crate::numbers::numbered_stream;
 use message_chains::amounts::minus;
 use message_chains::amounts::remaining;
+use message_chains::dropping::end_pending;
 use message_chains::heads::head_code;
 use message_chains::heads::release;
 use message_chains::heads::sent_events;
@@ -58,16 +59,6 @@ fn send_code(
         return 16;
     }
     head_code(queue, s, s.first as usize, m.next, n)
-}
-
-// "When a pending stream's message ends or is discarded, it is paused."
-fn end_pending(state: u8) -> u8
-    ensures { λ r. ⌜ r ≡ endPending state ⌝ }
-{
-    if state == 1 {
-        return 2;
-    }
-    state
 }
 
 // "a message behind it, unless the stream is now paused, then makes the stream begin anew": the place of the message with which

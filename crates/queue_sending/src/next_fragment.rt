@@ -1,27 +1,22 @@
 // The next fragment (Rust: produce, get_stream_to_produce_from).
 ghost use mathlib.Core.Path.{_≡_};
-ghost use Prim.Native.Nat.{_<_, _≤_};
+ghost use Prim.Native.Nat.{_≤_};
 ghost use lib.ListN.{length};
 ghost use Rattle.queue_streams.specs.Events.{eventWords};
 ghost use Rattle.queue_streams.specs.Settings.{calledWith};
 ghost use Rattle.queue_sending.specs.Data.{producedWith};
-ghost use Rattle.queue_sending.specs.Produce.{produceCode, headExpired, expiredDropped, passed, sentChosen, sentAfter, copied, refusal, pastOf, producedPast, produceNext};
+ghost use Rattle.queue_sending.specs.Produce.{produceCode, expiredDropped, passed, sentChosen, sentAfter, copied, refusal, pastOf, producedPast, produceNext};
 use crate::choice::Look;
 use crate::choice::look_ahead;
 use crate::data::Produced;
 use crate::fragment::hand_out;
-use message_chains::amounts::remaining;
-use message_chains::heads::drop_head;
-use message_chains::heads::head_code;
+use message_chains::dropping::drop_in_state;
 use queue_streams::answers::Call;
-use queue_streams::events::EVENT_WORDS;
-use queue_streams::waiting::reschedule;
+use queue_streams::events::EVENT_PLACES;
 use queue_words::QUEUE_WORDS;
 use queue_words::header::load_options;
 use queue_words::header::load_totals;
-use queue_words::items::Item;
 use queue_words::items::load_item;
-use queue_words::streams::OutgoingStream;
 use queue_words::streams::load_stream;
 
 const MAX_TIME: u64 = 4611686018427387903;
@@ -61,30 +56,6 @@ fn produce_code(
     0
 }
 
-// Drops the head m of the stream s, which has expired: the events so far, or 16.
-fn drop_expired_head(
-    queue: &mut [u64; QUEUE_WORDS],
-    events: &mut [u64],
-    k: usize,
-    id: u16,
-    row: usize,
-    s: OutgoingStream,
-    m: Item,
-) -> Call
-    requires { ⌜ (row < 256) × (s .first < 1024) ⌝ }
-    ensures { λ r. ⌜ calledWith r (now (queue .exit)) (now (events .exit)) ≡ headExpired (now (queue .entry)) (now (events .entry)) k id row s m ⌝ }
-{
-    let n = remaining(m);
-    let code = head_code(&*queue, s, s.first as usize, m.next, n);
-    if code > 0 {
-        return Call::Refused(code);
-    }
-    let t = load_totals(&*queue);
-    reschedule(queue, t.interleaving, id, m.next, s.priority);
-    let k1 = drop_head(queue, events, k, id, row, s, s.pause_state, m);
-    Call::Accepted(k1)
-}
-
 // "An expired head of the chosen stream is dropped, half-sent or not": the events so far, or 16.
 fn drop_expired(
     queue: &mut [u64; QUEUE_WORDS],
@@ -103,7 +74,7 @@ fn drop_expired(
         return Call::Refused(16);
     }
     let m = load_item(&*queue, s.first as usize);
-    drop_expired_head(queue, events, k, id, row, s, m)
+    drop_in_state(queue, events, k, id, row, s, m)
 }
 
 // Passes over the expired heads, so that the choice is one to send from or none: "a function that calls itself with one waiting

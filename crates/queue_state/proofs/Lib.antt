@@ -15,3 +15,6 @@ pub mod Releases
 pub mod Heads
 pub mod Twice
 pub mod Alikes
+pub mod Facts
+pub mod Leaves
+pub mod Dropped

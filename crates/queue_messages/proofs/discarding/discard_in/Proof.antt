@@ -31,7 +31,7 @@ returns-3 c =
       ne-eqb _ _ (c .before .before .before .before .before .before .before .before .before .if2 .left),
       ← (c .before .before .before .before .before .before .before .load-item .ensures),
       eq-eqb _ _ (c .before .before .before .before .before .if3 .taken),
-      ← (c .before .before .discard-head .ensures),
+      ← (c .before .before .drop-in-state .ensures),
     )
 
 returns-4 : tie.Need-returns-4

@@ -30,7 +30,7 @@ returns-3 c =
       ← (c .before .before .before .before .before .before .before .before .before .load-stream .ensures),
       le-ltb _ _ (c .before .before .before .before .before .before .before .if2 .left),
       ← (c .before .before .before .before .before .load-item .ensures),
-      ← (c .before .before .drop-expired-head .ensures),
+      ← (c .before .before .drop-in-state .ensures),
     )
 
 pub drop-expired-spec : {M : Type 1} → statement M

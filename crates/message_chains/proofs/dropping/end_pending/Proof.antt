@@ -1,9 +1,9 @@
--- `queue_messages::discarding::end_pending` meets its contract: each return is what its definition says, by what the calls ensure and the tests taken. Assumes nothing.
+-- `message_chains::dropping::end_pending` meets its contract: each return is what its definition says, by what the calls ensure and the tests taken. Assumes nothing.
 use borrow.Author.Needs.{needs}
 use borrow.Author.Tests.{eq-eqb, ne-eqb}
-use Rattle.queue_messages.specs.Discard.{endPending}
-use Rattle.queue_messages.proofs.discarding.end_pending.Statement.{statement}
-use Rattle.queue_messages.proofs.discarding.end_pending.Tie as tie
+use Rattle.message_chains.specs.Dropping.{endPending}
+use Rattle.message_chains.proofs.dropping.end_pending.Statement.{statement}
+use Rattle.message_chains.proofs.dropping.end_pending.Tie as tie
 
 returns : tie.Need-returns
 unfolding endPending

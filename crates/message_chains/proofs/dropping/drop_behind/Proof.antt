@@ -1,9 +1,9 @@
--- `queue_messages::discarding::drop_behind` meets its contract: each return is what its definition says, by what the calls ensure and the tests taken. Assumes nothing.
+-- `message_chains::dropping::drop_behind` meets its contract: each return is what its definition says, by what the calls ensure and the tests taken. Assumes nothing.
 use borrow.Author.Needs.{needs}
-use Rattle.queue_messages.specs.Discard.{behindDropped}
-use Rattle.queue_messages.proofs.Lemmas.{behind-refused}
-use Rattle.queue_messages.proofs.discarding.drop_behind.Statement.{statement}
-use Rattle.queue_messages.proofs.discarding.drop_behind.Tie as tie
+use Rattle.message_chains.specs.Dropping.{behindDropped}
+use Rattle.message_chains.proofs.Lemmas.{behind-refused}
+use Rattle.message_chains.proofs.dropping.drop_behind.Statement.{statement}
+use Rattle.message_chains.proofs.dropping.drop_behind.Tie as tie
 
 returns : tie.Need-returns
 unfolding behindDropped

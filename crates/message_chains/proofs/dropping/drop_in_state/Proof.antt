@@ -1,12 +1,12 @@
--- `queue_messages::discarding::discard_head` meets its contract: each return is what its definition says, by what the calls ensure and the tests taken. Assumes nothing.
+-- `message_chains::dropping::drop_in_state` meets its contract: each return is what its definition says, by what the calls ensure and the tests taken. Assumes nothing.
 use borrow.Author.Needs.{needs}
 use borrow.Author.Tests.{le-ltb, lt-ltb}
-use Rattle.queue_messages.specs.Discard.{headDiscarded}
-use Rattle.queue_messages.proofs.discarding.discard_head.Statement.{statement}
-use Rattle.queue_messages.proofs.discarding.discard_head.Tie as tie
+use Rattle.message_chains.specs.Dropping.{droppedInState}
+use Rattle.message_chains.proofs.dropping.drop_in_state.Statement.{statement}
+use Rattle.message_chains.proofs.dropping.drop_in_state.Tie as tie
 
 returns : tie.Need-returns
-unfolding headDiscarded
+unfolding droppedInState
 returns c =
     rw (
       ← (c .before .before .before .remaining .ensures),
@@ -15,7 +15,7 @@ returns c =
     )
 
 returns-2 : tie.Need-returns-2
-unfolding headDiscarded
+unfolding droppedInState
 returns-2 c =
     rw (
       ← (c .before .before .before .before .before .before .before .before .remaining .ensures),
@@ -24,8 +24,8 @@ returns-2 c =
       ← (c .before .before .drop-behind .ensures),
     )
 
-pub discard-head-spec : {M : Type 1} → statement M
-discard-head-spec =
+pub drop-in-state-spec : {M : Type 1} → statement M
+drop-in-state-spec =
     tie.close
     (tie.spec
     (λ c. search needs)

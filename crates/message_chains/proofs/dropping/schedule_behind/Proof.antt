@@ -1,9 +1,9 @@
--- `queue_messages::discarding::schedule_behind` meets its contract: each return is what its definition says, by what the calls ensure and the tests taken. Assumes nothing.
+-- `message_chains::dropping::schedule_behind` meets its contract: each return is what its definition says, by what the calls ensure and the tests taken. Assumes nothing.
 use borrow.Author.Needs.{needs}
 use borrow.Author.Tests.{eq-eqb, ne-eqb}
-use Rattle.queue_messages.specs.Discard.{scheduledBehind}
-use Rattle.queue_messages.proofs.discarding.schedule_behind.Statement.{statement}
-use Rattle.queue_messages.proofs.discarding.schedule_behind.Tie as tie
+use Rattle.message_chains.specs.Dropping.{scheduledBehind}
+use Rattle.message_chains.proofs.dropping.schedule_behind.Statement.{statement}
+use Rattle.message_chains.proofs.dropping.schedule_behind.Tie as tie
 
 returns : tie.Need-returns
 unfolding scheduledBehind

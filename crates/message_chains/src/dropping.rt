@@ -1,0 +1,86 @@
+// A head is dropped in its stream's state, by a discard or as expired: the scheduler, the state that the stream is left in, the
+// chain and the events.
+ghost use mathlib.Core.Path.{_≡_};
+ghost use Prim.Native.Nat.{_<_};
+ghost use Rattle.stream_scheduler.specs.Words.{outcome};
+ghost use Rattle.queue_streams.specs.Settings.{calledWith};
+ghost use Rattle.message_chains.specs.Dropping.{scheduledBehind, endPending, behindDropped, droppedInState};
+use crate::amounts::remaining;
+use crate::heads::drop_head;
+use crate::heads::head_code;
+use queue_streams::answers::Call;
+use queue_streams::waiting::head_size;
+use queue_streams::waiting::parameters_for;
+use queue_words::QUEUE_WORDS;
+use queue_words::header::load_totals;
+use queue_words::items::Item;
+use queue_words::streams::OutgoingStream;
+use stream_scheduler::remove_stream;
+use stream_scheduler::set_bytes_remaining;
+
+// The scheduler after a drop: a pending stream, which is now paused, stops waiting; any other waits with what is behind.
+fn schedule_behind(queue: &mut [u64; QUEUE_WORDS], id: u16, s: OutgoingStream, next: u64) -> bool
+    ensures { λ r. ⌜ outcome r (now (queue .exit)) ≡ scheduledBehind (now (queue .entry)) id s next ⌝ }
+{
+    if s.pause_state == 1 {
+        return remove_stream(queue, id);
+    }
+    let t = load_totals(&*queue);
+    let bytes = head_size(&*queue, next);
+    let p = parameters_for(t.interleaving, s.priority);
+    set_bytes_remaining(queue, id, bytes, p)
+}
+
+// "When a pending stream's message ends or is discarded, it is paused"; document 02, 3/13: "When a pending stream's half-sent head
+// expires, the stream becomes paused".
+pub fn end_pending(state: u8) -> u8
+    ensures { λ r. ⌜ r ≡ endPending state ⌝ }
+{
+    if state == 1 {
+        return 2;
+    }
+    state
+}
+
+// The scheduler is the first to be written, and refuses before it writes.
+fn drop_behind(
+    queue: &mut [u64; QUEUE_WORDS],
+    events: &mut [u64],
+    k: usize,
+    id: u16,
+    row: usize,
+    s: OutgoingStream,
+    m: Item,
+) -> Call
+    requires { ⌜ (row < 256) × (s .first < 1024) ⌝ }
+    ensures { λ r. ⌜ calledWith r (now (queue .exit)) (now (events .exit)) ≡ behindDropped (now (queue .entry)) (now (events .entry)) k id row s m ⌝ }
+{
+    let scheduled = schedule_behind(queue, id, s, m.next);
+    if scheduled {
+        let state = end_pending(s.pause_state);
+        let k1 = drop_head(queue, events, k, id, row, s, state, m);
+        return Call::Accepted(k1);
+    }
+    Call::Refused(16)
+}
+
+// Drops the head m of the stream s, after k events: the events so far, or 16.
+pub fn drop_in_state(
+    queue: &mut [u64; QUEUE_WORDS],
+    events: &mut [u64],
+    k: usize,
+    id: u16,
+    row: usize,
+    s: OutgoingStream,
+    m: Item,
+) -> Call
+    requires { ⌜ (row < 256) × (s .first < 1024) ⌝ }
+    ensures { λ r. ⌜ calledWith r (now (queue .exit)) (now (events .exit)) ≡ droppedInState (now (queue .entry)) (now (events .entry)) k id row s m ⌝ }
+{
+    let n = remaining(m);
+    let code = head_code(&*queue, s, s.first as usize, m.next, n);
+    if code > 0 {
+        return Call::Refused(code);
+    }
+    drop_behind(queue, events, k, id, row, s, m)
+}
