@@ -9,4 +9,7 @@ pub mod Each
 pub mod Pending
 pub mod Events
 pub mod Serving
+pub mod Passing
+pub mod OneStream
 pub mod Fates
+pub mod Closing

@@ -449,7 +449,7 @@ kept-part : (i : Item) (is : List Item) → (i .offset ≡ 0 → ⊥) → kept (
 unfolding kept untouched
 kept-part i is n = ap (λ (b : Bool). if b then kept is else i ∷ kept is) (eqb-false n)
 
-kept-rest : (is : List Item) → WellRest is → kept is ≡ []
+pub kept-rest : (is : List Item) → WellRest is → kept is ≡ []
 kept-rest [] w = unfold kept in refl
 kept-rest (i ∷ is) w = kept-whole i is (w .0 .no-offset (w .1 .0)) ∙ kept-rest is (w .1 .1)
 
