@@ -60,7 +60,7 @@ put-passes ws st i bs e = by-index (putCode ws (length st) i (length bs)) 0 (λ 
     (λ no. let k : putCode ws (length st) i (length bs) ≡ 0 = rw (ne-eqb (putCode ws (length st) i (length bs)) 0 nz, ne-eqb (putCode ws (length st) i (length bs)) 1 no) at e in omega arith))
 
 -- a stream that has a row waits
-pub waits-listed : (ws : List ℕ) (id i : ℕ) → schedulerAt ws .active ≤ 256 → i < schedulerAt ws .active → (entryAt ws i) .stream-id ≡ id → waitsIn ws id ≡ true
+waits-listed : (ws : List ℕ) (id i : ℕ) → schedulerAt ws .active ≤ 256 → i < schedulerAt ws .active → (entryAt ws i) .stream-id ≡ id → waitsIn ws id ≡ true
 unfolding waitsIn
 waits-listed ws id i few h e = go (sought ws id (schedulerAt ws .active))
   where

@@ -16,4 +16,5 @@ pub mod OtherStore
 pub mod Account
 pub mod Waiting
 pub mod FairTurns
+pub mod CloseSteps
 pub mod Closing

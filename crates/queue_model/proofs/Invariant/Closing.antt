@@ -1,7 +1,7 @@
--- How closing begins and how it ends: what it leaves of an open stream; a pending stream waits; a paused one is among the ready ids; nothing waits once the next fragment says so, and every
+-- How closing begins and how it ends: what it leaves of an open stream; a pending stream waits and is not among the ready ids, a paused one is; nothing waits once the next fragment says so, and every
 -- fragment leaves a smaller total. Assumes nothing.
-use mathlib.Core.Path.{_≡_, refl, sym, ap, subst, _∙_}
-use mathlib.Core.Bool.{Bool, true, false, _||_}
+use mathlib.Core.Path.{_≡_, refl, sym, ap, ap₂, subst, _∙_}
+use mathlib.Core.Bool.{Bool, true, false, _||_, or-true}
 use mathlib.Core.List.{List, [], _∷_}
 use mathlib.Core.Option.{Option, none, some}
 use Prim.Native.Nat.{ℕ, _-_, _≤_, _<_}
@@ -19,8 +19,8 @@ use Rattle.queue_model.specs.Closing.{half-sent, alone, Pending, Paused}
 use Rattle.queue_model.specs.Waiting.{is-waiting}
 use Rattle.queue_model.specs.Run.{produce, close, step}
 use Rattle.queue_model.specs.Demands.{Reachable}
-use Rattle.queue_model.proofs.Table.{find-nil, find-here, find-there, find-put-same, own, other, is-own, not-in-nil}
-use Rattle.queue_model.proofs.Tests.{eqb-true}
+use Rattle.queue_model.proofs.Table.{find-nil, find-here, find-there, find-put-same, own, other, is-own, not-in-nil, After, Rising}
+use Rattle.queue_model.proofs.Tests.{eqb-true, eqb-false}
 use Rattle.queue_model.proofs.Streams.{at-found, at-id, unsent-bytes}
 use Rattle.queue_model.proofs.Invariant.Messages.{WellItems}
 use Rattle.queue_model.proofs.Invariant.Waits.{Holds}
@@ -97,10 +97,6 @@ pending-waits {q = q} r k i p =
 
 -- ---- a paused stream is among the ready ids
 
-or-true : (x y : Bool) → y ≡ true → (x || y) ≡ true
-or-true true y e = refl
-or-true false y e = e
-
 paused-test : (t : Stream) → t .pause-state ≡ paused → is-paused t ≡ true
 unfolding is-paused
 paused-test t e = rw e
@@ -114,8 +110,34 @@ paused-listed k (t ∷ ss) s e p = elim (is-own stream-key t k) [
 ]
   where
     go : (b : Bool) → any (eqb k) (paused-ids ss) ≡ true → any (eqb k) (if b then t .id ∷ paused-ids ss else paused-ids ss) ≡ true
-    go true h = or-true (eqb k (t .id)) (any (eqb k) (paused-ids ss)) h
+    go true h = ap (λ (b : Bool). eqb k (t .id) || b) h ∙ or-true (eqb k (t .id))
     go false h = h
+
+-- A pending one is not.
+above-unlisted : (k : ℕ) (ss : List Stream) → After stream-key k ss → any (eqb k) (paused-ids ss) ≡ false
+unfolding paused-ids any
+above-unlisted k [] a = refl
+above-unlisted k (t ∷ ss) a = go (is-paused t) (above-unlisted k ss (a .1))
+  where
+    go : (b : Bool) → any (eqb k) (paused-ids ss) ≡ false → any (eqb k) (if b then t .id ∷ paused-ids ss else paused-ids ss) ≡ false
+    go true h = let n : k ≡ t .id → ⊥ = λ e. omega (arith, a .0) in ap₂ _||_ (eqb-false n) h
+    go false h = h
+
+pending-test : (t : Stream) → t .pause-state ≡ pending → is-paused t ≡ false
+unfolding is-paused
+pending-test t e = rw e
+
+pub pending-unlisted : (k : ℕ) (ss : List Stream) (s : Stream) → Rising stream-key ss → find-stream k ss ≡ some s → s .pause-state ≡ pending → any (eqb k) (paused-ids ss) ≡ false
+unfolding paused-ids any
+pending-unlisted k [] s r e p = absurd (not-in-nil stream-key k s e)
+pending-unlisted k (t ∷ ss) s r e p = elim (is-own stream-key t k) [
+  | own g ↦ (let z : t ≡ s = cc (find-here stream-key k t ss g, e) in let y = pending-test t (ap (λ (x : Stream). x .pause-state) z ∙ p) in rw y (above-unlisted k ss (subst (λ (n : ℕ). After stream-key n ss) g (r .0))))
+  | other n ↦ go (is-paused t) (eqb-false {a = k} {b = t .id} (λ g. n (sym g))) (pending-unlisted k ss s (r .1) (sym (find-there stream-key k t ss n) ∙ e) p)
+]
+  where
+    go : (b : Bool) → eqb k (t .id) ≡ false → any (eqb k) (paused-ids ss) ≡ false → any (eqb k) (if b then t .id ∷ paused-ids ss else paused-ids ss) ≡ false
+    go true f h = ap₂ _||_ f h
+    go false f h = h
 
 -- ---- nothing waits
 
