@@ -46,7 +46,7 @@ impl<'a> Maker<'a> {
 
     pub fn run(mut self) {
         self.create();
-        while self.left > 0 {
+        while self.left > 0 && !self.pair.over {
             self.step();
         }
     }

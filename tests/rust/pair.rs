@@ -2,6 +2,7 @@
 
 use crate::calls::Answer;
 use crate::calls::Call;
+use crate::closing::Closing;
 use crate::ours::Ours;
 use crate::theirs::Theirs;
 use crate::thousands;
@@ -19,6 +20,8 @@ pub struct Tally {
     events: [u64; 5],
     /// Low marks that told the amount after the call, and those that told a step before it.
     amounts: [u64; 2],
+    /// Calls that ended a start, since a closing stream's half-sent message expired in them.
+    expiries: u64,
     refusals: [u64; 17],
 }
 
@@ -60,6 +63,11 @@ impl fmt::Display for Tally {
         let [after, before] = self.amounts.map(thousands);
         write!(f, "\nevents by kind:{}", list(&self.events))?;
         write!(f, "\nlow marks with the amount after the call: {after}, with one before it: {before}")?;
+        write!(
+            f,
+            "\nstarts that ended at the expiry of a closing stream's half-sent message: {}",
+            thousands(self.expiries)
+        )?;
         write!(f, "\nrefusals by number:{}", list(&self.refusals))
     }
 }
@@ -71,6 +79,9 @@ pub struct Pair {
     pub interleaving: bool,
     pub image: Vec<u8>,
     pub tally: Tally,
+    /// Whether the original is matched no more.
+    pub over: bool,
+    closing: Closing,
     title: String,
     log: Vec<String>,
 }
@@ -81,6 +92,8 @@ impl Pair {
         self.queues = None;
         self.image.clear();
         self.log.clear();
+        self.closing = Closing::default();
+        self.over = false;
         self.title = title;
     }
 
@@ -88,11 +101,21 @@ impl Pair {
         &self.queues.as_ref().expect("there is a queue").0
     }
 
-    /// Makes the call on both queues; the answer, which is the same.
+    /// Makes the call on both queues; the answer, which is the same while the original is matched.
     pub fn call(&mut self, call: Call) -> Answer {
         self.note(&call);
         let total = self.queues.as_ref().map_or(0, |(theirs, _)| theirs.total());
         let (want, got) = self.answers(&call);
+        if let Some((theirs, _)) = &self.queues
+            && !self.over
+            && self.closing.follow(&call, &want, theirs)
+        {
+            self.tally.expiries += 1;
+            self.over = true;
+        }
+        if self.over {
+            return want;
+        }
         self.tally.count(&call, &want);
         if want != got {
             self.differ(&want.beside(&got), &got.beside(&want));
