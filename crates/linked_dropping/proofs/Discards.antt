@@ -1,5 +1,5 @@
 -- Discarding is the model's step. Assumes nothing.
-use Prim.Native.Nat.{ℕ, _+_, _/_, _≤_, _<_}
+use Prim.Native.Nat.{ℕ, _+_, _≤_, _<_}
 use mathlib.Core.Path.{_≡_, refl, sym, ap, subst, _∙_}
 use mathlib.Core.List.{List, [], _∷_}
 use mathlib.Core.Option.{some}
@@ -21,6 +21,7 @@ use Rattle.queue_model.specs.Streams.{find-stream}
 use Rattle.queue_model.specs.Amounts.{drop-head-events}
 use Rattle.queue_model.specs.Produce.{drop-in}
 use Rattle.queue_model.proofs.Invariant.Events.{events-fit}
+use Rattle.queue_streams.specs.Events.{eventWords, placesIn}
 use Rattle.queue_streams.specs.Settings.{CalledWith, calledWith}
 use Rattle.queue_streams.specs.declared.answers.Call.the-variants.{Accepted, Refused}
 use Rattle.payload_store.proofs.Cases.{by-lt}
@@ -88,7 +89,7 @@ module _ (ws st es : List ℕ) (id m : ℕ) where
 
 -- ---- the head that is meant
 
-module _ (ws st es : List ℕ) (m : ℕ) (g : Good ws st) (i : ℕ) (hk : i < totalsAt ws .known) (x : ℕ) (xs : List ℕ) (eq : g .shape .q i ≡ x ∷ xs) (t : Typed (run.discard (length es / 3) (idAt ws i) m)) (long : 6915 ≤ length es) where
+module _ (ws st es : List ℕ) (m : ℕ) (g : Good ws st) (i : ℕ) (hk : i < totalsAt ws .known) (x : ℕ) (xs : List ℕ) (eq : g .shape .q i ≡ x ∷ xs) (t : Typed (run.discard (placesIn es) (idAt ws i) m)) (long : eventWords ≤ length es) where
   abbrev d : run.Call
   d = run.discard (placesIn es) (idAt ws i) m
 
@@ -112,7 +113,7 @@ module _ (ws st es : List ℕ) (m : ℕ) (g : Good ws st) (i : ℕ) (hk : i < to
   dropped = drop-in (k .pause-state) (model ws st) k j is
 
   stepped : j .message-id ≡ m → run.step d (model ws st) ≡ reply done fired dropped
-  stepped me = discard-head (length es / 3) (idAt ws i) m (model ws st) k j is (omega arith) found refl me (not-short ws st g i hk x xs eq)
+  stepped me = discard-head (placesIn es) (idAt ws i) m (model ws st) k j is (omega arith) found refl me (not-short ws st g i hk x xs eq)
 
   fired-few : j .message-id ≡ m → 0 + length fired ≤ 2305
   fired-few me = subst (λ (z : Step). 0 + length (z .outcome .events) ≤ 2305) (stepped me) (let e = events-fit d (model ws st) (g .well) in omega (arith, e))

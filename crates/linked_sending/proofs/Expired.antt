@@ -11,6 +11,7 @@ use Rattle.queue_words.specs.Streams.{streamAt}
 use Rattle.queue_model.specs.Types.{Stream}
 use Rattle.queue_model.specs.Amounts.{drop-head-events}
 use Rattle.stream_scheduler.specs.Link.{entryAt}
+use Rattle.queue_streams.specs.Events.{eventWords}
 use Rattle.queue_streams.specs.Settings.{CalledWith}
 use Rattle.message_chains.specs.Dropping.{droppedInState}
 use Rattle.queue_sending.specs.Produce.{expiredDropped}

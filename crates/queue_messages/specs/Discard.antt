@@ -10,6 +10,7 @@ use Rattle.queue_words.specs.Streams.{streamAt}
 use Rattle.queue_words.specs.declared.known.Found.{Found}
 use Rattle.queue_words.specs.declared.known.Found.the-variants.{At, Gap, Broken}
 use Rattle.queue_words.specs.declared.streams.OutgoingStream.{OutgoingStream}
+use Rattle.queue_streams.specs.Events.{eventWords}
 use Rattle.queue_streams.specs.Settings.{CalledWith, calledWith}
 use Rattle.queue_streams.specs.declared.answers.Call.the-variants.{Accepted, Refused}
 use Rattle.message_chains.specs.Dropping.{droppedInState}

@@ -6,7 +6,7 @@ ghost use Rattle.queue_streams.specs.Settings.{calledWith};
 ghost use Rattle.queue_messages.specs.Discard.{discardIn, discard};
 use message_chains::dropping::drop_in_state;
 use queue_streams::answers::Call;
-use queue_streams::events::EVENT_PLACES;
+use queue_streams::events::EVENT_WORDS;
 use queue_words::QUEUE_WORDS;
 use queue_words::items::load_item;
 use queue_words::known::Found;

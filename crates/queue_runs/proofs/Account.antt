@@ -120,7 +120,7 @@ sent-unless (plain.ids l) m n = refl
 sent-unless (plain.fragment f) m n = refl
 sent-unless plain.nothing-waits m n = refl
 
-key-same : (u : Bool) (id : StreamId) → key-id (key-of u id) ≡ id
+pub key-same : (u : Bool) (id : StreamId) → key-id (key-of u id) ≡ id
 key-same true id = refl
 key-same false id = refl
 

@@ -1,6 +1,6 @@
 -- What a call leaves and shows of a stream that closes (request 3/13), on the code. Assumes nothing.
 use mathlib.Core.Path.{_≡_, refl, sym, ap, subst, _∙_}
-use mathlib.Core.Bool.{true}
+use mathlib.Core.Bool.{true, false}
 use mathlib.Core.List.{List, [], _∷_, _++_, append-assoc, append-nil}
 use mathlib.Core.Option.{none}
 use Prim.Native.Nat.{ℕ}
@@ -29,7 +29,7 @@ use Rattle.queue_runs.specs.Meaning.{queueOf, AllTyped, shownOf}
 use Rattle.queue_runs.specs.Closing.{idsIn, tells, Part, partSent, partIn, AllOf, joined, Abandons, discards, expires}
 use Rattle.queue_runs.proofs.Steps.{step-link, typed-call, store-small, meant}
 use Rattle.queue_runs.proofs.Demand3.{Stands}
-use Rattle.queue_runs.proofs.FairTurns.{key-same}
+use Rattle.queue_runs.proofs.Account.{key-same}
 
 -- ------------------------------------------------------------------ reached queues
 

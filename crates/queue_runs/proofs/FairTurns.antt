@@ -52,19 +52,6 @@ quiet-charge : (p k : ℕ) (o : Outcome) → Quiet o → model.charge p k (o .an
 quiet-charge p k o (quiet-refused n) = refl
 quiet-charge p k o quiet-done = refl
 
-pub key-same : (u : Bool) (id : StreamId) → key-id (key-of u id) ≡ id
-key-same true id = refl
-key-same false id = refl
-
-sent-charge : (p k : ℕ) (a : plain.Answer) (n : ℕ) → chargeSent p k (producedOf a n) ≡ model.charge p k a
-sent-charge p k (plain.refused r) n = refl
-sent-charge p k plain.done n = refl
-sent-charge p k (plain.number m) n = refl
-sent-charge p k (plain.flag b) n = refl
-sent-charge p k (plain.ids l) n = refl
-sent-charge p k (plain.fragment f) n = ap (λ (x : StreamId). for-stream k (x .0) (cost (weighted p) (length (f .bytes)))) (key-same (f .unordered) (record { 0 = f .stream-id }))
-sent-charge p k plain.nothing-waits n = refl
-
 charge-allowed : (p k : ℕ) (c : Call) (s : State) → Good s → Turn c s → Allowed s c → charge p k (step c s .shows .answer) ≡ model.charge p k (meant c s .outcome .answer)
 charge-allowed p k c s g t (adds time m payload) =
     ap (λ (x : Shown). charge p k (x .answer)) (step-link c s g (t .typed) .shows-are) ∙ sym (quiet-charge p k (meant c s .outcome) (form-of (run.add (length (s .store)) time (messageOf m payload)) (queueOf s)))

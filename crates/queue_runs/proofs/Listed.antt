@@ -214,7 +214,7 @@ head-listed l h ws es k id row s m =
 
 discard-listed : (ws es : List ℕ) (id k : ℕ) → Loud (3 ∷ 16 ∷ []) (discarding.discard ws es id k)
 unfolding discarding.discard discarding.discardIn
-discard-listed ws es id k = loud-pick _ (ltb (length es) 6915) _ _ (loud-refused _ 3 ws es refl) (go (findStream ws id))
+discard-listed ws es id k = loud-pick _ (ltb (length es) eventWords) _ _ (loud-refused _ 3 ws es refl) (go (findStream ws id))
   where
     go : (x : Found) → Loud (3 ∷ 16 ∷ []) (discarding.discardFound ws es id k x)
     go (found.At p row) =

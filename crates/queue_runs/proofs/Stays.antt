@@ -115,7 +115,7 @@ threshold-stays ws es id t = loud-pick ws es (ltb (length es) eventWords) _ _ (l
 
 discard-stays : (ws es : List ℕ) (id k : ℕ) → Loud ws es (discarding.discard ws es id k)
 unfolding discarding.discard discarding.discardIn droppedInState behindDropped
-discard-stays ws es id k = loud-pick ws es (ltb (length es) 6915) _ _ (loud-refused ws es 3) (go (findStream ws id))
+discard-stays ws es id k = loud-pick ws es (ltb (length es) eventWords) _ _ (loud-refused ws es 3) (go (findStream ws id))
   where
     head : (row : ℕ) (s : OutgoingStream) (m : Item) → Loud ws es (droppedInState ws es 0 id row s m)
     head row s m =

@@ -8,6 +8,7 @@ use Rattle.queue_words.specs.Flags.{pick}
 use Rattle.queue_words.specs.Header.{optionsAt, totalsAt}
 use Rattle.queue_words.specs.Items.{itemAt}
 use Rattle.queue_words.specs.Streams.{streamAt}
+use Rattle.queue_streams.specs.Events.{eventWords}
 use Rattle.queue_streams.specs.Settings.{CalledWith, calledWith}
 use Rattle.queue_streams.specs.declared.answers.Call.{Call}
 use Rattle.queue_streams.specs.declared.answers.Call.the-variants as call

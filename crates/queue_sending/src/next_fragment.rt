@@ -12,7 +12,7 @@ use crate::data::Produced;
 use crate::fragment::hand_out;
 use message_chains::dropping::drop_in_state;
 use queue_streams::answers::Call;
-use queue_streams::events::EVENT_PLACES;
+use queue_streams::events::EVENT_WORDS;
 use queue_words::QUEUE_WORDS;
 use queue_words::header::load_options;
 use queue_words::header::load_totals;

@@ -27,7 +27,7 @@ use Rattle.queue_model.proofs.Invariant.Fine.{enough}
 use Rattle.stream_scheduler.specs.Link.{modelScheduler, FitsParameters}
 use Rattle.stream_scheduler.specs.Words.{Outcome, removeStream, setBytesRemaining}
 use Rattle.stream_scheduler.proofs.Link.{remove-link, set-link}
-use Rattle.queue_streams.specs.Events.{written}
+use Rattle.queue_streams.specs.Events.{eventWords, written}
 use Rattle.queue_streams.specs.Settings.{CalledWith, calledWith}
 use Rattle.queue_streams.specs.Waiting.{headSize, parametersFor, rescheduled}
 use Rattle.queue_streams.specs.declared.answers.Call.the-variants.{Accepted, Refused}
@@ -173,7 +173,7 @@ module _ (ws st : List ℕ) (g : Good ws st) (i : ℕ) (hk : i < totalsAt ws .kn
   other-done : setBytesRemaining ws (idAt ws i) (headSize ws (y .next)) (parametersFor (totalsAt ws .interleaving) (s .priority)) .done ≡ true
   other-done = set-link ws (g .shape .schedules) (idAt ws i) (headSize ws (y .next)) (parametersFor (totalsAt ws .interleaving) (s .priority)) id-fits (parameters-fit (totalsAt ws .interleaving)) (room-of ws st (g .shape) (all-known ws st (g .well)) (idAt ws i) known) .step-done
 
-  module _ (es : List ℕ) (k : ℕ) (long : 6915 ≤ length es) (few : k + length fired ≤ 2305) where
+  module _ (es : List ℕ) (k : ℕ) (long : eventWords ≤ length es) (few : k + length fired ≤ 2305) where
     abbrev Told : CalledWith → Type 0
     Told d = DroppedIn ws st t j is es k d
 

@@ -24,7 +24,8 @@ use Rattle.queue_model.proofs.Tests.{holds}
 use Rattle.queue_model.proofs.Table.{find-key, find-put-same, find-put-other, own, other, is-own}
 use Rattle.queue_model.proofs.Invariant.Well.{Well}
 use Rattle.queue_model.proofs.Invariant.Sends.{headless, headed, heads, head-of-at}
-use Rattle.queue_model.proofs.Invariant.Serving.{found-map, ready-id}
+use Rattle.queue_model.proofs.Invariant.Fine.{paused-alike}
+use Rattle.queue_model.proofs.Invariant.Serving.{found-map}
 use Rattle.queue_model.proofs.Invariant.Passing.{Past, here, over, Ends, none-waits, hands-out, Next, refuses, passes, next-fragment}
 use Rattle.queue_model.proofs.Invariant.OneStream.{Lasts, plain, plain-step}
 use Rattle.queue_model.proofs.Calm.Calm.{HeadAt}
@@ -74,7 +75,7 @@ unfolding step Calls.ready-ids
 ready-pending k i q p = record {
   stream = p .stream;
   behind = p .behind;
-  found = found-map paused-to-resetting ready-id k (q .streams) (p .stream) (p .found) ∙ ap some (ready-same (p .stream) (p .state));
+  found = found-map paused-to-resetting (λ s. (paused-alike s) .alike-id) k (q .streams) (p .stream) (p .found) ∙ ap some (ready-same (p .stream) (p .state));
   state = p .state;
   items = p .items;
 }

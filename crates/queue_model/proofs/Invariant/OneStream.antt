@@ -21,7 +21,8 @@ use Rattle.queue_model.specs.Run.{Call, add, produce, discard, close, re
 use Rattle.queue_model.proofs.Table.{find-put-same, find-put-other, own, other, is-own, not-in-nil}
 use Rattle.queue_model.proofs.Checks.{Passed, all-passed, or-left, not-false, nil-of}
 use Rattle.queue_model.proofs.Streams.{at-found, at-id}
-use Rattle.queue_model.proofs.Invariant.Serving.{found-map, reopened-id}
+use Rattle.queue_model.proofs.Invariant.Fine.{Alike, reopened-alike}
+use Rattle.queue_model.proofs.Invariant.Serving.{found-map}
 use Rattle.queue_model.specs.Calls
 use Rattle.queue_model.specs.Restore
 
@@ -119,7 +120,7 @@ module _ (k : ℕ) (F : PauseState → List Item → Type 0) (l : Lasts F) where
   unfolding reopen
   has-reopen z q h = record {
     stream = h .stream;
-    found = found-map (reopened z) (reopened-id z) k (q .streams) (h .stream) (h .found) ∙ ap some (reopened-same z (h .stream) (h .stream .pause-state) refl (h .holds));
+    found = found-map (reopened z) (λ s. (reopened-alike z s) .alike-id) k (q .streams) (h .stream) (h .found) ∙ ap some (reopened-same z (h .stream) (h .stream .pause-state) refl (h .holds));
     holds = h .holds;
   }
 

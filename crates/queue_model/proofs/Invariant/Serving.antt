@@ -432,7 +432,7 @@ serves-close places j q g a =
 -- ---- ready ids, commit, rollback and the whole-queue reset
 
 module _ (f : Stream → Stream) (i : (s : Stream) → (f s) .id ≡ s .id) where
-  found-map : (k : ℕ) (ss : List Stream) (s : Stream) → find-stream k ss ≡ some s → find-stream k (map f ss) ≡ some (f s)
+  pub found-map : (k : ℕ) (ss : List Stream) (s : Stream) → find-stream k ss ≡ some s → find-stream k (map f ss) ≡ some (f s)
   found-map k [] s e = absurd (not-in-nil stream-key k s e)
   found-map k (t ∷ ss) s e = elim (is-own stream-key t k) [
     | own g ↦ (let z : t ≡ s = cc (find-here stream-key k t ss g, e) in find-here stream-key k (f t) (map f ss) (i t ∙ g) ∙ ap (λ (x : Stream). some (f x)) z)
