@@ -152,17 +152,17 @@ fn new_queue() -> Result<SendQueue, Refusal> {
 /// The planner's order of the heads' first packets, set and seen.
 fn wanted_order() -> Outcome<()> {
     let wanted = [4, 8, 1, 6, 3, 7, 2, 5].map(StreamId);
-    let sizes = wanted.map(|head| profile(number(head.0, 1)).len());
+    let sizes = wanted.map(|stream| profile(number(stream.0, 1)).len());
     let priorities = plan_priorities(PACKET, &wanted, &sizes)?;
     println!("planner: heads wanted in the order {wanted:?}; priorities {priorities:?}");
     let mut queue = new_queue()?;
-    for (head, priority) in wanted.iter().zip(&priorities) {
-        queue.set_priority(*head, *priority)?;
+    for (stream, priority) in wanted.iter().zip(&priorities) {
+        queue.set_priority(*stream, *priority)?;
     }
     let now = SocketTime::zero();
-    for head in STREAMS {
-        let payload = profile(number(head, 1));
-        queue.add(now, Message::new(StreamId(head), PpId(53), &payload), &SendOptions::default())?;
+    for stream in STREAMS {
+        let payload = profile(number(stream, 1));
+        queue.add(now, Message::new(StreamId(stream), PpId(53), &payload), &SendOptions::default())?;
     }
     let mut seen = Vec::new();
     while let Some(d) = queue.produce(now, PACKET)? {

@@ -45,6 +45,7 @@ fn least_plan(limit: u64, ids: &[u16], sizes: &[u64]) -> PlannedPriorities
     ensures { λ r. ⌜ r ≡ least-plan limit (planned-streams (now (ids .entry)) (now (sizes .entry))) ⌝ }
 {
     let mut values = [0u16; MAX_PLANNED];
+    // Behind the last stream stands none: its bound is above every finish time, and no id is below 0.
     let mut finish: u64 = NO_BOUND;
     let mut next: u16 = 0;
     let mut i = ids.len();

@@ -55,7 +55,7 @@ max-word = 18446744073709551615
 
 -- ------------------------------------------------------------------ the list
 
--- 1. "At creation, the payload limit is outside 1 to 65,535."
+-- 1. "At creation, the payload limit is outside 1 to 65,535." Document 02, 13/13: also where priorities are planned.
 abbrev pub limit-wrong : ℕ → Check
 limit-wrong n = 1 when outside 1 65535 n
 
