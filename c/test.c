@@ -994,6 +994,26 @@ static void planning(void)
     give_order_back(o);
 }
 
+/* ---------------------------------------------------------------- closing after a lifetime ran out (document 02, 3/13) */
+
+/* "When a pending stream's half-sent head expires, the stream becomes paused, its later messages wait": it is ready at once, and the
+ * message behind is sent after the commit. */
+static void closing_expires(void)
+{
+    struct host *h = new_queue(SMALL_STORE);
+    h->time = 0;
+    CHECK(add(h, 5, 100, 0, 0, 7) == DSQ_ACCEPTED && sends(h, 60, 5, 60, 0, 1, 0));
+    CHECK(close_stream(h, 5) == DSQ_ACCEPTED && has_ready(h) == 0);
+    CHECK(plain(h, 5, 9) == DSQ_ACCEPTED && plain(h, 6, 8) == DSQ_ACCEPTED);
+    h->time = 1000000;
+    CHECK(sends(h, 60, 6, 8, 0, 1, 1) && has_ready(h) == 1);
+    CHECK(sends_nothing(h) && amount(h, 5) == 9);
+    CHECK(ready(h) == DSQ_ACCEPTED && h->out[DSQ_OUT_VALUE] == 1 && h->ids[0] == 5);
+    CHECK(sends_nothing(h) && dsq_commit_reset_streams(h->queue) == DSQ_ACCEPTED);
+    CHECK(sends(h, 60, 5, 9, 0, 1, 1));
+    give_back(h);
+}
+
 /* ---------------------------------------------------------------- words that no queue has */
 
 static uint64_t seed = 88172645463325252u;
@@ -1098,6 +1118,7 @@ int main(void)
     main_path();
     examples();
     amounts();
+    closing_expires();
     limits();
     refusals();
     planning();

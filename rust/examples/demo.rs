@@ -1,6 +1,6 @@
 //! A small job of a card feeder: profiles go to eight writing heads, one stream a head, through the send queue.
 //!
-//! First the heads get their first packets in a wanted order. Then comes the job: the heads' backlogs run low and are topped up, a head's job is
+//! First the heads get their first packets in a wanted order, and a closed head whose half-sent profile runs out of time is ready at once. Then comes the job: the heads' backlogs run low and are topped up, a head's job is
 //! closed in the middle of a profile, and half-way the queue is carried to a second host as an image. At the end every profile is compared byte
 //! for byte with what was queued.
 
@@ -174,8 +174,34 @@ fn wanted_order() -> Outcome<()> {
     if seen == wanted { Ok(()) } else { Err("the heads came in another order".into()) }
 }
 
+/// A head's job is closed in the middle of a profile whose time runs out: the head is ready to be reset, and a profile for another head goes on.
+fn closing_expires() -> Outcome<()> {
+    let (closed, other) = (StreamId(1), StreamId(2));
+    let mut queue = new_queue()?;
+    let now = SocketTime::zero();
+    let short = SendOptions { lifetime: Some(Duration::from_millis(2)), ..Default::default() };
+    queue.add(now, Message::new(closed, PpId(53), &profile(101)), &short)?;
+    queue.produce(now, PACKET)?.ok_or("nothing was sent")?;
+    queue.prepare_reset_stream(closed)?;
+    if queue.has_streams_ready_to_be_reset() {
+        return Err("the head was not in the middle of a profile".into());
+    }
+    queue.add(now, Message::new(other, PpId(53), &profile(201)), &SendOptions::default())?;
+    let later = now + Duration::from_millis(5);
+    let next = queue.produce(later, PACKET)?.ok_or("nothing was sent")?.data.stream_key.id();
+    let ready = queue.get_streams_ready_to_reset();
+    println!(
+        "job closer: head {closed} closed, its half-sent profile ran out of time; ready to be reset: {ready:?}; head {next} goes on"
+    );
+    if ready != [closed] || next != other {
+        return Err("the closed head hangs".into());
+    }
+    Ok(())
+}
+
 fn main() -> Outcome<()> {
     wanted_order()?;
+    closing_expires()?;
     println!("first host: profiles for eight heads, interleaved; head 1 has double weight; the mark is {MARK} bytes");
     let mut feeder = Feeder {
         queue: new_queue()?,

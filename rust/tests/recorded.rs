@@ -1,5 +1,5 @@
-//! The repository's recorded traces, with the answers of dcSCTP's own code and the amounts that document 02 adds to its events, played on a
-//! `SendQueue`: every answer must be the same.
+//! The repository's recorded traces, with the answers of dcSCTP's own code and the amounts that document 02 adds to its events (after an
+//! expiry as in request 3/13 the reference's), played on a `SendQueue`: every answer must be the same.
 
 mod player;
 

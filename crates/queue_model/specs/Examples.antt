@@ -182,6 +182,8 @@ facts =
     -- the call goes on to 0.
     ∷ (fires (thrice none ++ (close 2305 5 ∷ [])) gives (1 ∷ 5 ∷ 10 ∷ 2 ∷ 0 ∷ 0 ∷ []))
     ∷ (fires (thrice (some 0) ++ (get 1000000 10 ∷ [])) gives (1 ∷ 5 ∷ 10 ∷ 2 ∷ 0 ∷ 0 ∷ []))
+    -- A raise past the amount tells the amount, not the threshold.
+    ∷ (fires (set-threshold 2305 5 4 ∷ put 5 10 0 none ∷ set-threshold 2305 5 12 ∷ []) gives (1 ∷ 5 ∷ 10 ∷ []))
     -- Each event tells the amount that fell: with 7 bytes on another stream and the total's threshold 20 the same message takes the stream to 10 and the total to 17.
     ∷ (fires-at 20 (put 6 7 0 none ∷ thrice none ++ (close 2305 5 ∷ [])) gives (1 ∷ 5 ∷ 10 ∷ 2 ∷ 0 ∷ 17 ∷ []))
     ∷ (fires-at 20 (put 6 7 0 none ∷ thrice (some 0) ++ (get 1000000 7 ∷ [])) gives (2 ∷ 0 ∷ 17 ∷ 1 ∷ 5 ∷ 10 ∷ 1 ∷ 6 ∷ 0 ∷ []))

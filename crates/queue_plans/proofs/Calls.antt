@@ -7,6 +7,7 @@ use native.Mathlib.Omega.{arith}
 use lib.ListN.{length}
 use Rattle.queue_model.specs.Refusals.{event-places}
 use Rattle.queue_model.specs.Run as run
+use Rattle.queue_streams.specs.Events.{eventWords}
 use Rattle.queue_runs.specs.Calls.{Call, callOf, set-priority, set-interleaving}
 use Rattle.queue_runs.specs.Meaning.{AllTyped, callsOf}
 use Rattle.priority_plan.specs.Works.{planned-streams}
@@ -18,7 +19,7 @@ use Rattle.queue_plans.specs.Jobs.{priorityCalls, settings, Adding, addi
 
 -- Words enough for the 2,305 places of an event list.
 abbrev pub enough-words : ℕ
-enough-words = 6915
+enough-words = eventWords
 
 -- The model's next fragment.
 pub record Asked (len : ℕ) (x : Asking) : Type 0 where

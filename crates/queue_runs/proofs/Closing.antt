@@ -107,10 +107,11 @@ module _ (k : ℕ) (i j : Item) (s : State) (c : Call) (cs : List Call) (a : All
   abandons-cons d (expires es bs time size e) = expires es bs time size (ap (λ (x : Option ℕ). plain.expired time x) (sym (f .same-expiry)) ∙ e)
 
   over-cons : Over k j s′ cs → Over k i s (c ∷ cs)
+  unfolding runs.after
   over-cons (delivered before behind e b g) =
       delivered (c ∷ before) behind (ap (λ (l : List Call). c ∷ l) e) (all-cons before b)
       (sym (append-nil (joined (parts k (runs.run (c ∷ before) s)))) ∙ joined-cons before [] (append-nil (joined (parts k (runs.run before s′))) ∙ g))
-  over-cons (abandoned before d behind e b) = abandoned (c ∷ before) d behind (ap (λ (l : List Call). c ∷ l) e) (abandons-cons d b)
+  over-cons (abandoned before d behind e b p) = abandoned (c ∷ before) d behind (ap (λ (l : List Call). c ∷ l) e) (abandons-cons d b) p
 
   then-cons : Then k j s′ cs → Then k i s (c ∷ cs)
   unfolding runs.after
@@ -133,7 +134,7 @@ then-run k i (c ∷ cs) s n t r p =
     go : Turn k i c s → ((j : Item) → Pending k j (queueOf (step c s .next)) → Then k j (step c s .next) cs) → (Paused k (queueOf (step c s .next)) → Rested k (step c s .next) cs) → Then k i s (c ∷ cs)
     go (turn-further j q a f) g h = then-cons k i j s c cs a f (g j q)
     go (turn-delivers q a e) g h = ended (delivered-first k i s c cs a e) (rested-cons k s c cs (h q))
-    go (turn-abandons q a) g h = ended (abandoned [] c cs refl a) (rested-cons k s c cs (h q))
+    go (turn-abandons q a) g h = ended (abandoned [] c cs refl a (unfold runs.after in q)) (rested-cons k s c cs (h q))
 
 course-of : {o : plain.Options} {len : ℕ} (k : ℕ) (i : Item) (s : State) (cs : List Call) → Stands o len (runs.after cs s) → Then k i s cs → Course k i s cs
 course-of k i s cs n (going j p a f) = goes-on (record { first = j; pends = p; half-sent = pending-offset (n .reachable) k j p; waits = pending-waits (n .reachable) k j p; not-ready = pending-untold k j (runs.after cs s) n p; parts-of = a; further = f })

@@ -13,7 +13,7 @@ use Rattle.queue_words.specs.Flags.{pick}
 use Rattle.queue_model.specs.Logic.{any}
 use Rattle.queue_model.specs.Types.{Item, expired}
 use Rattle.queue_model.specs.Streams.{stream-at}
-use Rattle.queue_model.specs.Closing.{half-sent, alone, unsent, FurtherOn, Pending}
+use Rattle.queue_model.specs.Closing.{half-sent, alone, unsent, FurtherOn, Pending, Paused}
 use Rattle.queue_model.specs.Waiting.{is-waiting}
 use Rattle.queue_model.specs.FairTurns.{Open}
 use Rattle.queue_questions.specs.Questions.{totalOf}
@@ -101,10 +101,10 @@ pub data Abandons (k : ℕ) (i : Item) : Call → Type 0 where
   discards : (es : List ℕ) → Abandons k i (discard es k (i .message-id))
   expires : (es bs : List ℕ) (time size : ℕ) → expired time (i .expires-at) ≡ true → Abandons k i (produce es bs time size)
 
--- "once its messages are delivered or abandoned": after some of the calls every byte had been handed out, or one of the calls abandons it.
+-- "once its messages are delivered or abandoned": after some of the calls every byte had been handed out, or one of the calls abandons it and leaves the stream paused.
 pub data Over (k : ℕ) (i : Item) (s : State) (cs : List Call) : Type 0 where
   delivered : (before behind : List Call) → cs ≡ before ++ behind → AllOf (i .message-id) (parts k (run before s)) → joined (parts k (run before s)) ≡ unsent i → Over k i s cs
-  abandoned : (before : List Call) (c : Call) (behind : List Call) → cs ≡ before ++ c ∷ behind → Abandons k i c → Over k i s cs
+  abandoned : (before : List Call) (c : Call) (behind : List Call) → cs ≡ before ++ c ∷ behind → Abandons k i c → Paused k (queueOf (step c (after before s) .next)) → Over k i s cs
 
 -- After these calls the stream goes on, or its message is over and the stream is ready.
 pub data Course (k : ℕ) (i : Item) (s : State) (cs : List Call) : Type 0 where
