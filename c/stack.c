@@ -13,7 +13,7 @@
 #define STORE DSQ_MAX_STORE
 #define PAINT 0xa5
 #define SHALLOW 8192
-#define DEEP (544u << 10)
+#define DEEP (512u << 10)
 
 enum call { NOTHING, PASS_ALL, PASS_ONE, ADD, SEND };
 

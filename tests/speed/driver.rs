@@ -18,7 +18,7 @@ mod sides;
 mod stack;
 
 fn main() {
-    let stack = std::env::args().nth(1).map_or(544, |a| a.parse().expect("usage: driver [KB OF STACK]"));
+    let stack = std::env::args().nth(1).map_or(512, |a| a.parse().expect("usage: driver [KB OF STACK]"));
     stack::pass_over(stack);
     println!("\n| what (size asked for: 1,200) | ours, ns a call | the Rust, ns a call | ratio |\n|---|---|---|---|");
     sending::profiles();
