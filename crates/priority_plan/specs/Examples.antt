@@ -62,7 +62,7 @@ rows-right = (refl, (refl, (refl, (refl, (refl, (refl, (refl, (refl, (refl, (ref
 
 -- Streams 5 and then 3, each with a first message of 3 bytes, at payload limit 2: priorities 2 and 1 give the finish times 1,000,000 and 2,000,000.
 pub job-options : Options
-job-options = record { payload-limit = 2; store-length = 9; default-priority = 256; default-threshold = 0; total-threshold = 0; handover-with-data = true }
+job-options = record { payload-limit = 2; store-length = 9; default-priority = 256; default-threshold = 0; total-threshold = 0; handover-with-data = true; strict-restart = false }
 
 pub three-bytes : ℕ → Adding
 three-bytes k = record { store = 9; now = 0; message = record { stream-id = k; ppid = 0; unordered = false; max-retransmissions = none; lifetime = none; lifecycle-id = 0; payload = 7 ∷ 8 ∷ 9 ∷ [] } }

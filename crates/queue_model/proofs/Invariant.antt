@@ -7,6 +7,7 @@ pub mod Accepted
 pub mod Sixteen
 pub mod Each
 pub mod Pending
+pub mod Strict
 pub mod Events
 pub mod Serving
 pub mod Passing

@@ -1,6 +1,6 @@
 -- What a whole-queue reset puts back: amounts stay within what is occupied, so none passes 2^64 - 1. Assumes nothing.
 use mathlib.Core.Path.{_≡_, refl, ap₂}
-use mathlib.Core.Bool.{false, _||_}
+use mathlib.Core.Bool.{Bool, false, _||_}
 use mathlib.Core.List.{List, [], _∷_, map}
 use Prim.Native.Nat.{_+_, _≤_}
 use native.Mathlib.Omega.{arith}
@@ -17,10 +17,10 @@ use Rattle.queue_model.proofs.Streams.{unsent-bytes, unsent-le}
 abbrev pub AllCounted : List Stream → Type 0
 AllCounted ss = Every (λ (s : Stream). s .amount ≡ unsent-bytes (s .items)) ss
 
-pub reset-amounts : (ss : List Stream) → amounts (map reset-stream ss) ≡ amounts ss + all-put-back ss
+pub reset-amounts : (b : Bool) (ss : List Stream) → amounts (map (reset-stream b) ss) ≡ amounts ss + all-put-back ss
 unfolding reset-stream
-reset-amounts [] = refl
-reset-amounts (s ∷ ss) = let ih = reset-amounts ss in omega arith
+reset-amounts b [] = refl
+reset-amounts b (s ∷ ss) = let ih = reset-amounts b ss in omega arith
 
 stream-put-back : (is : List Item) → unsent-bytes is + put-back is ≤ payload-bytes is
 unfolding put-back

@@ -146,7 +146,7 @@ example-calls =
     ∷ produce 9 2305 2 0 2 ∷ reset ∷ produce 9 2305 2 0 2 ∷ discard 2305 5 0 ∷ []
 
 unfoldable pub example-options : Options
-example-options = record { payload-limit = 2; store-length = 9; default-priority = 256; default-threshold = 0; total-threshold = 0; handover-with-data = true }
+example-options = record { payload-limit = 2; store-length = 9; default-priority = 256; default-threshold = 0; total-threshold = 0; handover-with-data = true; strict-restart = false }
 
 account-example : accounts 5 example-calls (new-queue example-options) ≡ record { accepted = 3; handed-out = 4; dropped-unsent = 1; put-back-whole = 2; left-to-send = 0 }
 unfolding accounts new-queue example-calls example-options

@@ -12,12 +12,17 @@ use Rattle.queue_model.specs.Add.{expiry, new-item}
 use Rattle.queue_model.specs.Produce.{give-numbers}
 use Rattle.queue_model.specs.Questions.{readiness}
 use Rattle.queue_model.specs.Image.{bit, ms-left-at, write-image}
-use Rattle.queue_model.specs.Run.{Call, add, produce, discard, close, ready-ids, commit, rollback, reset, set-threshold, set-priority, set-interleaving, ask-amount, run, after}
+use Rattle.queue_model.specs.Run.{Call, add, produce, discard, close, ready-ids, commit, rollback, reset, set-threshold, set-priority, set-interleaving, restore, ask-amount, run, after}
 
--- The queue of the examples: payload limit 1,000, default priority 256, thresholds 0.
-queue : Queue
+-- A queue with payload limit 1,000, default priority 256 and stream thresholds 0; the total's threshold, handover with waiting data and the strict rule of a restart as given.
+created : ℕ → Bool → Bool → Queue
 unfolding new-queue
-queue = new-queue (record { payload-limit = 1000; store-length = 100000; default-priority = 256; default-threshold = 0; total-threshold = 0; handover-with-data = true })
+created t handover strict = new-queue (record { payload-limit = 1000; store-length = 100000; default-priority = 256; default-threshold = 0; total-threshold = t; handover-with-data = handover; strict-restart = strict })
+
+-- The queue of the examples: both thresholds 0, handover with waiting data, the Rust's rule.
+queue : Queue
+unfolding created
+queue = created 0 true false
 
 -- Add n bytes to a stream at a time, with a lifetime or none; ask for a fragment of at most n bytes at a time.
 put : ℕ → ℕ → ℕ → Option ℕ → Call
@@ -145,13 +150,22 @@ noted s l = add 100000 0 (record { stream-id = s; ppid = 0; unordered = false; m
 
 -- The readiness with and without a waiting message, where handover with waiting data is off.
 ready-with : List Call → ℕ
-unfolding after new-queue readiness
-ready-with cs = readiness (after cs (new-queue (record { payload-limit = 1000; store-length = 100000; default-priority = 256; default-threshold = 0; total-threshold = 0; handover-with-data = false })))
+unfolding after created readiness
+ready-with cs = readiness (after cs (created 0 false false))
+
+-- What a list of calls answers on a queue of the strict rule; and the image of the examples' queue after a list of calls.
+strictly : List Call → List ℕ
+unfolding answers run created
+strictly cs = answers (run cs (created 0 true true))
+
+image-after : List Call → List ℕ
+unfolding write-image after queue
+image-after cs = write-image 1 (after cs queue)
 
 -- What a list of calls fires where the total has a threshold too.
 fires-at : ℕ → List Call → List ℕ
-unfolding all-events run new-queue
-fires-at t cs = all-events (run cs (new-queue (record { payload-limit = 1000; store-length = 100000; default-priority = 256; default-threshold = 0; total-threshold = t; handover-with-data = true })))
+unfolding all-events run created
+fires-at t cs = all-events (run cs (created t true false))
 
 -- Stream 5 with the threshold 15 and three messages of 10 bytes.
 thrice : Option ℕ → List Call
@@ -159,7 +173,7 @@ unfolding put
 thrice l = set-threshold 2305 5 15 ∷ put 5 10 0 l ∷ put 5 10 0 l ∷ put 5 10 0 l ∷ []
 
 pub facts : List Row
-unfolding shows fires fires-at thrice put get begun ended noted ready-with
+unfolding shows fires fires-at thrice put get begun ended noted ready-with strictly image-after
 facts =
     -- "a remaining half-sent one makes the stream pending"; "When a pending stream's message ends or is discarded, it is paused."
     (shows (put 5 1500 0 none ∷ get 0 1000 ∷ close 2305 5 ∷ ready-ids ∷ get 0 1000 ∷ ready-ids ∷ []) gives (begun 5 ++ ended 5 ++ (5 ∷ [])))
@@ -187,6 +201,15 @@ facts =
     -- Each event tells the amount that fell: with 7 bytes on another stream and the total's threshold 20 the same message takes the stream to 10 and the total to 17.
     ∷ (fires-at 20 (put 6 7 0 none ∷ thrice none ++ (close 2305 5 ∷ [])) gives (1 ∷ 5 ∷ 10 ∷ 2 ∷ 0 ∷ 17 ∷ []))
     ∷ (fires-at 20 (put 6 7 0 none ∷ thrice (some 0) ++ (get 1000000 7 ∷ [])) gives (2 ∷ 0 ∷ 17 ∷ 1 ∷ 5 ∷ 10 ∷ 1 ∷ 6 ∷ 0 ∷ []))
+    -- "a message put back starts with FSN 0 and with numbers from the zeroed counters": the second message of a stream, 1,000 of 1,500 bytes sent, strict reset; it starts with MID, SSN
+    -- and FSN 0, and the message behind it follows with MID 1 and SSN 1.
+    ∷ (strictly (put 5 10 0 none ∷ put 5 1500 0 none ∷ put 5 10 0 none ∷ get 0 1000 ∷ get 0 1000 ∷ reset ∷ ask-amount 5 ∷ get 0 1000 ∷ get 0 1000 ∷ get 0 1000 ∷ [])
+    gives (5 ∷ 10 ∷ 1 ∷ 1 ∷ 0 ∷ 0 ∷ 0 ∷ 5 ∷ 1000 ∷ 1 ∷ 0 ∷ 1 ∷ 1 ∷ 0 ∷ 1510 ∷ (begun 5 ++ ended 5 ++ (5 ∷ 10 ∷ 1 ∷ 1 ∷ 1 ∷ 1 ∷ 0 ∷ []))))
+    -- "Strict restoring answers 13 also to a MID on a message at offset 0": an image of a head put back by the Rust's rule; one of a half-sent message is accepted, and so are both by
+    -- the Rust's rule.
+    ∷ (strictly (restore 100000 1 (image-after (put 5 10 0 none ∷ get 0 6 ∷ reset ∷ [])) ∷ []) gives (999 ∷ 13 ∷ []))
+    ∷ (strictly (restore 100000 1 (image-after (put 5 10 0 none ∷ get 0 6 ∷ [])) ∷ ask-amount 5 ∷ []) gives (4 ∷ []))
+    ∷ (shows (restore 100000 1 (image-after (put 5 10 0 none ∷ get 0 6 ∷ reset ∷ [])) ∷ ask-amount 5 ∷ []) gives (10 ∷ []))
     -- "Readiness is 2 if handover with waiting data is off and the total is above 0, else 0."
     ∷ ((ready-with [] ∷ ready-with (put 5 10 0 none ∷ []) ∷ []) gives (0 ∷ 2 ∷ []))
     -- "the first that applies is given": of 2, 3, 4, 9 and 10; of 4 and 5.

@@ -2,6 +2,7 @@
 use Prim.Native.Nat.{ℕ, _+_, _-_}
 use mathlib.Core.Bool.{Bool, true, false, _&&_, _||_}
 use mathlib.Core.List.{List, [], _∷_, map}
+use mathlib.Core.Option.{none}
 use lib.Dec.{ltb}
 use lib.ListN.{length}
 use Rattle.queue_model.specs.Logic.{if_then_else_, any}
@@ -67,15 +68,20 @@ unfoldable pub put-back : List Item → ℕ
 put-back [] = 0
 put-back (i ∷ is) = length (i .payload) - remaining i
 
--- "puts each head message back whole, keeping its MID, SSN and FSN".
-unfoldable pub whole-head : List Item → List Item
-whole-head [] = []
-whole-head (i ∷ is) = with-numbers i (i .mid) (i .ssn) (i .fsn) 0 ∷ is
+-- A message put back whole by a rule, the Rust's or the strict one: "keeping its MID, SSN and FSN"; document 02, 6/13: "Strict reset removes the head message's MID and SSN and sets its
+-- FSN to 0."
+abbrev pub whole-item : Bool → Item → Item
+whole-item strict i = with-numbers i (if strict then none else i .mid) (if strict then 0 else i .ssn) (if strict then 0 else i .fsn) 0
+
+-- "puts each head message back whole".
+unfoldable pub whole-head : Bool → List Item → List Item
+whole-head strict [] = []
+whole-head strict (i ∷ is) = whole-item strict i ∷ is
 
 -- "Whole-queue reset opens all streams, zeroes their counters and puts each head message back whole".
-unfoldable pub reset-stream : Stream → Stream
+unfoldable pub reset-stream : Bool → Stream → Stream
 unfolding put-back whole-head
-reset-stream s = with-pause not-paused (with-counters zero-counters (with-items s (s .amount + put-back (s .items)) (whole-head (s .items))))
+reset-stream strict s = with-pause not-paused (with-counters zero-counters (with-items s (s .amount + put-back (s .items)) (whole-head strict (s .items))))
 
 abbrev pub all-put-back : List Stream → ℕ
 all-put-back ss = sum-by (λ (s : Stream). put-back (s .items)) ss
@@ -92,6 +98,6 @@ reset-checks q = (16 when ltb max-word (q .total + all-put-back (q .streams)) ||
 unfoldable pub reset : Queue → Step
 unfolding checked any put-back put-back-overflows reset-stream reschedule-each has-items
 reset q =
-    let ss = map reset-stream (q .streams) in
+    let ss = map (reset-stream (q .options .strict-restart)) (q .streams) in
     let s = reply done [] (with-state q (q .total + all-put-back (q .streams)) ss (reschedule-each (q .interleaving) has-items ss (q .scheduler))) in
     checked (reset-checks q) q s

@@ -1,11 +1,11 @@
 -- Restoring an image (Rust: restore_from_state, over the reader of the image). Document 01, "The changeover image". Assumes nothing.
 use Prim.Native.Nat.{ℕ, _+_, _*_}
-use mathlib.Core.Bool.{Bool, true, false, not, _||_}
+use mathlib.Core.Bool.{Bool, true, false, not, _&&_, _||_}
 use mathlib.Core.List.{List, [], _∷_, map}
 use mathlib.Core.Option.{Option, none, some}
 use lib.Dec.{eqb, ltb}
 use lib.ListN.{length}
-use Rattle.queue_model.specs.Logic.{is-nil}
+use Rattle.queue_model.specs.Logic.{is-nil, any}
 use Rattle.queue_model.specs.Table.{find, put}
 use Rattle.queue_model.specs.Types.{Item, not-paused, Stream, Options, Queue, done, Step, refuse, reply}
 use Rattle.queue_model.specs.Streams.{max-streams, max-messages, put-stream, at, waiting, occupied, amounts, has-items, reschedule-each, with-message}
@@ -75,6 +75,14 @@ restored now h q =
 
 -- ------------------------------------------------------------------ the call
 
+-- 13. Document 02, 6/13: "Strict restoring answers 13 also to a MID on a message at offset 0."
+unfoldable pub mid-too-early : Bool → MessageRecord → Bool
+unfolding has-flag
+mid-too-early strict r = strict && has-flag 2 (r .flags) && eqb (r .offset) 0
+
+abbrev pub rule-broken : Handover → Queue → Check
+rule-broken h q = 13 when any (mid-too-early (q .options .strict-restart)) (h .messages)
+
 -- 14. "The image's default priority is not the queue's."
 abbrev pub priority-other : Handover → Queue → Check
 priority-other h q = 14 when not (eqb (h .default-priority) (q .options .default-priority))
@@ -84,11 +92,11 @@ abbrev pub image-large : Queue → Check
 image-large r = 15 when ltb max-streams (length (r .streams)) || ltb max-messages (waiting (r .streams)) || ltb (r .options .store-length) (occupied (r .streams))
 
 abbrev pub record-checks : ℕ → Queue → Handover → List Check
-record-checks now q h = priority-other h q ∷ image-large (restored now h q) ∷ []
+record-checks now q h = rule-broken h q ∷ priority-other h q ∷ image-large (restored now h q) ∷ []
 
 -- 13. "The image breaks a rule below.": judged on the whole image before 14 and 15.
 unfoldable pub restore-read : ℕ → Queue → Option Handover → Step
-unfolding checked restored
+unfolding checked restored any mid-too-early
 restore-read now q none = refuse q 13
 restore-read now q (some h) = checked (record-checks now q h) q (reply done [] (restored now h q))
 

@@ -404,16 +404,16 @@ no-put-back = refl
 abbrev puts-back : ℕ → Queue → Answer → ℕ
 puts-back k q a = unless-refused a (put-back ((at (q .options) (q .streams) k) .items))
 
-reset-amount : (o : Options) (k : ℕ) (ss : List Stream) → amount-at o (map reset-stream ss) k ≡ amount-at o ss k + put-back ((at o ss k) .items)
+reset-amount : (b : Bool) (o : Options) (k : ℕ) (ss : List Stream) → amount-at o (map (reset-stream b) ss) k ≡ amount-at o ss k + put-back ((at o ss k) .items)
 unfolding reset-stream
-reset-amount o k ss = amount-map reset-stream (λ s. put-back (s .items)) o k ss (λ s. refl) (λ s. refl) no-put-back
+reset-amount b o k ss = amount-map (reset-stream b) (λ s. put-back (s .items)) o k ss (λ s. refl) (λ s. refl) no-put-back
 
 balances-reset : (k : ℕ) (q : Queue) → Balances k q none-moves (puts-back k q) (Calls.reset q)
 unfolding Calls.reset amount-of
 balances-reset k q =
-    let ss : List Stream = map reset-stream (q .streams) in
+    let ss : List Stream = map (reset-stream (q .options .strict-restart)) (q .streams) in
     balances-checked k (reset-checks q) q (reply done [] (with-state q (q .total + all-put-back (q .streams)) ss (reschedule-each (q .interleaving) has-items ss (q .scheduler)))) none-moves (puts-back k q)
-    (λ r. nothing-moves (refused r)) (λ r. refl) (λ p. let a = reset-amount (q .options) k (q .streams) in let z = nothing-moves done in record { balance = omega arith })
+    (λ r. nothing-moves (refused r)) (λ r. refl) (λ p. let a = reset-amount (q .options .strict-restart) (q .options) k (q .streams) in let z = nothing-moves done in record { balance = omega arith })
 
 -- ---- streams that are only made known, and the interleaving choice
 

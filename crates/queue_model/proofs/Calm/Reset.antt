@@ -8,10 +8,10 @@ use native.Mathlib.Omega.{arith}
 use lib.Dec.{eqb}
 use Rattle.queue_model.specs.Logic.{if_then_else_}
 use Rattle.queue_model.specs.Table.{find}
-use Rattle.queue_model.specs.Types.{Item, Stream, Active, Scheduler, Options, done, Step, with-numbers, reply}
+use Rattle.queue_model.specs.Types.{Item, Stream, Active, Scheduler, Options, done, Step, reply}
 use Rattle.queue_model.specs.Streams.{find-stream, put-stream, reschedule, reschedule-each, some-items, has-items, occupied, amounts, stream-key}
 use Rattle.queue_model.specs.Refusals.{max-word}
-use Rattle.queue_model.specs.Reset.{put-back, whole-head, reset-stream, all-put-back, reset, reset-checks}
+use Rattle.queue_model.specs.Reset.{put-back, whole-item, whole-head, reset-stream, all-put-back, reset, reset-checks}
 use Rattle.queue_model.proofs.Tests.{ltb-false}
 use Rattle.queue_model.proofs.Table.{put-later, put-here, put-end, After, Rising, rising-put, empty, first, split, Every, every-weaken}
 use Rattle.queue_model.proofs.Checks.{checked-past}
@@ -19,7 +19,7 @@ use Rattle.queue_model.proofs.Scheduler.{each-nil, each-cons}
 use Rattle.queue_model.proofs.Streams.{unsent-bytes}
 use Rattle.queue_model.proofs.PutBack.{put-back-fits, no-overflow, reset-amounts}
 use Rattle.queue_model.proofs.Calm.Entries.{entries, actives, actives-none}
-use Rattle.queue_model.proofs.Calm.Calm.{GoodItems, GoodStream, AllGood, Good, calm-scheduler, calm, same-active, reschedule-put, HeadAt}
+use Rattle.queue_model.proofs.Calm.Calm.{GoodItem, GoodItems, GoodStream, AllGood, Good, calm-scheduler, calm, same-active, reschedule-put, HeadAt}
 use Rattle.queue_model.proofs.Calm.Solo.{Solo}
 
 -- ---- rescheduling the streams of a list that have messages
@@ -82,106 +82,110 @@ each-new o il ss r g = each-put o il ss [] g tt ∙ same-active o il (put-waitin
 
 -- ---- the whole-queue reset
 
-after-reset : (k : ℕ) (ss : List Stream) → After stream-key k ss → After stream-key k (map reset-stream ss)
-unfolding reset-stream
-after-reset k [] a = tt
-after-reset k (s ∷ ss) a = (a .0, after-reset k ss (a .1))
-
-rising-reset : (ss : List Stream) → Rising stream-key ss → Rising stream-key (map reset-stream ss)
-unfolding reset-stream
-rising-reset [] a = tt
-rising-reset (s ∷ ss) a = (after-reset (s .id) ss (a .0), rising-reset ss (a .1))
-
-good-whole : (is : List Item) → GoodItems is → GoodItems (whole-head is)
-unfolding whole-head
-good-whole [] g = tt
-good-whole (i ∷ is) g =
-    let u = g .0 .unsent in
-    (record { unsent = omega arith; small = g .0 .small; lasting = g .0 .lasting; id-fits = g .0 .id-fits; unnumbered = g .0 .unnumbered }, g .1)
-
-whole-bytes : (is : List Item) → GoodItems is → unsent-bytes (whole-head is) ≡ unsent-bytes is + put-back is
-unfolding whole-head put-back
-whole-bytes [] g = refl
-whole-bytes (i ∷ is) g = let u = g .0 .unsent in omega arith
-
-good-reset-stream : (s : Stream) → GoodStream s → GoodStream (reset-stream s)
-unfolding reset-stream
-good-reset-stream s g =
-    let a = g .counted in let b = whole-bytes (s .items) (g .good-items) in
-    record { id-fits = g .id-fits; opened = refl; counted = omega arith; good-items = good-whole (s .items) (g .good-items); ordered-fits = omega arith; unordered-fits = omega arith }
-
-all-reset : (ss : List Stream) → AllGood ss → AllGood (map reset-stream ss)
-all-reset [] g = tt
-all-reset (s ∷ ss) g = (good-reset-stream s (g .0), all-reset ss (g .1))
-
-pub good-reset : (ss : List Stream) → Good ss → Good (map reset-stream ss)
-good-reset ss g = record { rising = rising-reset ss (g .rising); all-good = all-reset ss (g .all-good) }
+-- A message put back whole, by either rule.
+good-item : (strict : Bool) (i : Item) → GoodItem i → GoodItem (whole-item strict i)
+good-item true i g = let u = g .unsent in record { unsent = omega arith; small = g .small; lasting = g .lasting; id-fits = g .id-fits; unnumbered = λ e. refl }
+good-item false i g = let u = g .unsent in record { unsent = omega arith; small = g .small; lasting = g .lasting; id-fits = g .id-fits; unnumbered = g .unnumbered }
 
 pub all-items : (ss : List Stream) → AllGood ss → AllItems ss
 all-items [] g = tt
 all-items (s ∷ ss) g = (g .0 .good-items, all-items ss (g .1))
 
-pub reset-id : (s : Stream) → s .id ≡ (reset-stream s) .id
-unfolding reset-stream
-reset-id s = refl
+module _ (strict : Bool) where
+  after-reset : (k : ℕ) (ss : List Stream) → After stream-key k ss → After stream-key k (map (reset-stream strict) ss)
+  unfolding reset-stream
+  after-reset k [] a = tt
+  after-reset k (s ∷ ss) a = (a .0, after-reset k ss (a .1))
 
-pub none-reset : (s : Stream) → s .items ≡ [] → (reset-stream s) .items ≡ []
-unfolding reset-stream whole-head
-none-reset s e = ap whole-head e
+  rising-reset : (ss : List Stream) → Rising stream-key ss → Rising stream-key (map (reset-stream strict) ss)
+  unfolding reset-stream
+  rising-reset [] a = tt
+  rising-reset (s ∷ ss) a = (after-reset (s .id) ss (a .0), rising-reset ss (a .1))
 
--- A message put back whole.
-abbrev pub whole-item : Item → Item
-whole-item i = with-numbers i (i .mid) (i .ssn) (i .fsn) 0
+  good-whole : (is : List Item) → GoodItems is → GoodItems (whole-head strict is)
+  unfolding whole-head
+  good-whole [] g = tt
+  good-whole (i ∷ is) g =
+      (good-item strict i (g .0), g .1)
 
-pub some-reset : (s : Stream) (i : Item) (is : List Item) → s .items ≡ i ∷ is → (reset-stream s) .items ≡ whole-item i ∷ is
-unfolding reset-stream whole-head
-some-reset s i is e = ap whole-head e
+  whole-bytes : (is : List Item) → GoodItems is → unsent-bytes (whole-head strict is) ≡ unsent-bytes is + put-back is
+  unfolding whole-head put-back
+  whole-bytes [] g = refl
+  whole-bytes (i ∷ is) g = let u = g .0 .unsent in omega arith
 
--- A reset stream takes its own place.
-reset-actives : (limit : ℕ) (il : Bool) (ss : List Stream) → Rising stream-key ss → actives limit il (put-waiting (map reset-stream ss) ss) ≡ actives limit il (map reset-stream ss)
-unfolding put-waiting
-reset-actives limit il [] a = refl
-reset-actives limit il (s ∷ ss) a = elim (split (s .items)) [
-  | empty e ↦ (let e′ : (reset-stream s) .items ≡ [] = none-reset s e in
-      ap (λ (l : List Item). actives limit il (put-waiting (map reset-stream ss) (put-if l (reset-stream s) (s ∷ ss)))) e′
-      ∙ ap (actives limit il) (put-waiting-later s (map reset-stream ss) ss (after-reset (s .id) ss (a .0)))
-      ∙ actives-none limit il s (put-waiting (map reset-stream ss) ss) e ∙ reset-actives limit il ss (a .1) ∙ sym (actives-none limit il (reset-stream s) (map reset-stream ss) e′))
-  | first i is e ↦ (
-      ap (λ (l : List Item). actives limit il (put-waiting (map reset-stream ss) (put-if l (reset-stream s) (s ∷ ss)))) (some-reset s i is e)
-      ∙ ap (λ (l : List Stream). actives limit il (put-waiting (map reset-stream ss) l)) (put-here stream-key (reset-stream s) s ss (reset-id s))
-      ∙ ap (actives limit il) (put-waiting-later (reset-stream s) (map reset-stream ss) ss (subst (λ (k : ℕ). After stream-key k (map reset-stream ss)) (reset-id s) (after-reset (s .id) ss (a .0))))
-      ∙ ap (λ (l : List Active). entries limit il (reset-stream s) ((reset-stream s) .items) ++ l) (reset-actives limit il ss (a .1)))
-]
+  good-reset-stream : (s : Stream) → GoodStream s → GoodStream (reset-stream strict s)
+  unfolding reset-stream
+  good-reset-stream s g =
+      let a = g .counted in let b = whole-bytes (s .items) (g .good-items) in
+      record { id-fits = g .id-fits; opened = refl; counted = omega arith; good-items = good-whole (s .items) (g .good-items); ordered-fits = omega arith; unordered-fits = omega arith }
 
-pub reset-calm : (o : Options) (il : Bool) (n : ℕ) (ss : List Stream) → Good ss → occupied ss ≤ 2000000 → reset (calm o il n ss) ≡ reply done [] (calm o il n (map reset-stream ss))
+  all-reset : (ss : List Stream) → AllGood ss → AllGood (map (reset-stream strict) ss)
+  all-reset [] g = tt
+  all-reset (s ∷ ss) g = (good-reset-stream s (g .0), all-reset ss (g .1))
+
+  pub good-reset : (ss : List Stream) → Good ss → Good (map (reset-stream strict) ss)
+  good-reset ss g = record { rising = rising-reset ss (g .rising); all-good = all-reset ss (g .all-good) }
+
+  pub reset-id : (s : Stream) → s .id ≡ (reset-stream strict s) .id
+  unfolding reset-stream
+  reset-id s = refl
+
+  pub none-reset : (s : Stream) → s .items ≡ [] → (reset-stream strict s) .items ≡ []
+  unfolding reset-stream whole-head
+  none-reset s e = ap (whole-head strict) e
+
+  pub some-reset : (s : Stream) (i : Item) (is : List Item) → s .items ≡ i ∷ is → (reset-stream strict s) .items ≡ whole-item strict i ∷ is
+  unfolding reset-stream whole-head
+  some-reset s i is e = ap (whole-head strict) e
+
+  -- A reset stream takes its own place.
+  reset-actives : (limit : ℕ) (il : Bool) (ss : List Stream) → Rising stream-key ss → actives limit il (put-waiting (map (reset-stream strict) ss) ss) ≡ actives limit il (map (reset-stream strict) ss)
+  unfolding put-waiting
+  reset-actives limit il [] a = refl
+  reset-actives limit il (s ∷ ss) a = elim (split (s .items)) [
+    | empty e ↦ (let e′ : (reset-stream strict s) .items ≡ [] = none-reset s e in
+        ap (λ (l : List Item). actives limit il (put-waiting (map (reset-stream strict) ss) (put-if l (reset-stream strict s) (s ∷ ss)))) e′
+        ∙ ap (actives limit il) (put-waiting-later s (map (reset-stream strict) ss) ss (after-reset (s .id) ss (a .0)))
+        ∙ actives-none limit il s (put-waiting (map (reset-stream strict) ss) ss) e ∙ reset-actives limit il ss (a .1) ∙ sym (actives-none limit il (reset-stream strict s) (map (reset-stream strict) ss) e′))
+    | first i is e ↦ (
+        ap (λ (l : List Item). actives limit il (put-waiting (map (reset-stream strict) ss) (put-if l (reset-stream strict s) (s ∷ ss)))) (some-reset s i is e)
+        ∙ ap (λ (l : List Stream). actives limit il (put-waiting (map (reset-stream strict) ss) l)) (put-here stream-key (reset-stream strict s) s ss (reset-id s))
+        ∙ ap (actives limit il) (put-waiting-later (reset-stream strict s) (map (reset-stream strict) ss) ss (subst (λ (k : ℕ). After stream-key k (map (reset-stream strict) ss)) (reset-id s) (after-reset (s .id) ss (a .0))))
+        ∙ ap (λ (l : List Active). entries limit il (reset-stream strict s) ((reset-stream strict s) .items) ++ l) (reset-actives limit il ss (a .1)))
+  ]
+
+  -- ---- finding in a reset list
+
+  pub find-reset : (k : ℕ) (s : Stream) (ss : List Stream) → find-stream k ss ≡ some s → find-stream k (map (reset-stream strict) ss) ≡ some (reset-stream strict s)
+  unfolding find reset-stream
+  find-reset k s [] e = let z : _≡_ {A = ℕ} 0 1 = cc in absurd (omega arith)
+  find-reset k s (r ∷ rs) e = go (eqb (r .id) k) (λ f. find-reset k s rs f) e
+    where
+      go : (b : Bool) → (find-stream k rs ≡ some s → find-stream k (map (reset-stream strict) rs) ≡ some (reset-stream strict s))
+          → ((if b then some r else find-stream k rs)) ≡ some s
+          → ((if b then some (reset-stream strict r) else find-stream k (map (reset-stream strict) rs))) ≡ some (reset-stream strict s)
+      go true ih f = let g : r ≡ s = cc in ap (λ (x : Stream). some (reset-stream strict x)) g
+      go false ih f = ih f
+
+  pub head-reset : (ss : List Stream) (k : ℕ) (s : Stream) (i : Item) (is : List Item) → HeadAt ss k s i is → HeadAt (map (reset-stream strict) ss) k (reset-stream strict s) (whole-item strict i) is
+  head-reset ss k s i is h = record { found = find-reset k s ss (h .found); items = some-reset s i is (h .items) }
+
+  pub solo-reset : (k : ℕ) (ss : List Stream) → Solo k ss → Solo k (map (reset-stream strict) ss)
+  unfolding reset-stream whole-head
+  solo-reset k [] s = tt
+  solo-reset k (r ∷ rs) s = ((λ n. ap (whole-head strict) (s .0 n)), solo-reset k rs (s .1))
+
+-- ---- the call
+
+pub reset-calm : (o : Options) (il : Bool) (n : ℕ) (ss : List Stream) → Good ss → occupied ss ≤ 2000000 → reset (calm o il n ss) ≡ reply done [] (calm o il n (map (reset-stream (o .strict-restart)) ss))
 unfolding reset calm
 reset-calm o il n ss g h =
+    let strict : Bool = o .strict-restart in
     let c = every-weaken GoodStream (λ (s : Stream). s .amount ≡ unsent-bytes (s .items)) ss (λ s a. a .counted) (g .all-good) in
     let b = put-back-fits ss c in
     let x : amounts ss + all-put-back ss ≤ max-word = omega arith in
-    let f : ℕ → Scheduler → Step = λ t sc. reply done [] (record { options = o; interleaving = il; total = t; next-message-id = n; streams = map reset-stream ss; scheduler = sc }) in
-    checked-past (reset-checks (calm o il n ss)) (calm o il n ss) (f (amounts ss + all-put-back ss) (reschedule-each il has-items (map reset-stream ss) (calm-scheduler o il ss))) (ap₂ _||_ (ltb-false x) (no-overflow ss c h), tt)
-    ∙ ap₂ f (sym (reset-amounts ss))
-    (each-put o il (map reset-stream ss) ss (all-items (map reset-stream ss) (all-reset ss (g .all-good))) (g .rising)
-    ∙ same-active o il (put-waiting (map reset-stream ss) ss) (map reset-stream ss) (reset-actives (o .payload-limit) il ss (g .rising)))
-
--- ---- finding in a reset list
-
-pub find-reset : (k : ℕ) (s : Stream) (ss : List Stream) → find-stream k ss ≡ some s → find-stream k (map reset-stream ss) ≡ some (reset-stream s)
-unfolding find reset-stream
-find-reset k s [] e = let z : _≡_ {A = ℕ} 0 1 = cc in absurd (omega arith)
-find-reset k s (r ∷ rs) e = go (eqb (r .id) k) (λ f. find-reset k s rs f) e
-  where
-    go : (b : Bool) → (find-stream k rs ≡ some s → find-stream k (map reset-stream rs) ≡ some (reset-stream s))
-        → ((if b then some r else find-stream k rs)) ≡ some s
-        → ((if b then some (reset-stream r) else find-stream k (map reset-stream rs))) ≡ some (reset-stream s)
-    go true ih f = let g : r ≡ s = cc in ap (λ (x : Stream). some (reset-stream x)) g
-    go false ih f = ih f
-
-pub head-reset : (ss : List Stream) (k : ℕ) (s : Stream) (i : Item) (is : List Item) → HeadAt ss k s i is → HeadAt (map reset-stream ss) k (reset-stream s) (whole-item i) is
-head-reset ss k s i is h = record { found = find-reset k s ss (h .found); items = some-reset s i is (h .items) }
-
-pub solo-reset : (k : ℕ) (ss : List Stream) → Solo k ss → Solo k (map reset-stream ss)
-unfolding reset-stream whole-head
-solo-reset k [] s = tt
-solo-reset k (r ∷ rs) s = ((λ n. ap whole-head (s .0 n)), solo-reset k rs (s .1))
+    let f : ℕ → Scheduler → Step = λ t sc. reply done [] (record { options = o; interleaving = il; total = t; next-message-id = n; streams = map (reset-stream strict) ss; scheduler = sc }) in
+    checked-past (reset-checks (calm o il n ss)) (calm o il n ss) (f (amounts ss + all-put-back ss) (reschedule-each il has-items (map (reset-stream strict) ss) (calm-scheduler o il ss))) (ap₂ _||_ (ltb-false x) (no-overflow ss c h), tt)
+    ∙ ap₂ f (sym (reset-amounts strict ss))
+    (each-put o il (map (reset-stream strict) ss) ss (all-items (map (reset-stream strict) ss) (all-reset strict ss (g .all-good))) (g .rising)
+    ∙ same-active o il (put-waiting (map (reset-stream strict) ss) ss) (map (reset-stream strict) ss) (reset-actives strict (o .payload-limit) il ss (g .rising)))

@@ -7,7 +7,7 @@ use Prim.Native.Nat.{ℕ, suc, _+_, _≤_, _<_}
 use native.Mathlib.Omega.{arith}
 use lib.Dec.{T, ltb, eqb, eqb→eq}
 use lib.ListN.{length}
-use Rattle.queue_model.specs.Logic.{is-nil, if_then_else_, same-bool}
+use Rattle.queue_model.specs.Logic.{is-nil, if_then_else_, same-bool, any}
 use Rattle.queue_model.specs.Table.{sum-by}
 use Rattle.queue_model.specs.Types.{Item, Stream, Scheduler, Options, Queue, done, reply}
 use Rattle.queue_model.specs.Scheduler.{new-scheduler}
@@ -15,7 +15,7 @@ use Rattle.queue_model.specs.Streams.{max-streams, max-messages, put-str
 use Rattle.queue_model.specs.Refusals.{max-time}
 use Rattle.queue_model.specs.Image.{MessageRecord, Handover, plain, stream-record, stream-records, message-record, message-records, handover, write-image}
 use Rattle.queue_model.specs.Reader.{read-image}
-use Rattle.queue_model.specs.Restore.{restored-stream, restored-item, restore-streams, restore-message, restore-messages, restored, restore-checks, record-checks, restore-read}
+use Rattle.queue_model.specs.Restore.{restored-stream, restored-item, restore-streams, restore-message, restore-messages, restored, restore-checks, mid-too-early, record-checks, restore-read}
 use Rattle.queue_model.specs.RustHandover.{handover-state, restore-from-state}
 use Rattle.queue_model.specs.Run.{step}
 use Rattle.queue_model.specs.Demands.{without-plain, forget-plain, fresh, Demand2-images, nothing-to-restore}
@@ -29,6 +29,7 @@ use Rattle.queue_model.proofs.Image.Saved.{read-write-image}
 use Rattle.queue_model.proofs.Invariant.Messages.{WellItems}
 use Rattle.queue_model.proofs.Invariant.Well.{Kept, Well, well-queue}
 use Rattle.queue_model.proofs.Invariant.Sixteen.{reachable-well, reachable-options}
+use Rattle.queue_model.proofs.Invariant.Strict.{strict-image}
 use Rattle.queue_model.proofs.Calm.Calm.{calm-scheduler}
 use Rattle.queue_model.proofs.Demand3.Restored.{blank, message-records-cons, message-records-nil, with-restored, restore-message-of, restore-messages-cons, restore-messages-nil, record-back, no-restored-items}
 use Rattle.queue_model.proofs.Demand2.Rust.{whole-handover, rust-restores}
@@ -327,7 +328,7 @@ none-amount o now saved (s ∷ ss) = (
   none-amount o now saved ss,
 )
 
-module _ (q : Queue) (saved now : ℕ) (b : Bool) (w : Well q) (early : now ≤ max-time) where
+module _ (q : Queue) (saved now : ℕ) (b : Bool) (w : Well q) (early : now ≤ max-time) (strict : any (mid-too-early (q .options .strict-restart)) (message-records saved (q .streams)) ≡ false) where
   xs : List Stream
   xs = map (full (q .options) now saved) (q .streams)
 
@@ -378,7 +379,7 @@ module _ (q : Queue) (saved now : ℕ) (b : Bool) (w : Well q) (early : now ≤ 
       let h : (l : List Stream) → r .streams ≡ l → length l ≤ max-streams → waiting l ≤ max-messages → occupied l ≤ q .options .store-length
       → (ltb max-streams (length (r .streams)) || ltb max-messages (waiting (r .streams)) || ltb (q .options .store-length) (occupied (r .streams))) ≡ false =
       λ l e x y z. ap (λ (v : List Stream). ltb max-streams (length v) || ltb max-messages (waiting v) || ltb (q .options .store-length) (occupied v)) e ∙ ap₂ _||_ (ap₂ _||_ (ltb-false x) (ltb-false y)) (ltb-false z) in
-      (ap not (eqb-true {a = q .options .default-priority} refl), (h (without-plain d xs) restored-are few few-messages few-bytes, tt))
+      (strict, (ap not (eqb-true {a = q .options .default-priority} refl), (h (without-plain d xs) restored-are few few-messages few-bytes, tt)))
 
   accepted : Restore.restore (q .options .store-length) now (write-image saved q) (blank (q .options) b) ≡ reply done [] (forget-plain (restore-from-state now (handover-state saved q) (blank (q .options) b)))
   accepted =
@@ -402,4 +403,5 @@ unfolding Demand2-images
 demand2-images o q saved now b r early =
     let e : q .options ≡ o = reachable-options r in
     subst (λ (p : Options). Restore.restore (p .store-length) now (write-image saved q) (fresh p b) ≡ reply done [] (forget-plain (restore-from-state now (handover-state saved q) (fresh p b)))) e
-    (subst (λ (x : Queue). Restore.restore (q .options .store-length) now (write-image saved q) x ≡ reply done [] (forget-plain (restore-from-state now (handover-state saved q) x))) (sym (fresh-blank (q .options) b)) (accepted q saved now b (reachable-well r) early))
+    (subst (λ (x : Queue). Restore.restore (q .options .store-length) now (write-image saved q) x ≡ reply done [] (forget-plain (restore-from-state now (handover-state saved q) x))) (sym (fresh-blank (q .options) b)) (accepted q saved now b (reachable-well r) early
+    (subst (λ (p : Options). any (mid-too-early (p .strict-restart)) (message-records saved (q .streams)) ≡ false) (sym e) (strict-image r saved))))

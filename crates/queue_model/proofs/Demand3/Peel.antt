@@ -11,7 +11,7 @@ use Rattle.queue_model.specs.Table.{find, sum-by}
 use Rattle.queue_model.specs.Types.{Item, Counters, Stream, Options, Queue, Fragment, fragment, nothing-waits, Outcome, Step, remaining}
 use Rattle.queue_model.specs.Streams.{find-stream, put-stream, new-stream, waiting, payload-bytes, occupied, stream-key, at}
 use Rattle.queue_model.specs.Produce.{numbered}
-use Rattle.queue_model.specs.Reset.{reset-stream}
+use Rattle.queue_model.specs.Reset.{whole-item, reset-stream}
 use Rattle.queue_model.specs.Run.{Call, produce, discard, reset, step}
 use Rattle.queue_model.specs.Demands.{Typed, Indistinguishable}
 use Rattle.queue_model.proofs.Tests.{less, same, more, tri}
@@ -20,7 +20,7 @@ use Rattle.queue_model.proofs.Streams.{at-found, at-new}
 use Rattle.queue_model.proofs.Calm.Calm.{GoodStream, GoodItem, Good, good-put, calm, HeadAt, behead, head-good, head-items, head-amount, head-id, behead-good, behead-waiting, discard-calm}
 use Rattle.queue_model.proofs.Calm.Produce.{whole, whole-nothing, whole-head, Choice, none-waits, one-waits, choose}
 use Rattle.queue_model.proofs.Calm.Solo.{Solo, solo-list, solo-least, sent, sent-waiting, handed-out-one}
-use Rattle.queue_model.proofs.Calm.Reset.{reset-calm, good-reset, head-reset, solo-reset, reset-id, whole-item}
+use Rattle.queue_model.proofs.Calm.Reset.{reset-calm, good-reset, head-reset, solo-reset, reset-id}
 use Rattle.queue_model.proofs.Calm.Empty.{shown, onward, at-none, empty-counters, empty-next, step-whole, typed-whole}
 use Rattle.queue_model.proofs.Calm.Heads.{whole-fragment, shows-stream, shows-message, shows-unordered, shows-ppid, shows-retransmissions, shows-expiry, shows-fsn, shows-bytes, shows-lifecycle, shows-mid, shows-ssn, length-bytes, counters-given, counters-new, give-moves, numbered-fits, same-item}
 use Rattle.queue_model.specs.Calls
@@ -138,11 +138,11 @@ module _ (o : Options) (il : Bool) (room : 1 ≤ o .store-length) (store : o .st
 
   -- The reset on both sides.
   both-reset : (n₁ n₂ : ℕ) (ss₁ ss₂ : List Stream) → State n₁ ss₁ → State n₂ ss₂ → Indistinguishable (calm o il n₁ ss₁) (calm o il n₂ ss₂)
-      → Indistinguishable (calm o il n₁ (map reset-stream ss₁)) (calm o il n₂ (map reset-stream ss₂))
+      → Indistinguishable (calm o il n₁ (map (reset-stream (o .strict-restart)) ss₁)) (calm o il n₂ (map (reset-stream (o .strict-restart)) ss₂))
   both-reset n₁ n₂ ss₁ ss₂ t₁ t₂ ind =
-      let x₁ : (step reset (calm o il n₁ ss₁)) .next ≡ calm o il n₁ (map reset-stream ss₁) = ap (λ (x : Step). x .next) (step-reset (calm o il n₁ ss₁) ∙ reset-calm o il n₁ ss₁ (t₁ .good) (t₁ .fits)) in
-      let x₂ : (step reset (calm o il n₂ ss₂)) .next ≡ calm o il n₂ (map reset-stream ss₂) = ap (λ (x : Step). x .next) (step-reset (calm o il n₂ ss₂) ∙ reset-calm o il n₂ ss₂ (t₂ .good) (t₂ .fits)) in
-      subst (λ (q : Queue). Indistinguishable q (calm o il n₂ (map reset-stream ss₂))) x₁
+      let x₁ : (step reset (calm o il n₁ ss₁)) .next ≡ calm o il n₁ (map (reset-stream (o .strict-restart)) ss₁) = ap (λ (x : Step). x .next) (step-reset (calm o il n₁ ss₁) ∙ reset-calm o il n₁ ss₁ (t₁ .good) (t₁ .fits)) in
+      let x₂ : (step reset (calm o il n₂ ss₂)) .next ≡ calm o il n₂ (map (reset-stream (o .strict-restart)) ss₂) = ap (λ (x : Step). x .next) (step-reset (calm o il n₂ ss₂) ∙ reset-calm o il n₂ ss₂ (t₂ .good) (t₂ .fits)) in
+      subst (λ (q : Queue). Indistinguishable q (calm o il n₂ (map (reset-stream (o .strict-restart)) ss₂))) x₁
       (subst (Indistinguishable ((step reset (calm o il n₁ ss₁)) .next)) x₂ (onward (calm o il n₁ ss₁) (calm o il n₂ ss₂) ind reset tt))
 
   -- One stream alone has messages, the same on both sides: its whole next fragment.
@@ -154,15 +154,15 @@ module _ (o : Options) (il : Bool) (room : 1 ≤ o .store-length) (store : o .st
     solo-next = ap (λ (x : Step). x .next) (whole-head o il n ss s i is g h (solo-least o il n ss s i is g h one)) ∙ handed-out-one o il n ss s i is g h one
 
     -- After stream-key a reset it shows the whole payload.
-    reset-whole : (whole o (calm o il n (map reset-stream ss))) .outcome .answer ≡ fragment (whole-fragment (reset-stream s) (whole-item i))
+    reset-whole : (whole o (calm o il n (map (reset-stream (o .strict-restart)) ss))) .outcome .answer ≡ fragment (whole-fragment (reset-stream (o .strict-restart) s) (whole-item (o .strict-restart) i))
     reset-whole =
-        let xs : List Stream = map reset-stream ss in
-        let hd : HeadAt xs ((reset-stream s) .id) (reset-stream s) (whole-item i) is = subst (λ (k : ℕ). HeadAt xs k (reset-stream s) (whole-item i) is) (reset-id s) (head-reset ss (s .id) s i is h) in
-        let on : Solo ((reset-stream s) .id) xs = subst (λ (k : ℕ). Solo k xs) (reset-id s) (solo-reset (s .id) ss one) in
-        ap (λ (x : Step). x .outcome .answer) (whole-head o il n xs (reset-stream s) (whole-item i) is (good-reset ss g) hd (solo-least o il n xs (reset-stream s) (whole-item i) is (good-reset ss g) hd on))
+        let xs : List Stream = map (reset-stream (o .strict-restart)) ss in
+        let hd : HeadAt xs ((reset-stream (o .strict-restart) s) .id) (reset-stream (o .strict-restart) s) (whole-item (o .strict-restart) i) is = subst (λ (k : ℕ). HeadAt xs k (reset-stream (o .strict-restart) s) (whole-item (o .strict-restart) i) is) (reset-id (o .strict-restart) s) (head-reset (o .strict-restart) ss (s .id) s i is h) in
+        let on : Solo ((reset-stream (o .strict-restart) s) .id) xs = subst (λ (k : ℕ). Solo k xs) (reset-id (o .strict-restart) s) (solo-reset (o .strict-restart) (s .id) ss one) in
+        ap (λ (x : Step). x .outcome .answer) (whole-head o il n xs (reset-stream (o .strict-restart) s) (whole-item (o .strict-restart) i) is (good-reset (o .strict-restart) ss g) hd (solo-least o il n xs (reset-stream (o .strict-restart) s) (whole-item (o .strict-restart) i) is (good-reset (o .strict-restart) ss g) hd on))
 
-    payload-shown : (whole-fragment (reset-stream s) (whole-item i)) .bytes ≡ i .payload
-    payload-shown = shows-bytes (reset-stream s) (whole-item i) ∙ take-all (length (i .payload) - 0) (i .payload) (omega arith)
+    payload-shown : (whole-fragment (reset-stream (o .strict-restart) s) (whole-item (o .strict-restart) i)) .bytes ≡ i .payload
+    payload-shown = shows-bytes (reset-stream (o .strict-restart) s) (whole-item (o .strict-restart) i) ∙ take-all (length (i .payload) - 0) (i .payload) (omega arith)
 
     sent-good : GoodStream (sent s i is)
     sent-good =
@@ -337,7 +337,7 @@ module _ (o : Options) (il : Bool) (room : 1 ≤ o .store-length) (store : o .st
         payloads : i₁ .payload ≡ i₂ .payload
         payloads =
             sym (payload-shown n₁ ss₁ s₁ i₁ is₁ (t₁ .good) h₁ one₁)
-            ∙ ap (λ (x : Fragment). x .bytes) (both-sent n₁ n₂ (map reset-stream ss₁) (map reset-stream ss₂) (reset-stream s₁) (reset-stream s₂) (whole-item i₁) (whole-item i₂) is₁ is₂ (good-reset ss₁ (t₁ .good)) (good-reset ss₂ (t₂ .good))
+            ∙ ap (λ (x : Fragment). x .bytes) (both-sent n₁ n₂ (map (reset-stream (o .strict-restart)) ss₁) (map (reset-stream (o .strict-restart)) ss₂) (reset-stream (o .strict-restart) s₁) (reset-stream (o .strict-restart) s₂) (whole-item (o .strict-restart) i₁) (whole-item (o .strict-restart) i₂) is₁ is₂ (good-reset (o .strict-restart) ss₁ (t₁ .good)) (good-reset (o .strict-restart) ss₂ (t₂ .good))
             (reset-whole n₁ ss₁ s₁ i₁ is₁ (t₁ .good) h₁ one₁) (reset-whole n₂ ss₂ s₂ i₂ is₂ (t₂ .good) h₂′ one₂) (both-reset n₁ n₂ ss₁ ss₂ t₁ t₂ ind))
             ∙ payload-shown n₂ ss₂ s₂ i₂ is₂ (t₂ .good) h₂′ one₂
 

@@ -63,13 +63,13 @@ restores now image q r h = go (read-image image) refl
         let many : Bool = ltb max-streams (length (v .streams)) || ltb max-messages (waiting (v .streams)) in
         let full : Bool = ltb (v .options .store-length) (occupied (v .streams)) in
         let same : restored now d q ≡ r = ap (λ (y : Step). y .next) (w .1) in
-        let fits : occupied (v .streams) ≤ v .options .store-length = not-less (v .options .store-length) (occupied (v .streams)) (or-right many full (w .0 .1 .0)) in
+        let fits : occupied (v .streams) ≤ v .options .store-length = not-less (v .options .store-length) (occupied (v .streams)) (or-right many full (w .0 .1 .1 .0)) in
         record {
           record-read = d;
           is-read = e;
           no-streams = nil-of (q .streams) (not-false (is-nil (q .streams)) (or-left (not (is-nil (q .streams))) (not (eqb (q .next-message-id) 0)) twelve));
           next-zero = eqb→eq (q .next-message-id) 0 (holds (eqb (q .next-message-id) 0) (not-false (eqb (q .next-message-id) 0) (or-right (not (is-nil (q .streams))) (not (eqb (q .next-message-id) 0)) twelve)));
-          default-same = eqb→eq (d .default-priority) (q .options .default-priority) (holds (eqb (d .default-priority) (q .options .default-priority)) (not-false (eqb (d .default-priority) (q .options .default-priority)) (w .0 .0)));
+          default-same = eqb→eq (d .default-priority) (q .options .default-priority) (holds (eqb (d .default-priority) (q .options .default-priority)) (not-false (eqb (d .default-priority) (q .options .default-priority)) (w .0 .1 .0)));
           store-fits = subst (λ (x : Queue). occupied (x .streams) ≤ q .options .store-length) same (subst (λ (o : Options). occupied (v .streams) ≤ o .store-length) (restored-options now d q) fits);
           is-restored = same;
         }

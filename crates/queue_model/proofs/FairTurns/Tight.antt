@@ -18,7 +18,7 @@ use Rattle.queue_model.specs.FairTurns.{Allowed, adds, sends, none-expir
 
 -- Payload limit 1, default priority 1: a full fragment costs 1,000,000.
 abbrev pub options : Options
-options = record { payload-limit = 1; store-length = 9; default-priority = 1; default-threshold = 0; total-threshold = 0; handover-with-data = true }
+options = record { payload-limit = 1; store-length = 9; default-priority = 1; default-threshold = 0; total-threshold = 0; handover-with-data = true; strict-restart = false }
 
 pub message : ℕ → List ℕ → Message
 message k bytes = record { stream-id = k; ppid = 0; unordered = false; max-retransmissions = none; lifetime = none; lifecycle-id = 0; payload = bytes }

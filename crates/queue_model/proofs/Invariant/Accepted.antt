@@ -207,12 +207,12 @@ fine-record now q h w early e s b =
     let r : Queue = restored now h q in
     let x : Bool = ltb max-streams (length (r .streams)) in let y : Bool = ltb max-messages (waiting (r .streams)) in let z : Bool = ltb (q .options .store-length) (occupied (r .streams)) in
     let d : Bool = eqb (h .default-priority) (q .options .default-priority) in
-    fine-checked (record-checks now q h) q (reply done [] r) w (λ p₁₄ p₁₅. tt)
+    fine-checked (record-checks now q h) q (reply done [] r) w (λ p₁₃ p₁₄ p₁₅. tt)
     (λ p. record {
-      next-well = restored-is-well now h q w early e s b (eqb→eq (h .default-priority) (q .options .default-priority) (holds d (not-false d (p .0))))
-          (not-less max-streams (length (r .streams)) (or-left x y (or-left (x || y) z (p .1 .0))))
-          (not-less max-messages (waiting (r .streams)) (or-right x y (or-left (x || y) z (p .1 .0))))
-          (not-less (q .options .store-length) (occupied (r .streams)) (or-right (x || y) z (p .1 .0)));
+      next-well = restored-is-well now h q w early e s b (eqb→eq (h .default-priority) (q .options .default-priority) (holds d (not-false d (p .1 .0))))
+          (not-less max-streams (length (r .streams)) (or-left x y (or-left (x || y) z (p .1 .1 .0))))
+          (not-less max-messages (waiting (r .streams)) (or-right x y (or-left (x || y) z (p .1 .1 .0))))
+          (not-less (q .options .store-length) (occupied (r .streams)) (or-right (x || y) z (p .1 .1 .0)));
       not-sixteen = refl;
       same-options = refl;
     })

@@ -7,7 +7,7 @@ use mathlib.Core.Option.{Option, none, some, Option·getD}
 use Prim.Native.Nat.{ℕ, zero, suc, _≤_, _<_, min}
 use native.Mathlib.Omega.{arith}
 use lib.Dec.{eqb}
-use Rattle.queue_model.specs.Logic.{if_then_else_, same-bool}
+use Rattle.queue_model.specs.Logic.{if_then_else_, same-bool, any}
 use Rattle.queue_model.specs.Types.{Item, PauseState, not-paused, pending, paused, resetting, Stream, Active, Options, Queue, Event, done, fragment, Step, remaining, expired, with-pause, with-threshold, with-priority, refuse, reply, Message}
 use Rattle.queue_model.specs.Scheduler.{peek}
 use Rattle.queue_model.specs.Streams.{find-stream, stream-at, at, waiting, know, stream-key, with-message, new-queue}
@@ -21,16 +21,16 @@ use Rattle.queue_model.specs.Reset.{is-paused, is-resetting, paused-to-r
 use Rattle.queue_model.specs.Settings.{threshold-checks, priority-checks, raised-event, switched}
 use Rattle.queue_model.specs.Image.{StreamRecord, MessageRecord, Handover}
 use Rattle.queue_model.specs.Reader.{read-image}
-use Rattle.queue_model.specs.Restore.{restored-stream, restored-item, restore-streams, restore-message, restore-messages, restored, record-checks, restore-read, restore-checks}
+use Rattle.queue_model.specs.Restore.{restored-stream, restored-item, restore-streams, restore-message, restore-messages, restored, mid-too-early, record-checks, restore-read, restore-checks}
 use Rattle.queue_model.specs.Run.{Call, add, produce, discard, close, ready-ids, commit, rollback, reset, set-threshold, set-priority, set-interleaving, restore, ask-priority, ask-amount, ask-threshold, ask-total, ask-empty, ask-has-data, ask-streams-ready, ask-readiness, step}
 use Rattle.queue_model.specs.Demands.{Typed, Reachable, created, called}
 use Rattle.queue_model.proofs.Table.{Every, every-put, every-map, every-weaken, every-both, every-find}
-use Rattle.queue_model.proofs.Checks.{Passed, all-passed}
+use Rattle.queue_model.proofs.Checks.{Passed, all-passed, or-left, or-right}
 use Rattle.queue_model.proofs.Streams.{every-at}
 use Rattle.queue_model.proofs.Invariant.Messages.{WellRest, WellItems}
 use Rattle.queue_model.proofs.Invariant.Well.{Kept, Well, inside, kept-at}
 use Rattle.queue_model.proofs.Invariant.Sends.{FineLook, Chosen, headless, headed, heads, head-of-at, head-well, fine-look}
-use Rattle.queue_model.proofs.Invariant.Sixteen.{reachable-well}
+use Rattle.queue_model.proofs.Invariant.Sixteen.{reachable-well, reachable-options}
 use Rattle.queue_model.proofs.Calm.Calm.{HeadAt}
 use Rattle.queue_model.specs.Calls
 use Rattle.queue_model.specs.Restore
@@ -44,8 +44,8 @@ Held Q s = Q (s .pause-state) (s .items)
 abbrev pub AllHeld : (PauseState → List Item → Type 0) → Queue → Type 0
 AllHeld Q q = Every (Held Q) (q .streams)
 
--- The ways in which calls change a stream's state and messages.
-pub record Keeps (Q : PauseState → List Item → Type 0) : Type 0 where
+-- The ways in which calls on a queue with the options o change a stream's state and messages.
+pub record Keeps (o : Options) (Q : PauseState → List Item → Type 0) : Type 0 where
   pub keeps-new : Q not-paused []
   -- A message that waits for its first fragment comes to the end.
   pub keeps-add : (p : PauseState) (is : List Item) (i : Item) → i .mid ≡ none → i .offset ≡ 0 → Q p is → Q p (is ++ (i ∷ []))
@@ -56,10 +56,10 @@ pub record Keeps (Q : PauseState → List Item → Type 0) : Type 0 where
   pub keeps-close : (is : List Item) → WellItems is → Q not-paused is → Q (closed-state (kept is)) (kept is)
   pub keeps-ready : (is : List Item) → Q paused is → Q resetting is
   pub keeps-open : (is : List Item) → Q resetting is → Q not-paused is
-  pub keeps-reset : (p : PauseState) (is : List Item) → WellItems is → Q p is → Q not-paused (whole-head is)
-  pub keeps-restore : (now : ℕ) (r : MessageRecord) (is : List Item) → Q not-paused is → Q not-paused (is ++ (restored-item now r ∷ []))
+  pub keeps-reset : (p : PauseState) (is : List Item) → WellItems is → Q p is → Q not-paused (whole-head (o .strict-restart) is)
+  pub keeps-restore : (now : ℕ) (r : MessageRecord) (is : List Item) → mid-too-early (o .strict-restart) r ≡ false → Q not-paused is → Q not-paused (is ++ (restored-item now r ∷ []))
 
-module _ (Q : PauseState → List Item → Type 0) (v : Keeps Q) where
+module _ (o : Options) (Q : PauseState → List Item → Type 0) (v : Keeps o Q) where
   -- ---- calls that check
 
   held-checked : (cs : List Check) (q : Queue) (s : Step) → AllHeld Q q → (Passed cs → AllHeld Q (s .next)) → AllHeld Q ((checked cs q s) .next)
@@ -250,14 +250,16 @@ module _ (Q : PauseState → List Item → Type 0) (v : Keeps Q) where
   unfolding reopen
   held-reopen z q a = every-map (Held Q) (Held Q) (reopened z) (q .streams) (held-reopened z) a
 
-  held-reset-stream : (s : Stream) → Held Q s × Kept s → Held Q (reset-stream s)
+  held-reset-stream : (s : Stream) → Held Q s × Kept s → Held Q (reset-stream (o .strict-restart) s)
   unfolding reset-stream
   held-reset-stream s h = v .keeps-reset (s .pause-state) (s .items) (h .1 .well-items) (h .0)
 
-  held-reset : (q : Queue) → Well q → AllHeld Q q → AllHeld Q ((Calls.reset q) .next)
+  held-reset : (q : Queue) → Well q → q .options ≡ o → AllHeld Q q → AllHeld Q ((Calls.reset q) .next)
   unfolding Calls.reset
-  held-reset q w a =
-      held-checked (reset-checks q) q _ a (λ p. every-map (λ s. Held Q s × Kept s) (Held Q) reset-stream (q .streams) held-reset-stream (every-both (Held Q) Kept (q .streams) a (w .kept)))
+  held-reset q w e a =
+      held-checked (reset-checks q) q _ a (λ p.
+      subst (λ (x : Options). Every (Held Q) (map (reset-stream (x .strict-restart)) (q .streams))) (sym e)
+      (every-map (λ s. Held Q s × Kept s) (Held Q) (reset-stream (o .strict-restart)) (q .streams) held-reset-stream (every-both (Held Q) Kept (q .streams) a (w .kept))))
 
   -- ---- settings
 
@@ -287,61 +289,64 @@ module _ (Q : PauseState → List Item → Type 0) (v : Keeps Q) where
   abbrev Opened : Stream → Type 0
   Opened s = (s .pause-state ≡ not-paused) × Q not-paused (s .items)
 
-  opened-streams : (o : Options) (rs : List StreamRecord) → Every Opened (map (restored-stream o) rs)
+  opened-streams : (rs : List StreamRecord) → Every Opened (map (restored-stream o) rs)
   unfolding restored-stream
-  opened-streams o [] = tt
-  opened-streams o (r ∷ rs) = ((refl, v .keeps-new), opened-streams o rs)
+  opened-streams [] = tt
+  opened-streams (r ∷ rs) = ((refl, v .keeps-new), opened-streams rs)
 
-  opened-messages : (o : Options) (now : ℕ) (rs : List MessageRecord) (ss : List Stream) → Every Opened ss → Every Opened (restore-messages o now rs ss)
-  unfolding restore-messages restore-message
-  opened-messages o now [] ss a = a
-  opened-messages o now (r ∷ rs) ss a =
+  opened-messages : (now : ℕ) (rs : List MessageRecord) (ss : List Stream) → any (mid-too-early (o .strict-restart)) rs ≡ false → Every Opened ss → Every Opened (restore-messages o now rs ss)
+  unfolding restore-messages restore-message any
+  opened-messages now [] ss n a = a
+  opened-messages now (r ∷ rs) ss n a =
+      let x : Bool = mid-too-early (o .strict-restart) r in let y : Bool = any (mid-too-early (o .strict-restart)) rs in
       let s : Stream = at o ss (r .id) in
       let b : Opened s = every-at Opened o (r .id) ss a (refl, v .keeps-new) in
-      opened-messages o now rs (restore-message o now r ss) (every-put stream-key Opened (with-message s (restored-item now r)) ss (b .0, v .keeps-restore now r (s .items) (b .1)) a)
+      opened-messages now rs (restore-message o now r ss) (or-right x y n) (every-put stream-key Opened (with-message s (restored-item now r)) ss (b .0, v .keeps-restore now r (s .items) (or-left x y n) (b .1)) a)
 
-  held-restored : (now : ℕ) (h : Handover) (q : Queue) → AllHeld Q (restored now h q)
+  held-restored : (now : ℕ) (h : Handover) (q : Queue) → q .options ≡ o → any (mid-too-early (o .strict-restart)) (h .messages) ≡ false → AllHeld Q (restored now h q)
   unfolding restored restore-streams
-  held-restored now h q =
-      let ss : List Stream = restore-messages (q .options) now (h .messages) (map (restored-stream (q .options)) (h .streams)) in
-      every-weaken Opened (Held Q) ss (λ s b. subst (λ (p : PauseState). Q p (s .items)) (sym (b .0)) (b .1))
-      (opened-messages (q .options) now (h .messages) (map (restored-stream (q .options)) (h .streams)) (opened-streams (q .options) (h .streams)))
+  held-restored now h q e n =
+      let ss : List Stream = restore-messages o now (h .messages) (map (restored-stream o) (h .streams)) in
+      subst (λ (x : Options). Every (Held Q) (restore-messages x now (h .messages) (map (restored-stream x) (h .streams)))) (sym e)
+      (every-weaken Opened (Held Q) ss (λ s b. subst (λ (p : PauseState). Q p (s .items)) (sym (b .0)) (b .1)) (opened-messages now (h .messages) (map (restored-stream o) (h .streams)) n (opened-streams (h .streams))))
 
-  held-read : (now : ℕ) (q : Queue) (x : Option Handover) → AllHeld Q q → AllHeld Q ((restore-read now q x) .next)
+  held-read : (now : ℕ) (q : Queue) (x : Option Handover) → q .options ≡ o → AllHeld Q q → AllHeld Q ((restore-read now q x) .next)
   unfolding restore-read
-  held-read now q none a = a
-  held-read now q (some h) a = held-checked (record-checks now q h) q (reply done [] (restored now h q)) a (λ p. held-restored now h q)
+  held-read now q none e a = a
+  held-read now q (some h) e a =
+      held-checked (record-checks now q h) q (reply done [] (restored now h q)) a
+      (λ p. held-restored now h q e (subst (λ (x : Options). any (mid-too-early (x .strict-restart)) (h .messages) ≡ false) e (p .0)))
 
-  held-restore : (store now : ℕ) (image : List ℕ) (q : Queue) → AllHeld Q q → AllHeld Q ((Restore.restore store now image q) .next)
+  held-restore : (store now : ℕ) (image : List ℕ) (q : Queue) → q .options ≡ o → AllHeld Q q → AllHeld Q ((Restore.restore store now image q) .next)
   unfolding Restore.restore
-  held-restore store now image q a = held-checked (restore-checks store now q) q (restore-read now q (read-image image)) a (λ p. held-read now q (read-image image) a)
+  held-restore store now image q e a = held-checked (restore-checks store now q) q (restore-read now q (read-image image)) a (λ p. held-read now q (read-image image) e a)
 
   -- ---- every call
 
-  pub held-step : (c : Call) (q : Queue) → Typed c → Well q → AllHeld Q q → AllHeld Q ((step c q) .next)
+  pub held-step : (c : Call) (q : Queue) → Typed c → Well q → q .options ≡ o → AllHeld Q q → AllHeld Q ((step c q) .next)
   unfolding step
-  held-step (add store now m) q t w a = held-add store now m q a
-  held-step (produce store places buffer now size) q t w a = held-produce store places buffer now size q w a
-  held-step (discard places s k) q t w a = held-discard places s k q w a
-  held-step (close places s) q t w a = held-close places s q w (kept-at q s w (t .1)) a
-  held-step ready-ids q t w a = held-ready q a
-  held-step commit q t w a = held-reopen true q a
-  held-step rollback q t w a = held-reopen false q a
-  held-step reset q t w a = held-reset q w a
-  held-step (set-threshold places s n) q t w a = held-set-threshold places s n q a
-  held-step (set-priority s p) q t w a = held-set-priority s p q a
-  held-step (set-interleaving b) q t w a = held-set-interleaving b q a
-  held-step (restore store now image) q t w a = held-restore store now image q a
-  held-step (ask-priority s) q t w a = a
-  held-step (ask-amount s) q t w a = a
-  held-step (ask-threshold s) q t w a = a
-  held-step ask-total q t w a = a
-  held-step ask-empty q t w a = a
-  held-step ask-has-data q t w a = a
-  held-step ask-streams-ready q t w a = a
-  held-step ask-readiness q t w a = a
+  held-step (add store now m) q t w e a = held-add store now m q a
+  held-step (produce store places buffer now size) q t w e a = held-produce store places buffer now size q w a
+  held-step (discard places s k) q t w e a = held-discard places s k q w a
+  held-step (close places s) q t w e a = held-close places s q w (kept-at q s w (t .1)) a
+  held-step ready-ids q t w e a = held-ready q a
+  held-step commit q t w e a = held-reopen true q a
+  held-step rollback q t w e a = held-reopen false q a
+  held-step reset q t w e a = held-reset q w e a
+  held-step (set-threshold places s n) q t w e a = held-set-threshold places s n q a
+  held-step (set-priority s p) q t w e a = held-set-priority s p q a
+  held-step (set-interleaving b) q t w e a = held-set-interleaving b q a
+  held-step (restore store now image) q t w e a = held-restore store now image q e a
+  held-step (ask-priority s) q t w e a = a
+  held-step (ask-amount s) q t w e a = a
+  held-step (ask-threshold s) q t w e a = a
+  held-step ask-total q t w e a = a
+  held-step ask-empty q t w e a = a
+  held-step ask-has-data q t w e a = a
+  held-step ask-streams-ready q t w e a = a
+  held-step ask-readiness q t w e a = a
 
   -- So it holds of every reachable queue.
-  pub held-reachable : {o : Options} {q : Queue} → Reachable o q → AllHeld Q q
-  held-reachable {o} (created c) = unfold new-queue in tt
-  held-reachable (called {q = p} r c t) = held-step c p t (reachable-well r) (held-reachable r)
+  pub held-reachable : {q : Queue} → Reachable o q → AllHeld Q q
+  held-reachable (created c) = unfold new-queue in tt
+  held-reachable (called {q = p} r c t) = held-step c p t (reachable-well r) (reachable-options r) (held-reachable r)

@@ -16,7 +16,7 @@ use Rattle.queue_model.specs.Streams.{max-messages, find-stream, put-str
 use Rattle.queue_model.specs.Refusals.{Check, first-refusal, refused-or, checked, max-word, max-time, max-payload, short-of}
 use Rattle.queue_model.specs.Add.{expiry, new-item, starts-waiting, started, added, add-checks}
 use Rattle.queue_model.specs.Close.{untouched, kept, dropped-bytes, swept-bytes, closed-state, closed-scheduler, closed, close-in, closing-bytes, close-checks}
-use Rattle.queue_model.specs.Reset.{reopen, is-paused, is-resetting, paused-to-resetting, opened, reopened, put-back, whole-head, reset-stream, all-put-back, reset-checks}
+use Rattle.queue_model.specs.Reset.{reopen, is-paused, is-resetting, paused-to-resetting, opened, reopened, put-back, whole-item, whole-head, reset-stream, all-put-back, reset-checks}
 use Rattle.queue_model.specs.Settings.{threshold-checks, priority-checks, raised-event, switched}
 use Rattle.queue_model.specs.Demands.{MessageTyped}
 use Rattle.queue_model.proofs.Tests.{ltb-false, eqb-true, eqb-false, less, same, more, tri}
@@ -364,63 +364,72 @@ fine-set-interleaving b q w = go (same-bool b (q .interleaving))
 
 -- ---- the whole-queue reset
 
-whole-well : (is : List Item) → WellItems is → WellItems (whole-head is)
-unfolding whole-head
-whole-well [] w = tt
-whole-well (i ∷ is) w =
-    let v = w .0 in let u = w .0 .unsent in
-    (record { unsent = omega arith; small = v .small; id-fits = v .id-fits; ppid-fits = v .ppid-fits; retransmissions-fit = v .retransmissions-fit; lifecycle-fits = v .lifecycle-fits; mid-fits = v .mid-fits; ssn-fits = v .ssn-fits; fsn-fits = v .fsn-fits; no-ssn = v .no-ssn; no-offset = λ e. refl; no-fsn = v .no-fsn; unordered-ssn = v .unordered-ssn; expiry-fits = v .expiry-fits; bytes = v .bytes }, w .1)
+-- A message put back whole, by either rule.
+whole-item-well : (b : Bool) (i : Item) → WellItem i → WellItem (whole-item b i)
+whole-item-well true i v =
+    let u = v .unsent in
+    record { unsent = omega arith; small = v .small; id-fits = v .id-fits; ppid-fits = v .ppid-fits; retransmissions-fit = v .retransmissions-fit; lifecycle-fits = v .lifecycle-fits; mid-fits = omega arith; ssn-fits = omega arith; fsn-fits = omega arith; no-ssn = λ e. refl; no-offset = λ e. refl; no-fsn = λ e. refl; unordered-ssn = λ e. refl; expiry-fits = v .expiry-fits; bytes = v .bytes }
+whole-item-well false i v =
+    let u = v .unsent in
+    record { unsent = omega arith; small = v .small; id-fits = v .id-fits; ppid-fits = v .ppid-fits; retransmissions-fit = v .retransmissions-fit; lifecycle-fits = v .lifecycle-fits; mid-fits = v .mid-fits; ssn-fits = v .ssn-fits; fsn-fits = v .fsn-fits; no-ssn = v .no-ssn; no-offset = λ e. refl; no-fsn = v .no-fsn; unordered-ssn = v .unordered-ssn; expiry-fits = v .expiry-fits; bytes = v .bytes }
 
-whole-unsent : (is : List Item) → WellItems is → unsent-bytes (whole-head is) ≡ unsent-bytes is + put-back is
-unfolding whole-head put-back
-whole-unsent [] w = refl
-whole-unsent (i ∷ is) w = let u = w .0 .unsent in omega arith
+module _ (b : Bool) where
+  whole-well : (is : List Item) → WellItems is → WellItems (whole-head b is)
+  unfolding whole-head
+  whole-well [] w = tt
+  whole-well (i ∷ is) w = (whole-item-well b i (w .0), w .1)
 
-whole-length : (is : List Item) → length (whole-head is) ≡ length is
-unfolding whole-head
-whole-length [] = refl
-whole-length (i ∷ is) = refl
+  whole-unsent : (is : List Item) → WellItems is → unsent-bytes (whole-head b is) ≡ unsent-bytes is + put-back is
+  unfolding whole-head put-back
+  whole-unsent [] w = refl
+  whole-unsent (i ∷ is) w = let u = w .0 .unsent in omega arith
 
-whole-payload : (is : List Item) → payload-bytes (whole-head is) ≡ payload-bytes is
-unfolding whole-head
-whole-payload [] = refl
-whole-payload (i ∷ is) = refl
+  whole-length : (is : List Item) → length (whole-head b is) ≡ length is
+  unfolding whole-head
+  whole-length [] = refl
+  whole-length (i ∷ is) = refl
 
-reset-maps : Maps reset-stream
-unfolding reset-stream
-reset-maps = record {
-  maps-id = λ s. refl;
-  maps-length = λ s. whole-length (s .items);
-  maps-payload = λ s. whole-payload (s .items);
-  maps-kept = λ s k. let a = k .counted in let b = whole-unsent (s .items) (k .well-items) in
-      record { id-fits = k .id-fits; priority-fits = k .priority-fits; threshold-fits = k .threshold-fits; counters-fit = zero-fit; well-items = whole-well (s .items) (k .well-items); counted = omega arith };
-}
+  whole-payload : (is : List Item) → payload-bytes (whole-head b is) ≡ payload-bytes is
+  unfolding whole-head
+  whole-payload [] = refl
+  whole-payload (i ∷ is) = refl
 
-some-whole : (is : List Item) → 0 < head-size is → some-items (whole-head is) ≡ true
-unfolding head-size whole-head some-items
-some-whole [] h = absurd (omega arith)
-some-whole (i ∷ is) h = refl
+  reset-maps : Maps (reset-stream b)
+  unfolding reset-stream
+  reset-maps = record {
+    maps-id = λ s. refl;
+    maps-length = λ s. whole-length (s .items);
+    maps-payload = λ s. whole-payload (s .items);
+    maps-kept = λ s k. let a = k .counted in let u = whole-unsent (s .items) (k .well-items) in
+        record { id-fits = k .id-fits; priority-fits = k .priority-fits; threshold-fits = k .threshold-fits; counters-fit = zero-fit; well-items = whole-well (s .items) (k .well-items); counted = omega arith };
+  }
 
-has-whole : (s : Stream) → 0 < head-size (s .items) → has-items (reset-stream s) ≡ true
-unfolding has-items reset-stream
-has-whole s h = some-whole (s .items) h
+  some-whole : (is : List Item) → 0 < head-size is → some-items (whole-head b is) ≡ true
+  unfolding head-size whole-head some-items
+  some-whole [] h = absurd (omega arith)
+  some-whole (i ∷ is) h = refl
+
+  has-whole : (s : Stream) → 0 < head-size (s .items) → has-items (reset-stream b s) ≡ true
+  unfolding has-items reset-stream
+  has-whole s h = some-whole (s .items) h
 
 pub fine-reset : (q : Queue) → Well q → Fine q (Calls.reset q)
 unfolding Calls.reset
 fine-reset q w =
-    let ss : List Stream = map reset-stream (q .streams) in
+    let b : Bool = q .options .strict-restart in
+    let ss : List Stream = map (reset-stream b) (q .streams) in
     let t : ℕ = q .total + all-put-back (q .streams) in
     let sc : Scheduler = reschedule-each (q .interleaving) has-items ss (q .scheduler) in
     let c : AllCounted (q .streams) = every-weaken Kept (λ s. s .amount ≡ unsent-bytes (s .items)) (q .streams) (λ s k. k .counted) (w .kept) in
-    let rm = room (q .options) (w .creation) in let sf = w .store-fits in let tc = w .total-counted in let pb = put-back-fits (q .streams) c in let ra = reset-amounts (q .streams) in
+    let rm = room (q .options) (w .creation) in let sf = w .store-fits in let tc = w .total-counted in let pb = put-back-fits (q .streams) c in let ra = reset-amounts b (q .streams) in
     let small : q .total + all-put-back (q .streams) ≤ max-word = omega arith in
-    let e : q .total + all-put-back (q .streams) ≡ amounts (map reset-stream (q .streams)) = omega arith in
+    let e : q .total + all-put-back (q .streams) ≡ amounts (map (reset-stream b) (q .streams)) = omega arith in
     fine-checked (reset-checks q) q (reply done [] (with-state q t ss sc)) w (ap₂ _||_ (ltb-false small) (no-overflow (q .streams) c (omega arith)), tt)
     (λ p. record {
-      next-well = well-map reset-stream q t sc reset-maps w e
+      next-well = well-map (reset-stream b) q t sc (reset-maps b) w e
           (each-kept (q .options .payload-limit) (q .interleaving) has-items ss ss (q .scheduler)
-          (all-ready ss (rising-map stream-key reset-stream (q .streams) (reset-maps .maps-id) (w .rising)) (every-map Kept Kept reset-stream (q .streams) (reset-maps .maps-kept) (w .kept)))
-          (waits-due q has-items reset-stream (Listed (q .interleaving) ss) w (reset-maps .maps-id) has-whole));
+          (all-ready ss (rising-map stream-key (reset-stream b) (q .streams) ((reset-maps b) .maps-id) (w .rising)) (every-map Kept Kept (reset-stream b) (q .streams) ((reset-maps b) .maps-kept) (w .kept)))
+          (waits-due q has-items (reset-stream b) (Listed (q .interleaving) ss) w ((reset-maps b) .maps-id) (has-whole b)));
       not-sixteen = refl;
       same-options = refl;
     })

@@ -58,8 +58,8 @@ closed-half is w = elim (keeps is w) [
   | keeps-first i rest e f l ↦ subst (λ (l : List Item). PendingHalf (closed-state l) l) (sym f) l
 ]
 
-pending-keeps : Keeps PendingHalf
-pending-keeps = record {
+pending-keeps : (o : Options) → Keeps o PendingHalf
+pending-keeps o = record {
   keeps-new = tt;
   keeps-add = λ p is i m o h. added-half p is i h;
   keeps-drop = λ p i is w h. dropped-half p is;
@@ -68,12 +68,12 @@ pending-keeps = record {
   keeps-ready = λ is h. tt;
   keeps-open = λ is h. tt;
   keeps-reset = λ p is w h. tt;
-  keeps-restore = λ now r is h. tt;
+  keeps-restore = λ now r is m h. tt;
 }
 
 -- In every reachable queue a pending stream has messages, and its first is half-sent.
 pub pending-half : {o : Options} {q : Queue} → Reachable o q → (k : ℕ) (s : Stream) → find-stream k (q .streams) ≡ some s → s .pause-state ≡ pending → HalfSent (s .items)
-pending-half {q = q} r k s e p = subst (λ (x : PauseState). PendingHalf x (s .items)) p (every-find stream-key (λ (x : Stream). PendingHalf (x .pause-state) (x .items)) k s (q .streams) (held-reachable PendingHalf pending-keeps r) e)
+pending-half {o} {q} r k s e p = subst (λ (x : PauseState). PendingHalf x (s .items)) p (every-find stream-key (λ (x : Stream). PendingHalf (x .pause-state) (x .items)) k s (q .streams) (held-reachable o PendingHalf (pending-keeps o) r) e)
 
 -- What an expiry leaves of a pending stream ("A job that closes while its half-sent profile expires must not hang"): it is paused, so among the ready ids, with its later messages; and it
 -- does not wait, so the choice goes to the other streams.

@@ -491,7 +491,7 @@ unfolding Calls.reset
 serves-reset q w a =
     serves-checked (reset-checks q) q _ a (λ p.
     let v = subst (λ (x : Step). Well (x .next)) (checked-past (reset-checks q) q _ p) w in
-    each-items (q .interleaving) (map reset-stream (q .streams)) (q .scheduler) (v .rising) (v .kept))
+    each-items (q .interleaving) (map (reset-stream (q .options .strict-restart)) (q .streams)) (q .scheduler) (v .rising) (v .kept))
 
 -- ---- settings
 
