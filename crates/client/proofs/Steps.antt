@@ -19,6 +19,7 @@ use Rattle.queue_model.specs.Add.{expiry, new-item, starts-waiting, started, ad
 use Rattle.queue_model.specs.Produce.{head-in, head-of, look-at, look-for, look, give-numbers, numbered-in, numbered, make-fragment, end-pending, next-size, handed-out-last, moved-on, handed-out-part, hand-out, after-look, pass-over}
 use Rattle.queue_model.specs.Run as run
 use Rattle.queue_model.proofs.Checks.{checked-past}
+use Rattle.queue_words.specs.declared.header.RestartRule.the-variants.{Dcsctp}
 use Rattle.linked_adding.specs.Create.{optionsFor}
 use Rattle.linked_adding.specs.Message.{messageOf}
 use Rattle.client.specs.Carried.{plainMessage}
@@ -27,7 +28,7 @@ use Rattle.client.proofs.Hands.{same-store, inside, small, waits-with, 
 -- ---- what is shown
 
 abbrev pub options : ℕ → Options
-options len = optionsFor len 1200 256 0 0 false
+options len = optionsFor len 1200 256 0 0 false Dcsctp
 
 -- A step that gives a fragment of these bytes and leaves this queue.
 pub record Gives (s : Step) (bs : List ℕ) (q : Queue) : Type 0 where

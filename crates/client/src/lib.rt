@@ -11,6 +11,7 @@ use queue_messages::Message;
 use queue_sending::Produced;
 use queue_streams::answers::is_accepted;
 use queue_words::QUEUE_WORDS;
+use queue_words::RestartRule;
 use types::StreamId;
 
 // An ordered message without a lifetime or a limit of retransmissions.
@@ -51,7 +52,7 @@ pub fn carry(
 ) -> bool
     ensures { λ r. ⌜ (Fits (length (now (store .entry))) (length (now (events .entry))) (now (first .entry)) (now (second .entry)) (now (one .entry)) (now (two .entry)) (now (three .entry)) → Carried (now (first .entry)) (now (second .entry)) r (now (one .exit)) (now (two .exit)) (now (three .exit))) ⌝ }
 {
-    let created = create(queue, &*store, 1200, 256, 0, 0, false);
+    let created = create(queue, &*store, 1200, 256, 0, 0, false, RestartRule::Dcsctp);
     let m = plain_message(1);
     let first_added = add(queue, store, 0, m, first);
     let n = plain_message(2);

@@ -30,6 +30,7 @@ use Rattle.queue_state.specs.Good.{Shape, Good}
 use Rattle.queue_state.proofs.Splits.{range-linked, split-new, total-zero}
 use Rattle.queue_state.proofs.Frames.{free-fits}
 use Rattle.queue_state.proofs.Singles.{model-is}
+use Rattle.queue_words.specs.declared.header.RestartRule.{RestartRule}
 use Rattle.queue_messages.specs.Create.{createCode, newTotals, newScheduler, newWords, newOptions}
 use Rattle.queue_messages.specs.Create as words-create
 use Rattle.linked_adding.specs.Create.{optionsFor, Creates}
@@ -145,29 +146,29 @@ module _ (ws st : List ℕ) (o : words.Options) (len : length ws ≡ 20768) (sma
 
 -- ---- the call
 
-options-same : (len limit priority threshold total : ℕ) (handover : Bool) → limit ≤ 65535 → optionsOf (newOptions len limit priority threshold total handover) ≡ optionsFor len limit priority threshold total handover
-options-same len limit priority threshold total handover h = let e : limit % 65536 ≡ limit = omega arith in rw e
+options-same : (len limit priority threshold total : ℕ) (handover : Bool) (rule : RestartRule) → limit ≤ 65535 → optionsOf (newOptions len limit priority threshold total handover rule) ≡ optionsFor len limit priority threshold total handover rule
+options-same len limit priority threshold total handover rule h = let e : limit % 65536 ≡ limit = omega arith in rw e
 
-module _ (ws st : List ℕ) (len limit priority threshold total : ℕ) (handover : Bool) (long : length ws ≡ 20768) (same : length st ≡ len)
+module _ (ws st : List ℕ) (len limit priority threshold total : ℕ) (handover : Bool) (rule : RestartRule) (long : length ws ≡ 20768) (same : length st ≡ len)
     (hp : priority < 65536) (ht : threshold < 2 ^ 64) (hs : total < 2 ^ 64) where
   abbrev o : Options
-  o = optionsFor len limit priority threshold total handover
+  o = optionsFor len limit priority threshold total handover rule
 
   -- the call
   abbrev outcome : Called
-  outcome = words-create.create ws len limit priority threshold total handover
+  outcome = words-create.create ws len limit priority threshold total handover rule
 
   -- the words if it is accepted
   abbrev made : List ℕ
-  made = newWords ws (newOptions len limit priority threshold total handover)
+  made = newWords ws (newOptions len limit priority threshold total handover rule)
 
   new-good-words : Created o
       → Good made st × (model made st ≡ new-queue o)
   new-good-words c =
       let r = room o c in
-      let p = newOptions len limit priority threshold total handover in
+      let p = newOptions len limit priority threshold total handover rule in
       let small : limit % 65536 < 65536 = omega arith in
-      let e : model (newWords ws p) st ≡ new-queue o = new-model ws st p long small hp ∙ ap new-queue (options-same len limit priority threshold total handover (r .limit-high)) in (
+      let e : model (newWords ws p) st ≡ new-queue o = new-model ws st p long small hp ∙ ap new-queue (options-same len limit priority threshold total handover rule (r .limit-high)) in (
         record {
           shape = new-shape ws st p long small hp;
           store-is = same ∙ sym (ap (λ (x : words.Options). x .«store_length») (options ws st p long small hp));

@@ -6,6 +6,7 @@ use Prim.Native.Nat.{ℕ, _^_, _<_}
 use lib.ListN.{length}
 use Rattle.queue_model.specs.Demands.{MessageTyped}
 use Rattle.queue_model.specs.Run as run
+use Rattle.queue_words.specs.declared.header.RestartRule.{RestartRule}
 use Rattle.queue_streams.specs.Settings.{Called, called}
 use Rattle.queue_streams.specs.declared.answers.Call.{Call}
 use Rattle.queue_state.specs.Promise.{Does}
@@ -18,12 +19,12 @@ use Rattle.linked_adding.specs.Add.{AddMeets}
 use Rattle.linked_adding.proofs.Creates.{create-link}
 use Rattle.linked_adding.proofs.Adds.{add-link}
 
-pub create-meets : (ws st : List ℕ) (limit priority threshold total : ℕ) (handover : Bool) (r : Call) (ws′ : List ℕ) → length ws ≡ 20768 → priority < 65536 → threshold < 2 ^ 64 → total < 2 ^ 64
-    → called r ws′ ≡ words-create.create ws (length st) limit priority threshold total handover → CreateMeets ws st limit priority threshold total handover r ws′
-create-meets ws st limit priority threshold total handover r ws′ l hp ht hs e = record {
+pub create-meets : (ws st : List ℕ) (limit priority threshold total : ℕ) (handover : Bool) (rule : RestartRule) (r : Call) (ws′ : List ℕ) → length ws ≡ 20768 → priority < 65536 → threshold < 2 ^ 64 → total < 2 ^ 64
+    → called r ws′ ≡ words-create.create ws (length st) limit priority threshold total handover rule → CreateMeets ws st limit priority threshold total handover rule r ws′
+create-meets ws st limit priority threshold total handover rule r ws′ l hp ht hs e = record {
   words = e;
-  model = subst (λ (x : Called). Creates (optionsFor (length st) limit priority threshold total handover) ws st (x .answer) (x .next)) (sym e)
-      (create-link ws st (length st) limit priority threshold total handover l refl hp ht hs);
+  model = subst (λ (x : Called). Creates (optionsFor (length st) limit priority threshold total handover rule) ws st (x .answer) (x .next)) (sym e)
+      (create-link ws st (length st) limit priority threshold total handover rule l refl hp ht hs);
 }
 
 pub add-meets : (ws st : List ℕ) (time : ℕ) (m : Message) (bs : List ℕ) (r : Call) (ws′ st′ : List ℕ) → time < 2 ^ 64 → MessageTyped (messageOf m bs)

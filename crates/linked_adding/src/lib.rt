@@ -5,10 +5,11 @@ ghost use Rattle.linked_adding.specs.Add.{AddMeets};
 use queue_messages::Message;
 use queue_streams::Call;
 use queue_words::QUEUE_WORDS;
+use queue_words::RestartRule;
 use queue_words::whole;
 
 // "Creation takes the payload limit, the store, the default priority, the default and total thresholds and the choice of handover
-// with waiting data; interleaving starts off."
+// with waiting data; interleaving starts off." Document 02, 6/13: "Creation chooses the rule, as in the Rust or strict."
 pub fn create(
     queue: &mut [u64; QUEUE_WORDS],
     store: &[u8],
@@ -17,8 +18,9 @@ pub fn create(
     default_threshold: u64,
     total_threshold: u64,
     handover_with_data: bool,
+    restart_rule: RestartRule,
 ) -> Call
-    ensures { λ r. ⌜ CreateMeets (now (queue .entry)) (now (store .entry)) «payload_limit» «default_priority» «default_threshold» «total_threshold» «handover_with_data» r (now (queue .exit)) ⌝ }
+    ensures { λ r. ⌜ CreateMeets (now (queue .entry)) (now (store .entry)) «payload_limit» «default_priority» «default_threshold» «total_threshold» «handover_with_data» «restart_rule» r (now (queue .exit)) ⌝ }
 {
     whole(&*queue);
     queue_messages::create(
@@ -29,6 +31,7 @@ pub fn create(
         default_threshold,
         total_threshold,
         handover_with_data,
+        restart_rule,
     )
 }
 

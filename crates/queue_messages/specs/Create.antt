@@ -5,9 +5,10 @@ use mathlib.Core.List.{List}
 use lib.Dec.{ltb, eqb}
 use lib.ListN.{length}
 use Rattle.queue_words.specs.Flags.{pick}
-use Rattle.queue_words.specs.Header.{putOptions, putTotals, putScheduler}
+use Rattle.queue_words.specs.Header.{isStrict, putOptions, putTotals, putScheduler}
 use Rattle.queue_words.specs.Items.{putNext, putPlace, putLength}
 use Rattle.queue_words.specs.declared.header.Options.{Options}
+use Rattle.queue_words.specs.declared.header.RestartRule.{RestartRule}
 use Rattle.queue_words.specs.declared.header.SchedulerState.{SchedulerState}
 use Rattle.queue_words.specs.declared.header.Totals.{Totals}
 use Rattle.queue_streams.specs.Settings.{Called, called}
@@ -44,19 +45,21 @@ freed ws (suc i) = putNext (putPlace (putLength (freed ws i) i 0) i 0) i (i + 1)
 unfoldable pub newWords : List ℕ → Options → List ℕ
 newWords ws o = freed (putScheduler (putTotals (putOptions ws o) newTotals) newScheduler) 1024
 
--- "Creation takes the payload limit, the store, the default priority, the default and total thresholds and the choice of handover with waiting data".
-abbrev pub newOptions : ℕ → ℕ → ℕ → ℕ → ℕ → Bool → Options
-newOptions len limit priority threshold total handover = record {
+-- "Creation takes the payload limit, the store, the default priority, the default and total thresholds and the choice of handover with waiting data". Document 02, 6/13: "Creation chooses
+-- the rule, as in the Rust or strict."
+abbrev pub newOptions : ℕ → ℕ → ℕ → ℕ → ℕ → Bool → RestartRule → Options
+newOptions len limit priority threshold total handover rule = record {
   «payload_limit» = limit % 65536;
   «default_priority» = priority;
   «handover_with_data» = handover;
   «store_length» = len;
   «default_threshold» = threshold;
   «total_threshold» = total;
+  «strict_restart» = isStrict rule;
 }
 
 -- The whole call, for a store of len bytes.
-unfoldable pub create : List ℕ → ℕ → ℕ → ℕ → ℕ → ℕ → Bool → Called
-create ws len limit priority threshold total handover =
+unfoldable pub create : List ℕ → ℕ → ℕ → ℕ → ℕ → ℕ → Bool → RestartRule → Called
+create ws len limit priority threshold total handover rule =
     pick (ltb 0 (createCode limit len)) (called (Refused (createCode limit len)) ws)
-    (called (Accepted 0) (newWords ws (newOptions len limit priority threshold total handover)))
+    (called (Accepted 0) (newWords ws (newOptions len limit priority threshold total handover rule)))

@@ -6,6 +6,7 @@ ghost use Rattle.queue_messages.specs.Create.{createCode, freed, newWord
 use queue_streams::answers::Call;
 use queue_words::QUEUE_WORDS;
 use queue_words::header::Options;
+use queue_words::header::RestartRule;
 use queue_words::header::SchedulerState;
 use queue_words::header::Totals;
 use queue_words::header::store_options;
@@ -78,7 +79,7 @@ fn write_new(queue: &mut [u64; QUEUE_WORDS], o: Options)
 }
 
 // "Creation takes the payload limit, the store, the default priority, the default and total thresholds and the choice of handover
-// with waiting data; interleaving starts off." (Rust: SendQueue::new)
+// with waiting data; interleaving starts off." (Rust: SendQueue::new) Document 02, 6/13: "Creation chooses the rule, as in the Rust or strict."
 pub fn create(
     queue: &mut [u64; QUEUE_WORDS],
     store: &[u8],
@@ -87,14 +88,16 @@ pub fn create(
     default_threshold: u64,
     total_threshold: u64,
     handover_with_data: bool,
+    restart_rule: RestartRule,
 ) -> Call
-    ensures { λ r. ⌜ called r (now (queue .exit)) ≡ create (now (queue .entry)) (length (now (store .entry))) «payload_limit» «default_priority» «default_threshold» «total_threshold» «handover_with_data» ⌝ }
+    ensures { λ r. ⌜ called r (now (queue .exit)) ≡ create (now (queue .entry)) (length (now (store .entry))) «payload_limit» «default_priority» «default_threshold» «total_threshold» «handover_with_data» «restart_rule» ⌝ }
 {
     let len = store.len() as u64;
     let code = create_code(payload_limit, len);
     if code > 0 {
         return Call::Refused(code);
     }
+    let strict = restart_rule.is_strict();
     write_new(
         queue,
         Options {
@@ -104,6 +107,7 @@ pub fn create(
             store_length: len,
             default_threshold: default_threshold,
             total_threshold: total_threshold,
+            strict_restart: strict,
         },
     );
     Call::Accepted(0)

@@ -43,7 +43,7 @@ new-link a s h = go (create-refusal o) refl
 
     go : (x : Option ℕ) → create-refusal o ≡ x → New o (newState a s)
     go none e =
-        let l = create-link (s .words) (s .store) (length (s .store)) (a .limit) (a .priority) (a .threshold) (a .total) (a .handover) (h .long) refl (h .priority-fits) (h .threshold-fits) (h .total-fits) in
+        let l = create-link (s .words) (s .store) (length (s .store)) (a .limit) (a .priority) (a .threshold) (a .total) (a .handover) (a .rule) (h .long) refl (h .priority-fits) (h .threshold-fits) (h .total-fits) in
         let n = create-new o e in
         record {
           good = l .good (new-queue o) n;
@@ -51,7 +51,7 @@ new-link a s h = go (create-refusal o) refl
           queue-is = l .stands (new-queue o) n;
         }
     go (some n) e =
-        let l = create-link (s .words) (s .store) (length (s .store)) (a .limit) (a .priority) (a .threshold) (a .total) (a .handover) (h .long) refl (h .priority-fits) (h .threshold-fits) (h .total-fits) in
+        let l = create-link (s .words) (s .store) (length (s .store)) (a .limit) (a .priority) (a .threshold) (a .total) (a .handover) (a .rule) (h .long) refl (h .priority-fits) (h .threshold-fits) (h .total-fits) in
         let r : Accepted 0 ≡ Refused n = sym (h .accepted) ∙ l .answer ∙ ap answerOf (create-not o n e) in
         let z : _≡_ {A = ℕ} 0 1 = cc in absurd (omega arith)
 

@@ -7,6 +7,7 @@ use lib.Dec.{eqb}
 use lib.ListN.{length}
 use Rattle.queue_model.specs.Types as plain
 use Rattle.queue_streams.specs.Settings.{Called}
+use Rattle.queue_words.specs.declared.header.RestartRule.{RestartRule}
 use Rattle.queue_streams.specs.declared.answers.Call as answer
 use Rattle.queue_streams.specs.declared.answers.Call.the-variants as call
 use Rattle.queue_streams.specs.declared.answers.Flag.{Flag}
@@ -22,21 +23,23 @@ use Rattle.queue_runs.specs.Run.{State, state}
 
 -- ------------------------------------------------------------------ creation
 
--- "Creation takes the payload limit, the store, the default priority, the default and total thresholds and the choice of handover with waiting data": all but the store.
+-- "Creation takes the payload limit, the store, the default priority, the default and total thresholds and the choice of handover with waiting data": all but the store. Document 02,
+-- 6/13: "Creation chooses the rule, as in the Rust or strict."
 pub record Arguments : Type 0 where
   pub limit : ℕ
   pub priority : ℕ
   pub threshold : ℕ
   pub total : ℕ
   pub handover : Bool
+  pub rule : RestartRule
 
 -- The model's options, for a store of this length.
 abbrev pub optionsWith : Arguments → ℕ → plain.Options
-optionsWith a len = optionsFor len (a .limit) (a .priority) (a .threshold) (a .total) (a .handover)
+optionsWith a len = optionsFor len (a .limit) (a .priority) (a .threshold) (a .total) (a .handover) (a .rule)
 
 -- Creation in any words, with any bytes in the store.
 abbrev pub creation : Arguments → State → Called
-creation a s = create (s .words) (length (s .store)) (a .limit) (a .priority) (a .threshold) (a .total) (a .handover)
+creation a s = create (s .words) (length (s .store)) (a .limit) (a .priority) (a .threshold) (a .total) (a .handover) (a .rule)
 
 -- The queue that it leaves.
 abbrev pub newState : Arguments → State → State

@@ -88,6 +88,7 @@ optionsOf o = record {
   default-threshold = o .«default_threshold»;
   total-threshold = o .«total_threshold»;
   handover-with-data = o .«handover_with_data»;
+  strict-restart = o .«strict_restart»;
 }
 
 -- the known streams

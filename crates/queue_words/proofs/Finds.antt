@@ -348,7 +348,7 @@ find-put-length ws i v id =
 -- the count that is stored with the totals
 pub count-put-totals : (ws : List ℕ) (t : Totals) → length ws ≡ 20768 → knownCount (putTotals ws t) ≡ t .known
 unfolding totalsAt putTotals
-count-put-totals ws t l = ap (λ vs. getD vs 3 0) (row-put-same ws 6 (totalsWords t) (omega arith))
+count-put-totals ws t l = ap (λ vs. getD vs 3 0) (row-put-same ws 7 (totalsWords t) (omega arith))
 
 pub find-put-totals : (ws : List ℕ) (t : Totals) (id : ℕ) → length ws ≡ 20768 → t .known ≡ knownCount ws
     → findStream (putTotals ws t) id ≡ findStream ws id

@@ -1,14 +1,22 @@
--- The header: the options from word 0, the totals from word 6, the scheduler's state from word 14. Assumes nothing.
+-- The header: the options from word 0, the totals from word 7, the scheduler's state from word 15. Assumes nothing.
 use Prim.Native.Nat.{ℕ, _%_, _<_}
+use mathlib.Core.Bool.{Bool, true, false}
 use mathlib.Core.List.{List, [], _∷_}
 use lib.ListN.{getD}
 use Rattle.queue_words.specs.Rows.{row, putRow}
 use Rattle.queue_words.specs.Flags.{bit, flag}
+use Rattle.queue_words.specs.declared.header.RestartRule.{RestartRule}
+use Rattle.queue_words.specs.declared.header.RestartRule.the-variants.{Dcsctp, Strict}
 use Rattle.queue_words.specs.declared.header.Options.{Options}
 use Rattle.queue_words.specs.declared.header.Totals.{Totals}
 use Rattle.queue_words.specs.declared.header.SchedulerState.{SchedulerState}
 
--- the options in six words
+-- whether a rule is the strict one
+abbrev pub isStrict : RestartRule → Bool
+isStrict Dcsctp = false
+isStrict Strict = true
+
+-- the options in seven words
 abbrev pub optionsOf : List ℕ → Options
 optionsOf vs = record {
   «payload_limit» = getD vs 0 0 % 65536;
@@ -17,12 +25,13 @@ optionsOf vs = record {
   «store_length» = getD vs 3 0;
   «default_threshold» = getD vs 4 0;
   «total_threshold» = getD vs 5 0;
+  «strict_restart» = flag (getD vs 6 0);
 }
 
 -- the words of the options
 abbrev pub optionsWords : Options → List ℕ
 optionsWords o = o .«payload_limit» ∷ o .«default_priority» ∷ bit (o .«handover_with_data»)
-    ∷ o .«store_length» ∷ o .«default_threshold» ∷ o .«total_threshold» ∷ []
+    ∷ o .«store_length» ∷ o .«default_threshold» ∷ o .«total_threshold» ∷ bit (o .«strict_restart») ∷ []
 
 -- the totals in eight words
 abbrev pub totalsOf : List ℕ → Totals
@@ -51,22 +60,22 @@ schedulerWords s = s .current ∷ s .«system_virtual_time» ∷ s .active ∷ [
 
 -- what loads and stores do, word by word: seen through by the functions .._out and .._in alone
 abbrev pub optionsOut : List ℕ → Options
-optionsOut ws = optionsOf (row ws 0 6)
+optionsOut ws = optionsOf (row ws 0 7)
 
 abbrev pub optionsIn : List ℕ → Options → List ℕ
 optionsIn ws o = putRow ws 0 (optionsWords o)
 
 abbrev pub totalsOut : List ℕ → Totals
-totalsOut ws = totalsOf (row ws 6 8)
+totalsOut ws = totalsOf (row ws 7 8)
 
 abbrev pub totalsIn : List ℕ → Totals → List ℕ
-totalsIn ws t = putRow ws 6 (totalsWords t)
+totalsIn ws t = putRow ws 7 (totalsWords t)
 
 abbrev pub schedulerOut : List ℕ → SchedulerState
-schedulerOut ws = schedulerOf (row ws 14 3)
+schedulerOut ws = schedulerOf (row ws 15 3)
 
 abbrev pub schedulerIn : List ℕ → SchedulerState → List ℕ
-schedulerIn ws s = putRow ws 14 (schedulerWords s)
+schedulerIn ws s = putRow ws 15 (schedulerWords s)
 
 -- the options, the totals and the scheduler's state of the words
 unfoldable pub optionsAt : List ℕ → Options

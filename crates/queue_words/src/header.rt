@@ -1,6 +1,6 @@
-// The header: the creation's arguments from word 0, the totals from word 6, the scheduler's state from word 14.
+// The header: the creation's arguments from word 0, the totals from word 7, the scheduler's state from word 15.
 ghost use mathlib.Core.Path.{_≡_};
-ghost use Rattle.queue_words.specs.Header.{optionsOut, optionsIn, optionsAt, putOptions, FitsOptions};
+ghost use Rattle.queue_words.specs.Header.{isStrict, optionsOut, optionsIn, optionsAt, putOptions, FitsOptions};
 ghost use Rattle.queue_words.specs.Header.{totalsOut, totalsIn, totalsAt, putTotals, FitsTotals};
 ghost use Rattle.queue_words.specs.Header.{schedulerOut, schedulerIn, schedulerAt, putScheduler};
 use crate::QUEUE_WORDS;
@@ -8,9 +8,27 @@ use types::OutgoingMessageId;
 
 const OPTIONS: usize = 0;
 
-const TOTALS: usize = 6;
+const TOTALS: usize = 7;
 
-const SCHEDULER: usize = 14;
+const SCHEDULER: usize = 15;
+
+// Document 02, 6/13: "Creation chooses the rule, as in the Rust or strict." How a whole-queue reset puts a half-sent message back: with its numbers, as dcSCTP does, or as one
+// that was never begun, as RFC 8260 has it.
+pub enum RestartRule {
+    Dcsctp,
+    Strict,
+}
+
+impl RestartRule {
+    pub fn is_strict(self) -> bool
+        ensures { λ r. ⌜ r ≡ isStrict self ⌝ }
+    {
+        match self {
+            RestartRule::Dcsctp => false,
+            RestartRule::Strict => true,
+        }
+    }
+}
 
 // What a queue was created with.
 pub struct Options {
@@ -20,6 +38,8 @@ pub struct Options {
     pub store_length: u64,
     pub default_threshold: u64,
     pub total_threshold: u64,
+    // Whether the rule is RestartRule::Strict.
+    pub strict_restart: bool,
 }
 
 pub struct Totals {
@@ -56,6 +76,7 @@ fn options_out(queue: &[u64; QUEUE_WORDS]) -> Options
         store_length: queue[OPTIONS + 3],
         default_threshold: queue[OPTIONS + 4],
         total_threshold: queue[OPTIONS + 5],
+        strict_restart: queue[OPTIONS + 6] == 1,
     }
 }
 
@@ -68,6 +89,7 @@ fn options_in(queue: &mut [u64; QUEUE_WORDS], o: Options)
     queue[OPTIONS + 3] = o.store_length;
     queue[OPTIONS + 4] = o.default_threshold;
     queue[OPTIONS + 5] = o.total_threshold;
+    queue[OPTIONS + 6] = o.strict_restart as u64;
 }
 
 pub fn load_options(queue: &[u64; QUEUE_WORDS]) -> Options

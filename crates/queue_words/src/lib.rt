@@ -1,10 +1,10 @@
 // The words of a send queue: its header and its four tables in one array of 20,768 words of 64 bits, one field to a word.
 //
 //     words               holds                                     rows   words a row, of which used
-//         0 to     5      Options, what the queue was created with     1       6   6
-//         6 to    13      Totals                                       1       8   8
-//        14 to    16      SchedulerState                               1       3   3
-//        17 to    31      nothing
+//         0 to     6      Options, what the queue was created with     1       7   7
+//         7 to    14      Totals                                       1       8   8
+//        15 to    17      SchedulerState                               1       3   3
+//        18 to    31      nothing
 //        32 to   543      Known, the known streams by rising id      256       2   2
 //       544 to  3103      OutgoingStream, the streams                256      10   9
 //      3104 to 19487      Item, the messages                        1024      16  15
@@ -28,6 +28,7 @@ pub use active::parameters_of;
 pub use active::parameters_word;
 pub use active::store_active;
 pub use header::Options;
+pub use header::RestartRule;
 pub use header::SchedulerState;
 pub use header::Totals;
 pub use header::load_options;

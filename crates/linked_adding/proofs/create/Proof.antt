@@ -11,7 +11,7 @@ returns c =
     let hp : a .default-priority < 65536 = search needs in
     let ht : a .default-threshold < 18446744073709551616 = search needs in
     let hs : a .total-threshold < 18446744073709551616 = search needs in
-    create-meets _ _ _ _ _ _ _ _ _ (c .before .before .whole .ensures) hp ht hs (c .create .ensures)
+    create-meets _ _ _ _ _ _ _ _ _ _ (c .before .before .whole .ensures) hp ht hs (c .create .ensures)
 
 pub create-spec : {M : Type 1} → statement M
 create-spec = tie.close (tie.spec (λ c κs. search needs) (λ c κs. search needs) returns)

@@ -17,8 +17,9 @@ returns-2 : tie.Need-returns-2
 unfolding create
 returns-2 c =
     rw (
-      ← (c .before .before .before .create-code .ensures),
-      le-ltb _ _ (c .before .before .if1 .left),
+      ← (c .before .before .before .before .create-code .ensures),
+      le-ltb _ _ (c .before .before .before .if1 .left),
+      ← (c .before .is-strict .ensures),
       ← (c .write-new .ensures),
     )
 
