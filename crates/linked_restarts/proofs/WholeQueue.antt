@@ -40,7 +40,7 @@ use Rattle.linked_restarts.proofs.Closings.{does-quietly}
 
 -- What it does once its check has passed.
 abbrev whole : Queue → Step
-whole q = reply done [] (with-state q (q .total + all-put-back (q .streams)) (map reset-stream (q .streams)) (reschedule-each (q .interleaving) has-items (map reset-stream (q .streams)) (q .scheduler)))
+whole q = reply done [] (with-state q (q .total + all-put-back (q .streams)) (map (reset-stream (q .options .strict-restart)) (q .streams)) (reschedule-each (q .interleaving) has-items (map (reset-stream (q .options .strict-restart)) (q .streams)) (q .scheduler)))
 
 reset-passes : (q : Queue) → Well q → reset.reset q ≡ whole q
 unfolding reset.reset checked first-refusal refused-or
@@ -55,33 +55,33 @@ reset-is q = refl
 
 -- ---- the turns, from any words whose amounts fit
 
-all-zero : (il : Bool) (ws : List ℕ) → resetAll il ws 0 ≡ ws
+all-zero : (strict il : Bool) (ws : List ℕ) → resetAll strict il ws 0 ≡ ws
 unfolding resetAll
-all-zero il ws = refl
+all-zero strict il ws = refl
 
-all-suc : (il : Bool) (ws : List ℕ) (i : ℕ) → resetAll il ws (suc i) ≡ resetAt (resetAll il ws i) il (idAt (resetAll il ws i) i) (rowAt (resetAll il ws i) i)
+all-suc : (strict il : Bool) (ws : List ℕ) (i : ℕ) → resetAll strict il ws (suc i) ≡ resetAt strict (resetAll strict il ws i) il (idAt (resetAll strict il ws i) i) (rowAt (resetAll strict il ws i) i)
 unfolding resetAll
-all-suc il ws i = refl
+all-suc strict il ws i = refl
 
-module _ (il : Bool) (ws st : List ℕ) (g : Shape ws st) (a : AllKnown ws st) (small : (i : ℕ) → i < totalsAt ws .known → (streamIn ws st i) .amount + backAt ws st i ≤ 2000000) where
-  turn : (i : ℕ) → i < totalsAt ws .known → (h : Shape (resetAll il ws i) st) → AllKnown (resetAll il ws i) st → totalsAt (resetAll il ws i) ≡ totalsAt ws
-      → streamIn (resetAll il ws i) st i ≡ streamIn ws st i → Turn reset-stream (waited il) (resetAll il ws i) st i (resetAll il ws (suc i))
+module _ (strict il : Bool) (ws st : List ℕ) (g : Shape ws st) (a : AllKnown ws st) (small : (i : ℕ) → i < totalsAt ws .known → (streamIn ws st i) .amount + backAt ws st i ≤ 2000000) where
+  turn : (i : ℕ) → i < totalsAt ws .known → (h : Shape (resetAll strict il ws i) st) → AllKnown (resetAll strict il ws i) st → totalsAt (resetAll strict il ws i) ≡ totalsAt ws
+      → streamIn (resetAll strict il ws i) st i ≡ streamIn ws st i → Turn (reset-stream strict) (waited strict il) (resetAll strict il ws i) st i (resetAll strict il ws (suc i))
   turn i hi h b t e =
-      let hi′ : i < totalsAt (resetAll il ws i) .known = subst (λ (x : Totals). i < x .known) (sym t) hi in
-      let k : (streamIn (resetAll il ws i) st i) .amount + backAt (resetAll il ws i) st i ≤ 2000000 = subst (λ (s : Stream). s .amount + reset.put-back (s .items) ≤ 2000000) (sym e) (small i hi) in
-      rw (all-suc il ws i) (reset-turn il (resetAll il ws i) st h b i hi′ k)
+      let hi′ : i < totalsAt (resetAll strict il ws i) .known = subst (λ (x : Totals). i < x .known) (sym t) hi in
+      let k : (streamIn (resetAll strict il ws i) st i) .amount + backAt (resetAll strict il ws i) st i ≤ 2000000 = subst (λ (s : Stream). s .amount + reset.put-back (s .items) ≤ 2000000) (sym e) (small i hi) in
+      rw (all-suc strict il ws i) (reset-turn strict il (resetAll strict il ws i) st h b i hi′ k)
 
-  swept : Swept reset-stream (waited il) ws st (totalsAt ws .known) (resetAll il ws (totalsAt ws .known))
-  swept = sweep reset-stream (waited il) reset-id ws st g a (λ i. resetAll il ws i) (all-zero il ws) turn (totalsAt ws .known) (omega arith)
+  swept : Swept (reset-stream strict) (waited strict il) ws st (totalsAt ws .known) (resetAll strict il ws (totalsAt ws .known))
+  swept = sweep (reset-stream strict) (waited strict il) (reset-id strict) ws st g a (λ i. resetAll strict il ws i) (all-zero strict il ws) turn (totalsAt ws .known) (omega arith)
 
-  after-streams : streamsIn (resetAll il ws (totalsAt ws .known)) st ≡ map reset-stream (streamsIn ws st)
-  after-streams = swept-streams reset-stream (waited il) reset-id ws st g a (λ i. resetAll il ws i) (all-zero il ws) turn
+  after-streams : streamsIn (resetAll strict il ws (totalsAt ws .known)) st ≡ map (reset-stream strict) (streamsIn ws st)
+  after-streams = swept-streams (reset-stream strict) (waited strict il) (reset-id strict) ws st g a (λ i. resetAll strict il ws i) (all-zero strict il ws) turn
 
-  after-scheduler : modelScheduler (resetAll il ws (totalsAt ws .known)) ≡ reschedule-each il has-items (map reset-stream (streamsIn ws st)) (modelScheduler ws)
+  after-scheduler : modelScheduler (resetAll strict il ws (totalsAt ws .known)) ≡ reschedule-each il has-items (map (reset-stream strict) (streamsIn ws st)) (modelScheduler ws)
   unfolding streamsIn
   after-scheduler =
-      swept .scheduler ∙ sym (each-tab il has-items reset-stream (streamIn ws st) (totalsAt ws .known) (modelScheduler ws))
-      ∙ ap (λ ss. reschedule-each il has-items ss (modelScheduler ws)) (tab-map reset-stream (streamIn ws st) (λ j. reset-stream (streamIn ws st j)) (totalsAt ws .known) (λ j h. refl))
+      swept .scheduler ∙ sym (each-tab il has-items (reset-stream strict) (streamIn ws st) (totalsAt ws .known) (modelScheduler ws))
+      ∙ ap (λ ss. reschedule-each il has-items ss (modelScheduler ws)) (tab-map (reset-stream strict) (streamIn ws st) (λ j. (reset-stream strict) (streamIn ws st j)) (totalsAt ws .known) (λ j h. refl))
 
 -- ---- the call
 
@@ -119,33 +119,36 @@ module _ (ws st : List ℕ) (g : Good ws st) where
       let k : i < totalsAt ws .known = subst (λ n. i < n) same-known h in
       subst (λ (s : Stream). s .amount + reset.put-back (s .items) ≤ 2000000) (sym (same-stream i k)) (within ws st g i k)
 
+  abbrev strict : Bool
+  strict = optionsAt ws .«strict_restart»
+
   abbrev il : Bool
   il = totalsAt ws .interleaving
 
-  done-words : Swept reset-stream (waited il) start st (totalsAt start .known) (resetAll il start (totalsAt start .known))
-  done-words = swept il start st start-shape start-known small
+  done-words : Swept (reset-stream strict) (waited strict il) start st (totalsAt start .known) (resetAll strict il start (totalsAt start .known))
+  done-words = swept strict il start st start-shape start-known small
 
-  whole-model : model (resetAll il start (totalsAt start .known)) st ≡ (whole (model ws st)) .next
+  whole-model : model (resetAll strict il start (totalsAt start .known)) st ≡ (whole (model ws st)) .next
   unfolding model
   whole-model =
-      let us : List ℕ = resetAll il start (totalsAt start .known) in
+      let us : List ℕ = resetAll strict il start (totalsAt start .known) in
       let t : totalsAt us ≡ risen = done-words .totals ∙ begun-totals ws st (g .shape) risen counts in
-      model-is us st (optionsOf (optionsAt ws)) (totalsAt ws .interleaving) (totalsAt ws .total + all-put-back (streamsIn ws st)) (totalsAt ws .«next_message_id» .0) (map reset-stream (streamsIn ws st))
-      (reschedule-each (totalsAt ws .interleaving) has-items (map reset-stream (streamsIn ws st)) (modelScheduler ws))
+      model-is us st (optionsOf (optionsAt ws)) (totalsAt ws .interleaving) (totalsAt ws .total + all-put-back (streamsIn ws st)) (totalsAt ws .«next_message_id» .0) (map (reset-stream strict) (streamsIn ws st))
+      (reschedule-each (totalsAt ws .interleaving) has-items (map (reset-stream strict) (streamsIn ws st)) (modelScheduler ws))
       (ap optionsOf (done-words .options ∙ Laws.options-put-totals ws risen)) (ap (λ (x : Totals). x .interleaving) t) (ap (λ (x : Totals). x .total) t) (ap (λ (x : Totals). x .«next_message_id» .0) t)
-      (after-streams il start st start-shape start-known small ∙ ap (map reset-stream) start-streams)
-      (after-scheduler il start st start-shape start-known small ∙ ap₂ (λ ss sc. reschedule-each il has-items (map reset-stream ss) sc) start-streams (begun-scheduler ws st (g .shape) risen counts))
+      (after-streams strict il start st start-shape start-known small ∙ ap (map (reset-stream strict)) start-streams)
+      (after-scheduler strict il start st start-shape start-known small ∙ ap₂ (λ ss sc. reschedule-each il has-items (map (reset-stream strict) ss) sc) start-streams (begun-scheduler ws st (g .shape) risen counts))
 
   step-is : run.step run.reset (model ws st) ≡ whole (model ws st)
   step-is = reset-is (model ws st) ∙ reset-passes (model ws st) (g .well)
 
-  accepted : resetQueue ws ≡ called (Accepted 0) (resetAll il start (totalsAt ws .known))
+  accepted : resetQueue ws ≡ called (Accepted 0) (resetAll strict il start (totalsAt ws .known))
   unfolding resetQueue
   accepted = rw (room-for ws st (g .shape) (all-known ws st (g .well)) true, sums-are ws st g)
 
   pub reset-link : Does run.reset ws st ((resetQueue ws) .answer) ((resetQueue ws) .next) st
   reset-link =
-      let us : List ℕ = resetAll il start (totalsAt start .known) in
+      let us : List ℕ = resetAll strict il start (totalsAt start .known) in
       let d : Does run.reset ws st (Accepted 0) us st = does-quietly run.reset ws st us tt g (done-words .shape) (done-words .options ∙ Laws.options-put-totals ws risen)
       (whole-model ∙ ap (λ x. x .next) (sym step-is)) (ap (λ x. x .outcome .answer) step-is) (ap (λ x. x .outcome .events) step-is) in
-      rw accepted (subst (λ n. Does run.reset ws st (Accepted 0) (resetAll il start n) st) same-known d)
+      rw accepted (subst (λ n. Does run.reset ws st (Accepted 0) (resetAll strict il start n) st) same-known d)

@@ -12,19 +12,20 @@ use Rattle.queue_words.specs.Items.{itemAt, putItem, FitsItem}
 use Rattle.queue_words.specs.Known.{knownAt, idAt}
 use Rattle.queue_words.specs.Streams.{streamAt, putStream, FitsStream}
 use Rattle.queue_words.specs.declared.header.Totals.{Totals}
+use Rattle.queue_words.specs.declared.items.Item.{Item}
 use Rattle.queue_words.specs.declared.known.Known.{Known}
 use Rattle.queue_words.specs.declared.streams.OutgoingStream.{OutgoingStream}
 use Rattle.queue_words.proofs.Laws
 use Rattle.queue_model.specs.Logic.{if_then_else_}
 use Rattle.queue_model.specs.Types as plain
 use Rattle.queue_model.specs.Types.{Stream, Scheduler, not-paused, with-pause, with-counters, with-items}
-use Rattle.queue_model.specs.Reset.{put-back, whole-head, reset-stream}
+use Rattle.queue_model.specs.Reset.{put-back, whole-item, whole-head, reset-stream}
 use Rattle.queue_model.specs.Streams.{has-items, some-items, zero-counters, reschedule, put-stream}
 use Rattle.stream_scheduler.specs.Link.{modelScheduler}
 use Rattle.payload_store.specs.Good.{payloadOf}
 use Rattle.message_chains.specs.Amounts.{sum}
 use Rattle.queue_streams.specs.Waiting.{rescheduled}
-use Rattle.queue_restarts.specs.Reset.{putBack, wholeStream, atStart, wholeHead, resetIn, resetAt}
+use Rattle.queue_restarts.specs.Reset.{putBack, wholeStream, wholeItem, wholeHead, resetIn, resetAt}
 use Rattle.queue_state.specs.Chains.{Linked, count, each}
 use Rattle.queue_state.specs.Model.{nextOf, itemOf, itemIn, pauseOf, streamOf, rowAt, streamIn, streamsIn}
 use Rattle.queue_state.specs.Good.{Shape}
@@ -44,8 +45,8 @@ abbrev opened : Stream → Stream
 opened s = with-pause not-paused (with-counters zero-counters (with-items s (s .amount + put-back (s .items)) (s .items)))
 
 -- Its head whole.
-abbrev headed : Stream → Stream
-headed s = with-items s (s .amount) (whole-head (s .items))
+abbrev headed : Bool → Stream → Stream
+headed strict s = with-items s (s .amount) (whole-head strict (s .items))
 
 abbrev same : Stream → Stream
 same s = s
@@ -53,22 +54,22 @@ same s = s
 abbrev still : Stream → Scheduler → Scheduler
 still s sc = sc
 
-abbrev pub waited : Bool → Stream → Scheduler → Scheduler
-waited il = turned il has-items reset-stream
+abbrev pub waited : Bool → Bool → Stream → Scheduler → Scheduler
+waited strict il = turned il has-items (reset-stream strict)
 
-both-is : (s : Stream) → headed (opened s) ≡ reset-stream s
+both-is : (strict : Bool) (s : Stream) → headed strict (opened s) ≡ reset-stream strict s
 unfolding reset-stream
-both-is s = refl
+both-is strict s = refl
 
-pub reset-id : (s : Stream) → (reset-stream s) .id ≡ s .id
+pub reset-id : (strict : Bool) (s : Stream) → (reset-stream strict s) .id ≡ s .id
 unfolding reset-stream
-reset-id s = refl
+reset-id strict s = refl
 
-reset-items : (s : Stream) → has-items (reset-stream s) ≡ has-items s
+reset-items : (strict : Bool) (s : Stream) → has-items (reset-stream strict s) ≡ has-items s
 unfolding reset-stream has-items some-items whole-head
-reset-items s = go (s .items)
+reset-items strict s = go (s .items)
   where
-    go : (is : List plain.Item) → some-items (whole-head is) ≡ some-items is
+    go : (is : List plain.Item) → some-items (whole-head strict is) ≡ some-items is
     go [] = refl
     go (i ∷ is) = refl
 
@@ -96,50 +97,58 @@ whole-is id s is b e = rw e
 
 -- ---- the head put back whole
 
-module _ (us st : List ℕ) (g : Shape us st) (a : AllKnown us st) (i : ℕ) (hi : i < totalsAt us .known) (x : ℕ) (xs : List ℕ) (e : g .q i ≡ x ∷ xs) where
+whole-item-fits : (strict : Bool) (m : Item) → FitsItem m → FitsItem (wholeItem strict m)
+whole-item-fits true m f =
+    record { ssn-fits = omega arith; retransmissions-fits = f .retransmissions-fits; message-id-fits = f .message-id-fits; ppid-fits = f .ppid-fits; mid-fits = omega arith; fsn-fits = omega arith }
+whole-item-fits false m f =
+    record { ssn-fits = f .ssn-fits; retransmissions-fits = f .retransmissions-fits; message-id-fits = f .message-id-fits; ppid-fits = f .ppid-fits; mid-fits = f .mid-fits; fsn-fits = f .fsn-fits }
+
+whole-item-is : (strict : Bool) (m : Item) (bs : List ℕ) → itemOf (wholeItem strict m) bs ≡ whole-item strict (itemOf m bs)
+whole-item-is true m bs = refl
+whole-item-is false m bs = refl
+
+module _ (strict : Bool) (us st : List ℕ) (g : Shape us st) (a : AllKnown us st) (i : ℕ) (hi : i < totalsAt us .known) (x : ℕ) (xs : List ℕ) (e : g .q i ≡ x ∷ xs) where
   member : 1 ≤ count x (g .q i)
   member = subst (λ l. 1 ≤ count x l) (sym e) (count-head x xs)
 
   below : x < 1024
   below = row-fits (g .q) (g .fr) x i (g .split) (omega (arith, g .known-fits)) member
 
-  start-fits : FitsItem (atStart (itemAt us x))
-  start-fits =
-      let f = Laws.item-at-fits us x in
-      record { ssn-fits = f .ssn-fits; retransmissions-fits = f .retransmissions-fits; message-id-fits = f .message-id-fits; ppid-fits = f .ppid-fits; mid-fits = f .mid-fits; fsn-fits = f .fsn-fits }
+  start-fits : FitsItem (wholeItem strict (itemAt us x))
+  start-fits = whole-item-fits strict (itemAt us x) (Laws.item-at-fits us x)
 
-  whole-items : itemOf (atStart (itemAt us x)) (payloadOf us st x) ∷ each (itemIn us st) xs ≡ whole-head (each (itemIn us st) (x ∷ xs))
+  whole-items : itemOf (wholeItem strict (itemAt us x)) (payloadOf us st x) ∷ each (itemIn us st) xs ≡ whole-head strict (each (itemIn us st) (x ∷ xs))
   unfolding whole-head itemIn
-  whole-items = refl
+  whole-items = ap (λ (m : plain.Item). m ∷ each (itemIn us st) xs) (whole-item-is strict (itemAt us x) (payloadOf us st x))
 
-  new-items : each (itemIn (putItem us x (atStart (itemAt us x))) st) (g .q i) ≡ whole-head (each (itemIn us st) (g .q i))
-  new-items = items-first us st g i hi x member (atStart (itemAt us x)) start-fits refl refl refl xs e ∙ whole-items ∙ ap (λ l. whole-head (each (itemIn us st) l)) (sym e)
+  new-items : each (itemIn (putItem us x (wholeItem strict (itemAt us x))) st) (g .q i) ≡ whole-head strict (each (itemIn us st) (g .q i))
+  new-items = items-first us st g i hi x member (wholeItem strict (itemAt us x)) start-fits refl refl refl xs e ∙ whole-items ∙ ap (λ l. whole-head strict (each (itemIn us st) l)) (sym e)
 
-  head-streams : streamsIn (putItem us x (atStart (itemAt us x))) st ≡ put-stream (headed (streamIn us st i)) (streamsIn us st)
+  head-streams : streamsIn (putItem us x (wholeItem strict (itemAt us x))) st ≡ put-stream (headed strict (streamIn us st i)) (streamsIn us st)
   head-streams =
-      item-streams us st g i hi x member (atStart (itemAt us x)) start-fits refl refl refl
+      item-streams us st g i hi x member (wholeItem strict (itemAt us x)) start-fits refl refl refl
       ∙ ap (λ is. put-stream (streamOf (idAt us i) (streamAt us (rowAt us i)) is) (streamsIn us st)) new-items
-      ∙ ap (λ (s : Stream). put-stream (headed s) (streamsIn us st)) (sym (stream-is us st g i hi))
+      ∙ ap (λ (s : Stream). put-stream (headed strict s) (streamsIn us st)) (sym (stream-is us st g i hi))
 
-  head-scheduler : modelScheduler (putItem us x (atStart (itemAt us x))) ≡ modelScheduler us
-  head-scheduler = item-scheduler us st g i hi x member (atStart (itemAt us x)) start-fits refl refl refl
+  head-scheduler : modelScheduler (putItem us x (wholeItem strict (itemAt us x))) ≡ modelScheduler us
+  head-scheduler = item-scheduler us st g i hi x member (wholeItem strict (itemAt us x)) start-fits refl refl refl
 
-  head-turn : Turn headed still us st i (wholeHead us x)
+  head-turn : Turn (headed strict) still us st i (wholeHead strict us x)
   unfolding wholeHead
   head-turn = record {
-    shape = shape-item us st g i hi x member (atStart (itemAt us x)) start-fits refl refl refl .shape;
-    totals = Laws.totals-put-item us x (atStart (itemAt us x));
-    options = Laws.options-put-item us x (atStart (itemAt us x));
+    shape = shape-item us st g i hi x member (wholeItem strict (itemAt us x)) start-fits refl refl refl .shape;
+    totals = Laws.totals-put-item us x (wholeItem strict (itemAt us x));
+    options = Laws.options-put-item us x (wholeItem strict (itemAt us x));
     streams = head-streams;
     scheduler = head-scheduler;
-    known = subst (λ (ss : List Stream). Listing ss ((modelScheduler (putItem us x (atStart (itemAt us x)))) .active)) (sym head-streams)
-        (subst (λ (sc : Scheduler). Listing (put-stream (headed (streamIn us st i)) (streamsIn us st)) (sc .active)) (sym head-scheduler)
-        (listing-streams (streamsIn us st) (put-stream (headed (streamIn us st i)) (streamsIn us st)) ((modelScheduler us) .active) (known-put (headed (streamIn us st i)) (streamsIn us st)) a));
+    known = subst (λ (ss : List Stream). Listing ss ((modelScheduler (putItem us x (wholeItem strict (itemAt us x)))) .active)) (sym head-streams)
+        (subst (λ (sc : Scheduler). Listing (put-stream (headed strict (streamIn us st i)) (streamsIn us st)) (sc .active)) (sym head-scheduler)
+        (listing-streams (streamsIn us st) (put-stream (headed strict (streamIn us st i)) (streamsIn us st)) ((modelScheduler us) .active) (known-put (headed strict (streamIn us st i)) (streamsIn us st)) a));
   }
 
 -- ---- the turn
 
-module _ (il : Bool) (us st : List ℕ) (g : Shape us st) (a : AllKnown us st) (i : ℕ) (hi : i < totalsAt us .known) (small : (streamIn us st i) .amount + backAt us st i ≤ 2000000) where
+module _ (strict il : Bool) (us st : List ℕ) (g : Shape us st) (a : AllKnown us st) (i : ℕ) (hi : i < totalsAt us .known) (small : (streamIn us st i) .amount + backAt us st i ≤ 2000000) where
   abbrev row : OutgoingStream
   row = streamAt us (rowAt us i)
 
@@ -188,13 +197,13 @@ module _ (il : Bool) (us st : List ℕ) (g : Shape us st) (a : AllKnown us st) (
   first-vs : streamAt vs (rowAt vs i) .first ≡ row .first
   first-vs = ap (λ r. streamAt vs r .first) row-vs ∙ ap (λ (s : OutgoingStream). s .first) stored-row ∙ whole-first row back
 
-  filled : has-items (reset-stream (streamIn us st i)) ≡ ltb (row .first) 1024
-  filled = reset-items (streamIn us st i) ∙ ap has-items (stream-is us st g i hi) ∙ first-is us st (idAt us i) (row .first) row (g .q i) (g .rows i hi .linked)
+  filled : has-items (reset-stream strict (streamIn us st i)) ≡ ltb (row .first) 1024
+  filled = reset-items strict (streamIn us st i) ∙ ap has-items (stream-is us st g i hi) ∙ first-is us st (idAt us i) (row .first) row (g .q i) (g .rows i hi .linked)
 
   module _ (in-table : row .first < 1024) where
     -- The head is put back.
     abbrev hs : List ℕ
-    hs = wholeHead vs (row .first)
+    hs = wholeHead strict vs (row .first)
 
     behind : (xs : List ℕ) × (row-turn .shape .q i ≡ row .first ∷ xs)
     behind =
@@ -202,19 +211,19 @@ module _ (il : Bool) (us st : List ℕ) (g : Shape us st) (a : AllKnown us st) (
         let s = linked-some (nextOf vs) (row .first) (row-turn .shape .q i) l (λ z. omega arith) in
         (s .0, s .1)
 
-    second : Turn headed still vs st i hs
-    second = head-turn vs st (row-turn .shape) (row-turn .known) i hi-vs (row .first) (behind .0) (behind .1)
+    second : Turn (headed strict) still vs st i hs
+    second = head-turn strict vs st (row-turn .shape) (row-turn .known) i hi-vs (row .first) (behind .0) (behind .1)
 
     hi-hs : i < totalsAt hs .known
     hi-hs = subst (λ (t : Totals). i < t .known) (sym (second .totals)) hi-vs
 
     known-hs : knownAt hs i ≡ knownAt us i
     unfolding wholeHead
-    known-hs = Laws.known-put-item vs (row .first) (atStart (itemAt vs (row .first))) i below-i ∙ known-vs
+    known-hs = Laws.known-put-item vs (row .first) (wholeItem strict (itemAt vs (row .first))) i below-i ∙ known-vs
 
     row-hs : streamAt hs (rowAt hs i) ≡ new
     unfolding wholeHead
-    row-hs = ap (λ (k : Known). streamAt hs (k .place)) known-hs ∙ Laws.stream-put-item vs (row .first) (atStart (itemAt vs (row .first))) (rowAt us i) (row-below us st g i hi) ∙ stored-row
+    row-hs = ap (λ (k : Known). streamAt hs (k .place)) known-hs ∙ Laws.stream-put-item vs (row .first) (wholeItem strict (itemAt vs (row .first))) (rowAt us i) (row-below us st g i hi) ∙ stored-row
 
     -- It waits.
     third : Turn same (λ s sc. reschedule il s sc) hs st i (rescheduled hs il (idAt us i) (row .first) (row .priority))
@@ -227,36 +236,36 @@ module _ (il : Bool) (us st : List ℕ) (g : Shape us st) (a : AllKnown us st) (
         (subst (λ f. Turn same (λ s sc. reschedule il s sc) hs st i (rescheduled hs il (idAt hs i) f (row .priority))) ef
         (subst (λ p. Turn same (λ s sc. reschedule il s sc) hs st i (rescheduled hs il (idAt hs i) (streamAt hs (rowAt hs i) .first) p)) ep t))
 
-    filled-turn : has-items (reset-stream (streamIn us st i)) ≡ true → Turn reset-stream (waited il) us st i (rescheduled hs il (idAt us i) (row .first) (row .priority))
+    filled-turn : has-items (reset-stream strict (streamIn us st i)) ≡ true → Turn (reset-stream strict) (waited strict il) us st i (rescheduled hs il (idAt us i) (row .first) (row .priority))
     filled-turn f =
-        let t : Turn (λ s. headed (opened s)) (λ s sc. sc) us st i hs = compose us st g i hi opened headed still still vs hs (λ s. refl) (λ s. refl) row-turn second in
-        let u = compose us st g i hi (λ s. headed (opened s)) same (λ s sc. sc) (λ s sc. reschedule il s sc) hs (rescheduled hs il (idAt us i) (row .first) (row .priority)) (λ s. refl) (λ s. refl) t third in
-        turn-as us st g i hi (λ s. headed (opened s)) reset-stream (λ s sc. reschedule il (headed (opened s)) sc) (waited il) (rescheduled hs il (idAt us i) (row .first) (row .priority))
-        (both-is (streamIn us st i))
-        (ap (λ (s : Stream). reschedule il s (modelScheduler us)) (both-is (streamIn us st i)) ∙ ap (λ (b : Bool). if b then reschedule il (reset-stream (streamIn us st i)) (modelScheduler us) else modelScheduler us) (sym f)) u
+        let t : Turn (λ s. headed strict (opened s)) (λ s sc. sc) us st i hs = compose us st g i hi opened (headed strict) still still vs hs (λ s. refl) (λ s. refl) row-turn second in
+        let u = compose us st g i hi (λ s. headed strict (opened s)) same (λ s sc. sc) (λ s sc. reschedule il s sc) hs (rescheduled hs il (idAt us i) (row .first) (row .priority)) (λ s. refl) (λ s. refl) t third in
+        turn-as us st g i hi (λ s. headed strict (opened s)) (reset-stream strict) (λ s sc. reschedule il (headed strict (opened s)) sc) (waited strict il) (rescheduled hs il (idAt us i) (row .first) (row .priority))
+        (both-is strict (streamIn us st i))
+        (ap (λ (s : Stream). reschedule il s (modelScheduler us)) (both-is strict (streamIn us st i)) ∙ ap (λ (b : Bool). if b then reschedule il (reset-stream strict (streamIn us st i)) (modelScheduler us) else modelScheduler us) (sym f)) u
 
   -- A stream without messages.
-  empty-head : 1024 ≤ row .first → headed (opened (streamIn us st i)) ≡ opened (streamIn us st i)
+  empty-head : 1024 ≤ row .first → headed strict (opened (streamIn us st i)) ≡ opened (streamIn us st i)
   empty-head h =
       let z : row .first ≡ 1024 = omega (arith, linked-le (nextOf us) (row .first) (g .q i) (g .rows i hi .linked)) in
       let e : g .q i ≡ [] = linked-none (nextOf us) (row .first) (g .q i) (g .rows i hi .linked) z in
       let k : (streamIn us st i) .items ≡ [] = ap (λ (s : Stream). s .items) (stream-is us st g i hi) ∙ ap (each (itemIn us st)) e in
       ap (λ is. with-items (opened (streamIn us st i)) ((opened (streamIn us st i)) .amount) is) (whole-empty ((streamIn us st i) .items) k)
     where
-      whole-empty : (is : List plain.Item) → is ≡ [] → whole-head is ≡ is
+      whole-empty : (is : List plain.Item) → is ≡ [] → whole-head strict is ≡ is
       whole-empty [] e = unfold whole-head in refl
       whole-empty (j ∷ is) e = let z : _≡_ {A = ℕ} 0 1 = cc in absurd (omega arith)
 
-  empty-turn : 1024 ≤ row .first → has-items (reset-stream (streamIn us st i)) ≡ false → Turn reset-stream (waited il) us st i vs
-  empty-turn h f = turn-as us st g i hi opened reset-stream still (waited il) vs (sym (empty-head h) ∙ both-is (streamIn us st i))
-      (ap (λ (b : Bool). if b then reschedule il (reset-stream (streamIn us st i)) (modelScheduler us) else modelScheduler us) (sym f)) row-turn
+  empty-turn : 1024 ≤ row .first → has-items (reset-stream strict (streamIn us st i)) ≡ false → Turn (reset-stream strict) (waited strict il) us st i vs
+  empty-turn h f = turn-as us st g i hi opened (reset-stream strict) still (waited strict il) vs (sym (empty-head h) ∙ both-is strict (streamIn us st i))
+      (ap (λ (b : Bool). if b then reschedule il (reset-stream strict (streamIn us st i)) (modelScheduler us) else modelScheduler us) (sym f)) row-turn
 
   by-first : (b : Bool) → ltb (row .first) 1024 ≡ b
-      → Turn reset-stream (waited il) us st i (pick b (rescheduled (wholeHead vs (row .first)) il (idAt us i) (row .first) (row .priority)) vs)
+      → Turn (reset-stream strict) (waited strict il) us st i (pick b (rescheduled (wholeHead strict vs (row .first)) il (idAt us i) (row .first) (row .priority)) vs)
   by-first true e = filled-turn (ltb-true (row .first) 1024 e) (filled ∙ e)
   by-first false e = empty-turn (ltb-false (row .first) 1024 e) (filled ∙ e)
 
-  pub reset-turn : Turn reset-stream (waited il) us st i (resetAt us il (idAt us i) (rowAt us i))
+  pub reset-turn : Turn (reset-stream strict) (waited strict il) us st i (resetAt strict us il (idAt us i) (rowAt us i))
   unfolding resetAt resetIn
   reset-turn =
       let r : rowAt us i < 256 = row-below us st g i hi in

@@ -168,16 +168,16 @@ module _ (ws : List ℕ) (total : ℕ) where
       let q : i ≡ n = omega arith in
       e ∙ ap (sumAll ws total) q
 
-module _ (il : Bool) (ws : List ℕ) where
-  pub reset-start : ws ≡ resetAll il ws 0
+module _ (strict il : Bool) (ws : List ℕ) where
+  pub reset-start : ws ≡ resetAll strict il ws 0
   unfolding resetAll
   reset-start = refl
 
-  pub reset-next : (i : ℕ) (us l : List ℕ) (k : Known) → us ≡ resetAll il ws i → k ≡ knownAt us i → l ≡ resetAt us il (k .id .0) (k .place) → l ≡ resetAll il ws (i + 1)
+  pub reset-next : (i : ℕ) (us l : List ℕ) (k : Known) → us ≡ resetAll strict il ws i → k ≡ knownAt us i → l ≡ resetAt strict us il (k .id .0) (k .place) → l ≡ resetAll strict il ws (i + 1)
   unfolding resetAll
-  reset-next i us l k eu ek el = el ∙ ap (λ (x : Known). resetAt us il (x .id .0) (x .place)) ek ∙ ap (λ (x : List ℕ). resetAt x il (knownAt x i .id .0) (knownAt x i .place)) eu ∙ sym (rw add-one)
+  reset-next i us l k eu ek el = el ∙ ap (λ (x : Known). resetAt strict us il (x .id .0) (x .place)) ek ∙ ap (λ (x : List ℕ). resetAt strict x il (knownAt x i .id .0) (knownAt x i .place)) eu ∙ sym (rw add-one)
 
-  pub reset-end : (n i : ℕ) (us : List ℕ) → us ≡ resetAll il ws i → i ≤ n → n ≤ i → us ≡ resetAll il ws n
+  pub reset-end : (n i : ℕ) (us : List ℕ) → us ≡ resetAll strict il ws i → i ≤ n → n ≤ i → us ≡ resetAll strict il ws n
   reset-end n i us e l g =
       let q : i ≡ n = omega arith in
-      e ∙ ap (resetAll il ws) q
+      e ∙ ap (resetAll strict il ws) q

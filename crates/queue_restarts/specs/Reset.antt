@@ -4,7 +4,7 @@ use mathlib.Core.Bool.{Bool, true, false}
 use mathlib.Core.List.{List}
 use lib.Dec.{ltb}
 use Rattle.queue_words.specs.Flags.{pick}
-use Rattle.queue_words.specs.Header.{totalsAt, putTotals}
+use Rattle.queue_words.specs.Header.{optionsAt, totalsAt, putTotals}
 use Rattle.queue_words.specs.Items.{itemAt, putItem}
 use Rattle.queue_words.specs.Known.{knownAt}
 use Rattle.queue_words.specs.Streams.{streamAt, putStream}
@@ -57,17 +57,19 @@ wholeStream s back = record {
   last = s .last;
 }
 
-abbrev pub atStart : Item → Item
-atStart m = record {
-  ssn = m .ssn;
+-- A message put back whole, by the Rust's rule or the strict one: "keeping its MID, SSN and FSN"; document 02, 6/13: "Strict reset removes the head message's MID and SSN and sets its FSN
+-- to 0."
+abbrev pub wholeItem : Bool → Item → Item
+wholeItem strict m = record {
+  ssn = pick strict (record { 0 = 0 }) (m .ssn);
   «max_retransmissions» = m .«max_retransmissions»;
   unordered = m .unordered;
-  «mid_given» = m .«mid_given»;
+  «mid_given» = pick strict false (m .«mid_given»);
   expires = m .expires;
   «message_id» = m .«message_id»;
   ppid = m .ppid;
-  mid = m .mid;
-  fsn = m .fsn;
+  mid = pick strict (record { 0 = 0 }) (m .mid);
+  fsn = pick strict (record { 0 = 0 }) (m .fsn);
   «expires_at» = m .«expires_at»;
   «lifecycle_id» = m .«lifecycle_id»;
   place = m .place;
@@ -76,24 +78,24 @@ atStart m = record {
   next = m .next;
 }
 
--- "and puts each head message back whole, keeping its MID, SSN and FSN".
-unfoldable pub wholeHead : List ℕ → ℕ → List ℕ
-wholeHead ws first = putItem ws first (atStart (itemAt ws first))
+-- "and puts each head message back whole".
+unfoldable pub wholeHead : Bool → List ℕ → ℕ → List ℕ
+wholeHead strict ws first = putItem ws first (wholeItem strict (itemAt ws first))
 
 -- "every stream with messages then waits".
-unfoldable pub resetIn : List ℕ → Bool → ℕ → ℕ → OutgoingStream → List ℕ
-resetIn ws il id place s =
+unfoldable pub resetIn : Bool → List ℕ → Bool → ℕ → ℕ → OutgoingStream → List ℕ
+resetIn strict ws il id place s =
     pick (ltb (s .first) 1024)
-    (rescheduled (wholeHead (putStream ws place (wholeStream s (putBack ws (s .first)))) (s .first)) il id (s .first) (s .priority))
+    (rescheduled (wholeHead strict (putStream ws place (wholeStream s (putBack ws (s .first)))) (s .first)) il id (s .first) (s .priority))
     (putStream ws place (wholeStream s (putBack ws (s .first))))
 
 -- A place outside its table, which the call has ruled out, is passed over.
-unfoldable pub resetAt : List ℕ → Bool → ℕ → ℕ → List ℕ
-resetAt ws il id place = pick (ltb 255 place) ws (resetIn ws il id place (streamAt ws place))
+unfoldable pub resetAt : Bool → List ℕ → Bool → ℕ → ℕ → List ℕ
+resetAt strict ws il id place = pick (ltb 255 place) ws (resetIn strict ws il id place (streamAt ws place))
 
-unfoldable pub resetAll : Bool → List ℕ → ℕ → List ℕ
-resetAll il ws zero = ws
-resetAll il ws (suc i) = resetAt (resetAll il ws i) il (knownAt (resetAll il ws i) i .id .0) (knownAt (resetAll il ws i) i .place)
+unfoldable pub resetAll : Bool → Bool → List ℕ → ℕ → List ℕ
+resetAll strict il ws zero = ws
+resetAll strict il ws (suc i) = resetAt strict (resetAll strict il ws i) il (knownAt (resetAll strict il ws i) i .id .0) (knownAt (resetAll strict il ws i) i .place)
 
 -- ------------------------------------------------------------------ the call
 
@@ -118,6 +120,6 @@ unfoldable pub resetQueue : List ℕ → Called
 resetQueue ws =
     pick (roomFor ws true)
     (pick (sumOf ws .fits)
-    (called (Accepted 0) (resetAll (totalsAt ws .interleaving) (putTotals ws (withTotal (totalsAt ws) (sumOf ws .total))) (totalsAt ws .known)))
+    (called (Accepted 0) (resetAll (optionsAt ws .«strict_restart») (totalsAt ws .interleaving) (putTotals ws (withTotal (totalsAt ws) (sumOf ws .total))) (totalsAt ws .known)))
     (called (Refused 16) ws))
     (called (Refused 16) ws)

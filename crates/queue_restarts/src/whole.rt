@@ -2,7 +2,7 @@
 ghost use mathlib.Core.Path.{_≡_};
 ghost use Prim.Native.Nat.{_<_, _≤_};
 ghost use Rattle.queue_streams.specs.Settings.{called};
-ghost use Rattle.queue_restarts.specs.Reset.{putBack, sumStream, sumKnown, sumAll, wholeStream, wholeHead, resetIn, resetAt, resetAll, resetQueue};
+ghost use Rattle.queue_restarts.specs.Reset.{putBack, sumStream, sumKnown, sumAll, wholeStream, wholeItem, wholeHead, resetIn, resetAt, resetAll, resetQueue};
 use message_chains::amounts::minus;
 use message_chains::amounts::plus;
 use message_chains::amounts::remaining;
@@ -10,8 +10,10 @@ use queue_streams::answers::Call;
 use queue_streams::waiting::reschedule;
 use queue_streams::waiting::room_for;
 use queue_words::QUEUE_WORDS;
+use queue_words::header::load_options;
 use queue_words::header::load_totals;
 use queue_words::header::store_totals;
+use queue_words::items::Item;
 use queue_words::items::load_item;
 use queue_words::items::store_item;
 use queue_words::known::load_known;
@@ -103,53 +105,75 @@ fn reset_stream(s: OutgoingStream, back: u64) -> OutgoingStream
     }
 }
 
-// "puts each head message back whole, keeping its MID, SSN and FSN".
-fn whole_head(queue: &mut [u64; QUEUE_WORDS], first: usize)
-    requires { ⌜ first < 1024 ⌝ }
-    ensures { λ _. ⌜ now (queue .exit) ≡ wholeHead (now (queue .entry)) first ⌝ }
+// A message put back whole: "keeping its MID, SSN and FSN"; document 02, 6/13: "Strict reset removes the head message's MID and SSN and sets its FSN to 0."
+fn whole_item(m: Item, strict: bool) -> Item
+    ensures { λ r. ⌜ r ≡ wholeItem strict m ⌝ }
 {
-    let mut m = load_item(&*queue, first);
-    m.offset = 0;
-    store_item(queue, first, m);
+    let mut o = m;
+    o.offset = 0;
+    if strict {
+        o.mid_given = false;
+        o.mid.0 = 0;
+        o.ssn.0 = 0;
+        o.fsn.0 = 0;
+    }
+    o
+}
+
+// "puts each head message back whole".
+fn whole_head(queue: &mut [u64; QUEUE_WORDS], strict: bool, first: usize)
+    requires { ⌜ first < 1024 ⌝ }
+    ensures { λ _. ⌜ now (queue .exit) ≡ wholeHead strict (now (queue .entry)) first ⌝ }
+{
+    let m = load_item(&*queue, first);
+    let o = whole_item(m, strict);
+    store_item(queue, first, o);
 }
 
 fn reset_in(
     queue: &mut [u64; QUEUE_WORDS],
+    strict: bool,
     interleaving: bool,
     id: u16,
     place: usize,
     s: OutgoingStream,
 )
     requires { ⌜ place < 256 ⌝ }
-    ensures { λ _. ⌜ now (queue .exit) ≡ resetIn (now (queue .entry)) interleaving id place s ⌝ }
+    ensures { λ _. ⌜ now (queue .exit) ≡ resetIn strict (now (queue .entry)) interleaving id place s ⌝ }
 {
     let back = put_back(&*queue, s.first);
     let o = reset_stream(s, back);
     store_stream(queue, place, o);
     if s.first < 1024 {
-        whole_head(queue, s.first as usize);
+        whole_head(queue, strict, s.first as usize);
         reschedule(queue, interleaving, id, s.first, s.priority);
     }
 }
 
-fn reset_at(queue: &mut [u64; QUEUE_WORDS], interleaving: bool, id: u16, place: u64)
-    ensures { λ _. ⌜ now (queue .exit) ≡ resetAt (now (queue .entry)) interleaving id place ⌝ }
+fn reset_at(
+    queue: &mut [u64; QUEUE_WORDS],
+    strict: bool,
+    interleaving: bool,
+    id: u16,
+    place: u64,
+)
+    ensures { λ _. ⌜ now (queue .exit) ≡ resetAt strict (now (queue .entry)) interleaving id place ⌝ }
 {
     if place > 255 {
         return;
     }
     let s = load_stream(&*queue, place as usize);
-    reset_in(queue, interleaving, id, place as usize, s);
+    reset_in(queue, strict, interleaving, id, place as usize, s);
 }
 
-fn reset_all(queue: &mut [u64; QUEUE_WORDS], interleaving: bool, n: usize)
+fn reset_all(queue: &mut [u64; QUEUE_WORDS], strict: bool, interleaving: bool, n: usize)
     requires { ⌜ n ≤ 256 ⌝ }
-    ensures { λ _. ⌜ now (queue .exit) ≡ resetAll interleaving (now (queue .entry)) n ⌝ }
+    ensures { λ _. ⌜ now (queue .exit) ≡ resetAll strict interleaving (now (queue .entry)) n ⌝ }
 {
     let mut i = 0;
     while i < n {
         let k = load_known(&*queue, i);
-        reset_at(queue, interleaving, k.id.0, k.place);
+        reset_at(queue, strict, interleaving, k.id.0, k.place);
         i += 1;
     }
 }
@@ -163,9 +187,10 @@ pub fn reset(queue: &mut [u64; QUEUE_WORDS]) -> Call
         let mut t = load_totals(&*queue);
         let sum = sum_all(&*queue, t.total, t.known as usize);
         if sum.fits {
+            let o = load_options(&*queue);
             t.total = sum.total;
             store_totals(queue, t);
-            reset_all(queue, t.interleaving, t.known as usize);
+            reset_all(queue, o.strict_restart, t.interleaving, t.known as usize);
             return Call::Accepted(0);
         }
     }

@@ -19,7 +19,7 @@ returns-2 c =
     rw (
       ← (c .before .before .before .before .create-code .ensures),
       le-ltb _ _ (c .before .before .before .if1 .left),
-      ← (c .before .is-strict .ensures),
+      ← (c .before .before .is-strict .ensures),
       ← (c .write-new .ensures),
     )
 
@@ -29,6 +29,7 @@ create-spec =
     (tie.spec
     (λ c. search needs)
     returns
+    (λ c. search needs)
     (λ c. search needs)
     (λ c. search needs)
     returns-2)

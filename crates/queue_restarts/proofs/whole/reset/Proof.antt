@@ -9,17 +9,18 @@ sum-all-requires : tie.Need-sum-all-requires
 sum-all-requires c κs = room-fits _ _ _ _ (c .before .before .before .before .room-for .ensures) (c .before .before .before .if1 .taken) (c .before .load-totals .ensures)
 
 reset-all-requires : tie.Need-reset-all-requires
-reset-all-requires c κs = room-fits _ _ _ _ (c .before .before .before .before .before .before .before .before .before .room-for .ensures) (c .before .before .before .before .before .before .before .before .if1 .taken) (c .before .before .before .before .before .before .load-totals .ensures)
+reset-all-requires c κs = room-fits _ _ _ _ (c .before .before .before .before .before .before .before .before .before .before .before .room-for .ensures) (c .before .before .before .before .before .before .before .before .before .before .if1 .taken) (c .before .before .before .before .before .before .before .before .load-totals .ensures)
 
 returns : tie.Need-returns
 unfolding resetQueue
 returns c =
     rw (
-      ← (c .before .before .before .before .before .before .before .before .before .before .room-for .ensures),
-      (c .before .before .before .before .before .before .before .before .before .if1 .taken),
-      ← (c .before .before .before .before .before .before .before .load-totals .ensures),
-      ← (c .before .before .before .before .before .sum-all .ensures),
-      (c .before .before .before .before .if2 .taken),
+      ← (c .before .before .before .before .before .before .before .before .before .before .before .before .room-for .ensures),
+      (c .before .before .before .before .before .before .before .before .before .before .before .if1 .taken),
+      ← (c .before .before .before .before .before .before .before .before .before .load-totals .ensures),
+      ← (c .before .before .before .before .before .before .before .sum-all .ensures),
+      (c .before .before .before .before .before .before .if2 .taken),
+      ← (c .before .before .before .before .load-options .ensures),
       ← (c .before .before .store-totals .ensures),
       ← (c .reset-all .ensures),
     )
@@ -50,6 +51,7 @@ reset-spec =
     (λ c κs. search needs)
     (λ c κs. search needs)
     sum-all-requires
+    (λ c κs. search needs)
     (λ c κs. search needs)
     reset-all-requires
     returns

@@ -9,22 +9,22 @@ use Rattle.queue_restarts.proofs.whole.reset_all.Statement.{statement}
 use Rattle.queue_restarts.proofs.whole.reset_all.Tie as tie
 
 abbrev Inv-loop : tie.InvT-loop
-Inv-loop queue₀ interleaving n i₀ queue i = (i ≤ n) × (queue ≡ resetAll interleaving queue₀ i)
+Inv-loop queue₀ strict interleaving n i₀ queue i = (i ≤ n) × (queue ≡ resetAll strict interleaving queue₀ i)
 
 abbrev μ-loop : tie.MeasureT-loop
-μ-loop queue₀ interleaving n i₀ queue i = n - i
+μ-loop queue₀ strict interleaving n i₀ queue i = n - i
 
 loop-holds : tie.Need-loop-holds Inv-loop μ-loop
-loop-holds c = (omega arith, reset-start _ _)
+loop-holds c = (omega arith, reset-start _ _ _)
 
 load-known-requires : tie.Need-load-known-requires Inv-loop μ-loop
 load-known-requires c κs = omega (arith, (c .before .before .before .pre))
 
 loop-again : tie.Need-loop-again Inv-loop μ-loop
-loop-again c = (omega arith, reset-next _ _ _ _ _ _ ((c .before .before .before .before .before .loop .inv) .1) (c .before .before .load-known .ensures) (c .reset-at .ensures))
+loop-again c = (omega arith, reset-next _ _ _ _ _ _ _ ((c .before .before .before .before .before .loop .inv) .1) (c .before .before .load-known .ensures) (c .reset-at .ensures))
 
 returns : tie.Need-returns Inv-loop μ-loop
-returns c = reset-end _ _ _ _ _ ((c .before .loop .inv) .1) ((c .before .loop .inv) .0) (c .loop-test .left)
+returns c = reset-end _ _ _ _ _ _ ((c .before .loop .inv) .1) ((c .before .loop .inv) .0) (c .loop-test .left)
 
 pub reset-all-spec : {M : Type 1} → statement M
 reset-all-spec = tie.close (tie.spec Inv-loop μ-loop loop-holds load-known-requires (λ c κs. search needs) (λ c. omega arith) (λ c. omega arith) loop-again returns)

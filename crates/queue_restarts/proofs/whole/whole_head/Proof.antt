@@ -8,7 +8,8 @@ returns : tie.Need-returns
 unfolding wholeHead
 returns c =
     rw (
-      ← (c .before .before .load-item .ensures),
+      ← (c .before .before .before .load-item .ensures),
+      ← (c .before .before .whole-item .ensures),
       ← (c .store-item .ensures),
     )
 
@@ -16,6 +17,7 @@ pub whole-head-spec : {M : Type 1} → statement M
 whole-head-spec =
     tie.close
     (tie.spec
+    (λ c. search needs)
     (λ c. search needs)
     (λ c. search needs)
     returns)
