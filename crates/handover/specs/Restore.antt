@@ -21,7 +21,7 @@ restoreCode ws len time bs =
     (pick (ltb 4611686018427387903 time) 4
     (pick (ltb 0 (totalsAt ws .known)) 12
     (pick (ltb 0 (totalsAt ws .«next_message_id» .0)) 12
-    (imageCode bs (optionsAt ws .«default_priority») len))))
+    (imageCode (optionsAt ws .«strict_restart») bs (optionsAt ws .«default_priority») len))))
     2
 
 -- every stream with messages then waits; more than 256 of them, which cannot be, are passed over

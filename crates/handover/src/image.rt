@@ -31,7 +31,7 @@ fn restore_code(queue: &[u64; QUEUE_WORDS], len: u64, time: u64, image: &[u8]) -
         if t.next_message_id.0 > 0 {
             return 12;
         }
-        return image_code(image, o.default_priority, len);
+        return image_code(image, o.strict_restart, o.default_priority, len);
     }
     2
 }

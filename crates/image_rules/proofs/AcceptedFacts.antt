@@ -22,7 +22,7 @@ use Rattle.image_rules.specs.Code.{rulesKept, amountsFit, imageCode}
 use Rattle.image_rules.proofs.StreamFacts.{ids-of}
 use Rattle.image_rules.proofs.Loops.{first-right}
 use Rattle.image_rules.proofs.OneByOne.{place-zero}
-use Rattle.image_rules.proofs.Kept.{Kept, kept}
+use Rattle.image_rules.proofs.Kept.{Kept, kept, earlyIn, kept-both}
 
 -- ------------------------------------------------------------------ message records
 
@@ -153,10 +153,11 @@ amounts-facts bs t len e =
       all-streams-few = ltb-false 256 (t .streams + newStreams bs (t .streams) (t .«streams_size») 0 (t .messages)) (f .0);
     }
 
--- All of an image with the trailer t that is accepted by a queue of default priority d with a store of len bytes.
-pub record Accepted (bs : List ℕ) (t : Trailer) (d len : ℕ) : Type 0 where
+-- All of an image with the trailer t that is accepted by a queue of default priority d with a store of len bytes, strict or not.
+pub record Accepted (strict : Bool) (bs : List ℕ) (t : Trailer) (d len : ℕ) : Type 0 where
   pub long : 20 ≤ length bs
   pub rules : Kept bs t
+  pub none-early : earlyIn strict bs t ≡ false
   pub priority : t .«default_priority» ≡ d
   pub amounts : AmountsFacts bs t len
   pub stream-inside : (k : ℕ) → k < t .streams → 14 * k + 14 ≤ length bs
@@ -166,10 +167,11 @@ pub record Accepted (bs : List ℕ) (t : Trailer) (d len : ℕ) : Type 0 where
   pub bytes-so-far : (k : ℕ) → k < t .messages → payloadBytes bs (t .«streams_size») k + messageAt bs (messagePlace bs (t .«streams_size») k) .length ≤ len
   pub streams-so-far : (k : ℕ) → k ≤ t .messages → t .streams + newStreams bs (t .streams) (t .«streams_size») 0 k ≤ 256
 
-all-facts : (bs : List ℕ) (t : Trailer) (d len : ℕ) → 20 ≤ length bs → Kept bs t → t .«default_priority» ≡ d → AmountsFacts bs t len → Accepted bs t d len
-all-facts bs t d len h r p a = record {
+all-facts : (strict : Bool) (bs : List ℕ) (t : Trailer) (d len : ℕ) → 20 ≤ length bs → Kept bs t → earlyIn strict bs t ≡ false → t .«default_priority» ≡ d → AmountsFacts bs t len → Accepted strict bs t d len
+all-facts strict bs t d len h r n p a = record {
   long = h;
   rules = r;
+  none-early = n;
   priority = p;
   amounts = a;
   stream-inside = λ k l. omega (arith, l, r .trailer .fills, r .trailer .whole);
@@ -183,14 +185,15 @@ all-facts bs t d len h r p a = record {
     message : (k : ℕ) → k < t .messages → PlaceFacts bs (t .«streams_size») (t .«streams_size» + t .«messages_size») (leastAt bs (t .«streams_size») 0 k) (messagePlace bs (t .«streams_size») k)
     message k l = place-facts bs (t .messages) (t .«streams_size») (t .«messages_size») 0 k (r .messages) l
 
-pub accepted-facts : (bs : List ℕ) (d len : ℕ) → imageCode bs d len ≡ 0 → Accepted bs (trailerIn bs) d len
+pub accepted-facts : (strict : Bool) (bs : List ℕ) (d len : ℕ) → imageCode strict bs d len ≡ 0 → Accepted strict bs (trailerIn bs) d len
 unfolding imageCode
-accepted-facts bs d len e =
+accepted-facts strict bs d len e =
     let a = pick-else (ltb (length bs) 20) 13 _ 0 (λ z. omega (arith, z)) e in
-    let b = then-zero (rulesKept bs (trailerIn bs)) _ 13 (omega arith) (a .1) in
+    let b = then-zero (rulesKept strict bs (trailerIn bs)) _ 13 (omega arith) (a .1) in
     let c = then-zero (eqb (trailerIn bs .«default_priority») d) _ 14 (omega arith) (b .1) in
     let f = then-zero (amountsFit bs (trailerIn bs) len) 0 15 (omega arith) (c .1) in
-    all-facts bs (trailerIn bs) d len (ltb-false (length bs) 20 (a .0)) (kept bs (trailerIn bs) (b .0)) (eqb-true (trailerIn bs .«default_priority») d (c .0)) (amounts-facts bs (trailerIn bs) len (f .0))
+    let r = kept-both strict bs (trailerIn bs) (b .0) in
+    all-facts strict bs (trailerIn bs) d len (ltb-false (length bs) 20 (a .0)) (kept bs (trailerIn bs) (r .0)) (r .1) (eqb-true (trailerIn bs .«default_priority») d (c .0)) (amounts-facts bs (trailerIn bs) len (f .0))
   where
     then-zero : (t : Bool) (x y : ℕ) → 0 < y → pick t x y ≡ 0 → (t ≡ true) × (x ≡ 0)
     then-zero true x y h e = (refl, e)

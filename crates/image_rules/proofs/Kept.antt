@@ -1,19 +1,21 @@
 -- What an image that keeps the rules says. Assumes nothing.
-use mathlib.Core.Path.{_≡_, sym, _∙_}
-use mathlib.Core.Bool.{Bool, true}
+use mathlib.Core.Path.{_≡_, refl, sym, _∙_}
+use mathlib.Core.Bool.{Bool, true, false, not}
 use mathlib.Core.List.{List}
 use Prim.Native.Nat.{ℕ, _+_, _*_, _≤_}
 use native.Mathlib.Omega.{arith}
 use borrow.Author.Tests.{eqb-true}
 use lib.Dec.{eqb}
 use lib.ListN.{length}
+use Rattle.queue_words.specs.Flags.{pick}
 use Rattle.payload_store.proofs.Cases.{pick-both}
 use Rattle.handover_records.specs.declared.records.Trailer.{Trailer}
 use Rattle.image_rules.specs.Trailers.{trailerRight}
 use Rattle.image_rules.specs.Streams.{streamsRight}
-use Rattle.image_rules.specs.Messages.{messagesRight}
+use Rattle.image_rules.specs.Messages.{messagesRight, anyEarly, messagesKept}
 use Rattle.image_rules.specs.Cursor.{IdsRise}
 use Rattle.image_rules.specs.Code.{rulesKept}
+use Rattle.image_rules.proofs.Early.{never-early, kept-right}
 use Rattle.image_rules.proofs.StreamFacts.{ids-of}
 
 -- "All must agree and fill the image."
@@ -35,12 +37,41 @@ pub record Kept (bs : List ℕ) (t : Trailer) : Type 0 where
   pub streams : streamsRight bs (t .«default_priority») 0 0 (t .streams) ≡ true
   pub messages : messagesRight bs (t .«streams_size») (t .«messages_size») 0 (t .messages) ≡ true
 
-pub kept : (bs : List ℕ) (t : Trailer) → rulesKept bs t ≡ true → Kept bs t
+pub kept : (bs : List ℕ) (t : Trailer) → rulesKept false bs t ≡ true → Kept bs t
 unfolding rulesKept
 kept bs t e =
     let a = pick-both (trailerRight t (length bs)) _ e in
     let b = pick-both (streamsRight bs (t .«default_priority») 0 0 (t .streams)) _ (a .1) in
-    record { trailer = agrees t (length bs) (a .0); streams = b .0; messages = b .1 }
+    record { trailer = agrees t (length bs) (a .0); streams = b .0; messages = sym (kept-right bs (t .«streams_size») (t .«messages_size») 0 (t .messages)) ∙ b .1 }
+
+-- ---- the strict rule
+
+-- Whether one of its messages has an early MID.
+abbrev pub earlyIn : Bool → List ℕ → Trailer → Bool
+earlyIn strict bs t = anyEarly strict bs (t .«streams_size») (t .messages)
+
+-- The strict rule asks for document 01's rules, and that no MID is early.
+pub kept-apart : (strict : Bool) (bs : List ℕ) (t : Trailer) → rulesKept strict bs t ≡ pick (rulesKept false bs t) (not (earlyIn strict bs t)) false
+unfolding rulesKept messagesKept
+kept-apart strict bs t =
+    rw (never-early bs (t .«streams_size») (t .messages))
+    (go (trailerRight t (length bs)) (streamsRight bs (t .«default_priority») 0 0 (t .streams)) (messagesRight bs (t .«streams_size») (t .«messages_size») 0 (t .messages)) (earlyIn strict bs t))
+  where
+    go : (a b c e : Bool) → pick a (pick b (pick c (not e) false) false) false ≡ pick (pick a (pick b (pick c true false) false) false) (not e) false
+    go true true true e = refl
+    go true true false e = refl
+    go true false c e = refl
+    go false b c e = refl
+
+-- Rules that are kept for a queue of any rule: document 01's are, and no MID is early.
+pub kept-both : (strict : Bool) (bs : List ℕ) (t : Trailer) → rulesKept strict bs t ≡ true → (rulesKept false bs t ≡ true) × (earlyIn strict bs t ≡ false)
+kept-both strict bs t e =
+    let a = pick-both (rulesKept false bs t) (not (earlyIn strict bs t)) (sym (kept-apart strict bs t) ∙ e) in
+    (a .0, not-true (earlyIn strict bs t) (a .1))
+  where
+    not-true : (b : Bool) → not b ≡ true → b ≡ false
+    not-true true e = sym e
+    not-true false e = refl
 
 -- ---- the parts lie in the image
 
@@ -59,11 +90,11 @@ messages-lie t size r e h = messages-inside t size (agrees t size (sym e ∙ h))
 
 -- ---- what the sums over its messages need
 
-pub bytes-need : (bs : List ℕ) (t : Trailer) → rulesKept bs t ≡ true → t .messages ≤ 1024
+pub bytes-need : (bs : List ℕ) (t : Trailer) → rulesKept false bs t ≡ true → t .messages ≤ 1024
     → (t .«streams_size» + t .«messages_size» ≤ length bs) × (t .messages ≤ 65535) × (messagesRight bs (t .«streams_size») (t .«messages_size») 0 (t .messages) ≡ true)
 bytes-need bs t e h = let k = kept bs t e in (messages-inside t (length bs) (k .trailer), omega (arith, h), k .messages)
 
-pub streams-need : (bs : List ℕ) (t : Trailer) → rulesKept bs t ≡ true → t .messages ≤ 1024
+pub streams-need : (bs : List ℕ) (t : Trailer) → rulesKept false bs t ≡ true → t .messages ≤ 1024
     → (14 * t .streams ≤ length bs) × IdsRise bs (t .streams) × (t .«streams_size» + t .«messages_size» ≤ length bs) × (t .messages ≤ 65535)
     × (messagesRight bs (t .«streams_size») (t .«messages_size») 0 (t .messages) ≡ true)
 streams-need bs t e h =

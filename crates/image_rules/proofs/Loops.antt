@@ -1,5 +1,5 @@
 -- The loops over the records, over plain values: a callee's result is a variable, what it ensures a hypothesis. Assumes nothing.
-use mathlib.Core.Path.{_≡_, refl, sym, _∙_, subst}
+use mathlib.Core.Path.{_≡_, refl, sym, ap, _∙_, subst}
 use mathlib.Core.Bool.{Bool, true, false}
 use mathlib.Core.List.{List}
 use Prim.Native.Nat.{ℕ, zero, suc, _+_, _-_, _≤_, _<_}
@@ -14,8 +14,9 @@ use Rattle.handover_records.specs.Records.{streamAt, messageAt}
 use Rattle.handover_records.specs.declared.records.HandoverOutgoingStream.{HandoverOutgoingStream}
 use Rattle.handover_records.specs.declared.records.HandoverStreamMessage.{HandoverStreamMessage}
 use Rattle.image_rules.specs.Streams.{isPlain, streamsRight, named}
-use Rattle.image_rules.specs.Messages.{messageRight, messagesRight}
+use Rattle.image_rules.specs.Messages.{messageRight, messagesRight, messageKept, messagesKept}
 use Rattle.image_rules.specs.Amounts.{payloadBytes, oneNew, newStreams}
+use Rattle.image_rules.proofs.Early.{keptFrom, kept-none, kept-step}
 
 -- ------------------------------------------------------------------ stream records
 
@@ -51,50 +52,39 @@ module _ (bs : List ℕ) (d n : ℕ) where
 
 -- ------------------------------------------------------------------ message records
 
-module _ (bs : List ℕ) (start size n : ℕ) where
-  pub messages-start : messagesRight bs start size 0 n ≡ messagesRight bs start size 0 (n - 0)
+module _ (strict : Bool) (bs : List ℕ) (start size n : ℕ) where
+  pub messages-start : messagesKept strict bs start size 0 n ≡ messagesKept strict bs start size 0 (n - 0)
   messages-start = rw sub-zero
 
-  module _ (at left least i : ℕ) (inv : messagesRight bs start size 0 n ≡ messagesRight bs at left least (n - i)) where
+  module _ (at left least i : ℕ) (inv : messagesKept strict bs start size 0 n ≡ messagesKept strict bs at left least (n - i)) where
     module _ (h : i < n) where
-      pub messages-short : left < 44 → false ≡ messagesRight bs start size 0 n
-      unfolding messagesRight
-      messages-short l =
+      step : messagesKept strict bs start size 0 n ≡ keptFrom strict bs at left least (n - (i + 1))
+      step =
           let e : n - i ≡ suc (n - (i + 1)) = omega arith in
-          sym (inv ∙ rw (e, lt-ltb _ _ l))
+          inv ∙ ap (messagesKept strict bs at left least) e ∙ kept-step strict bs at left least (n - (i + 1))
+
+      pub messages-short : left < 44 → false ≡ messagesKept strict bs start size 0 n
+      messages-short l = sym (step ∙ rw (lt-ltb _ _ l))
 
       module _ (l : 44 ≤ left) (m : HandoverStreamMessage) (em : m ≡ messageAt bs at) where
-        pub messages-over : left - 44 < m .length → false ≡ messagesRight bs start size 0 n
-        unfolding messagesRight
-        messages-over g =
-            let e : n - i ≡ suc (n - (i + 1)) = omega arith in
-            sym (inv ∙ rw (e, le-ltb _ _ l, ← em, lt-ltb _ _ g))
+        pub messages-over : left - 44 < m .length → false ≡ messagesKept strict bs start size 0 n
+        messages-over g = sym (step ∙ rw (le-ltb _ _ l, ← em, lt-ltb _ _ g))
 
         module _ (f : m .length ≤ left - 44) where
-          pub messages-low : m .id + 1 < least → false ≡ messagesRight bs start size 0 n
-          unfolding messagesRight
-          messages-low g =
-              let e : n - i ≡ suc (n - (i + 1)) = omega arith in
-              sym (inv ∙ rw (e, le-ltb _ _ l, ← em, le-ltb _ _ f, lt-ltb _ _ g))
+          pub messages-low : m .id + 1 < least → false ≡ messagesKept strict bs start size 0 n
+          messages-low g = sym (step ∙ rw (le-ltb _ _ l, ← em, le-ltb _ _ f, lt-ltb _ _ g))
 
-          module _ (g : least ≤ m .id + 1) (r : Bool) (er : r ≡ messageRight m (leb least (m .id))) where
-            pub messages-wrong : r ≡ false → false ≡ messagesRight bs start size 0 n
-            unfolding messagesRight
-            messages-wrong w =
-                let e : n - i ≡ suc (n - (i + 1)) = omega arith in
-                sym (inv ∙ rw (e, le-ltb _ _ l, ← em, le-ltb _ _ f, le-ltb _ _ g, ← er, w))
+          module _ (g : least ≤ m .id + 1) (r : Bool) (er : r ≡ messageKept strict m (leb least (m .id))) where
+            pub messages-wrong : r ≡ false → false ≡ messagesKept strict bs start size 0 n
+            messages-wrong w = sym (step ∙ rw (le-ltb _ _ l, ← em, le-ltb _ _ f, le-ltb _ _ g, ← er, w))
 
-            pub messages-next : r ≡ true → messagesRight bs start size 0 n ≡ messagesRight bs (at + 44 + m .length) (left - 44 - m .length) (m .id + 1) (n - (i + 1))
-            unfolding messagesRight
-            messages-next w =
-                let e : n - i ≡ suc (n - (i + 1)) = omega arith in
-                inv ∙ rw (e, le-ltb _ _ l, ← em, le-ltb _ _ f, le-ltb _ _ g, ← er, w)
+            pub messages-next : r ≡ true → messagesKept strict bs start size 0 n ≡ messagesKept strict bs (at + 44 + m .length) (left - 44 - m .length) (m .id + 1) (n - (i + 1))
+            messages-next w = step ∙ rw (le-ltb _ _ l, ← em, le-ltb _ _ f, le-ltb _ _ g, ← er, w)
 
-    pub messages-end : n ≤ i → eqb left 0 ≡ messagesRight bs start size 0 n
-    unfolding messagesRight
+    pub messages-end : n ≤ i → eqb left 0 ≡ messagesKept strict bs start size 0 n
     messages-end g =
         let e : n - i ≡ 0 = omega arith in
-        sym (inv ∙ rw e)
+        sym (inv ∙ ap (messagesKept strict bs at left least) e ∙ kept-none strict bs at left least)
 
 -- ------------------------------------------------------------------ what right message records say
 

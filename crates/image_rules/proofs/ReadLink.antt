@@ -1,6 +1,6 @@
--- Reading an image by the model, and its code: 13 exactly where nothing is read, and what is read stands by position. Assumes nothing.
+-- Reading an image by the model, and its code: 13 where nothing is read, by the Rust's rule nowhere else, and what is read stands by position. Assumes nothing.
 use mathlib.Core.Path.{_≡_, refl, sym, ap, ap₂, _∙_, subst}
-use mathlib.Core.Bool.{Bool, true, false, _&&_}
+use mathlib.Core.Bool.{Bool, true, false, not, _&&_}
 use mathlib.Core.List.{List, [], _∷_}
 use mathlib.Core.Option.{Option, none, some}
 use Prim.Native.Nat.{ℕ, _+_, _-_, _*_}
@@ -22,7 +22,8 @@ use Rattle.image_rules.specs.Trailers.{trailerIn, trailerRight}
 use Rattle.image_rules.specs.Streams.{streamsRight}
 use Rattle.image_rules.specs.Messages.{messagesRight}
 use Rattle.image_rules.specs.Code.{rulesKept, amountsFit, imageCode}
-use Rattle.image_rules.proofs.Kept.{Agrees, agrees, messages-inside}
+use Rattle.image_rules.proofs.Early.{never-early, kept-right}
+use Rattle.image_rules.proofs.Kept.{Agrees, agrees, earlyIn, kept-apart, messages-inside}
 use Rattle.image_rules.proofs.StreamLink.{streamsOn, on-read, from-id, right-same, streams-read}
 use Rattle.image_rules.proofs.MessageLink.{right-from, all-right-same, judged, none-some, part, messages-judged}
 
@@ -37,9 +38,9 @@ handoverAt bs = record {
   messages = messagesFrom bs (trailerIn bs .«streams_size») (trailerIn bs .messages);
 }
 
--- Whether an image keeps all rules.
+-- Whether an image keeps all rules of document 01.
 unfoldable pub imageRight : List ℕ → Bool
-imageRight bs = pick (ltb (length bs) 20) false (rulesKept bs (trailerIn bs))
+imageRight bs = pick (ltb (length bs) 20) false (rulesKept false bs (trailerIn bs))
 
 -- ------------------------------------------------------------------ the stream records
 
@@ -131,22 +132,24 @@ parts-right bs a =
     (messages-judged bs (trailerIn bs .messages) (trailerIn bs .«streams_size») (trailerIn bs .«messages_size») 0 (messages-inside (trailerIn bs) (length bs) a))
     ∙ ap (λ h. pick (partsRight bs) (some h) none) (holding-all bs)
 
-kept-is : (bs : List ℕ) (t : Trailer) → rulesKept bs t
+kept-is : (bs : List ℕ) (t : Trailer) → rulesKept false bs t
     ≡ pick (trailerRight t (length bs)) (streamsRight bs (t .«default_priority») 0 0 (t .streams) && messagesRight bs (t .«streams_size») (t .«messages_size») 0 (t .messages)) false
 unfolding rulesKept
-kept-is bs t = ap (λ b. pick (trailerRight t (length bs)) b false) (go (streamsRight bs (t .«default_priority») 0 0 (t .streams)) (messagesRight bs (t .«streams_size») (t .«messages_size») 0 (t .messages)))
+kept-is bs t =
+    rw (kept-right bs (t .«streams_size») (t .«messages_size») 0 (t .messages))
+    (ap (λ b. pick (trailerRight t (length bs)) b false) (go (streamsRight bs (t .«default_priority») 0 0 (t .streams)) (messagesRight bs (t .«streams_size») (t .«messages_size») 0 (t .messages))))
   where
     go : (a b : Bool) → pick a b false ≡ (a && b)
     go true b = refl
     go false b = refl
 
-parts-read : (bs : List ℕ) → read-parts (rowIn bs) bs ≡ pick (rulesKept bs (trailerIn bs)) (some (handoverAt bs)) none
+parts-read : (bs : List ℕ) → read-parts (rowIn bs) bs ≡ pick (rulesKept false bs (trailerIn bs)) (some (handoverAt bs)) none
 unfolding only-if
 parts-read bs = parts-of bs ∙ ap (λ b. only-if b (partsIn bs)) (trailer-same bs) ∙ go (trailerRight (trailerIn bs) (length bs)) refl
   where
     go : (b : Bool) → trailerRight (trailerIn bs) (length bs) ≡ b
         → only-if b (partsIn bs)
-        ≡ pick (rulesKept bs (trailerIn bs)) (some (handoverAt bs)) none
+        ≡ pick (rulesKept false bs (trailerIn bs)) (some (handoverAt bs)) none
     go true e = parts-right bs (agrees (trailerIn bs) (length bs) e) ∙ sym (ap (λ b. pick b (some (handoverAt bs)) none) (kept-is bs (trailerIn bs) ∙ ap (λ b. pick b (partsRight bs) false) e))
     go false e = sym (ap (λ b. pick b (some (handoverAt bs)) none) (kept-is bs (trailerIn bs) ∙ ap (λ b. pick b (partsRight bs) false) e))
 
@@ -162,29 +165,38 @@ read-is bs = image-of bs ∙ by-lt (length bs) 20
     (λ h. rw (lt-leb 20 (length bs) h, lt-ltb (length bs) 20 h))
     (λ h. rw (le-leb 20 (length bs) h, le-ltb (length bs) 20 h) (parts-read bs))
 
--- The answer of an image that keeps the rules.
+-- The answer of an image that keeps the rules of its queue.
 unfoldable pub rightCode : List ℕ → ℕ → ℕ → ℕ
 rightCode bs d len = pick (eqb (trailerIn bs .«default_priority») d) (pick (amountsFit bs (trailerIn bs) len) 0 15) 14
 
-pub code-is : (bs : List ℕ) (d len : ℕ) → imageCode bs d len ≡ pick (imageRight bs) (rightCode bs d len) 13
+-- By document 01's rules, then by the strict one.
+pub code-is : (strict : Bool) (bs : List ℕ) (d len : ℕ) → imageCode strict bs d len ≡ pick (imageRight bs) (pick (earlyIn strict bs (trailerIn bs)) 13 (rightCode bs d len)) 13
 unfolding imageCode imageRight rightCode
-code-is bs d len = go (ltb (length bs) 20) (rulesKept bs (trailerIn bs)) (pick (eqb (trailerIn bs .«default_priority») d) (pick (amountsFit bs (trailerIn bs) len) 0 15) 14)
+code-is strict bs d len =
+    rw (kept-apart strict bs (trailerIn bs))
+    (go (ltb (length bs) 20) (rulesKept false bs (trailerIn bs)) (earlyIn strict bs (trailerIn bs)) (pick (eqb (trailerIn bs .«default_priority») d) (pick (amountsFit bs (trailerIn bs) len) 0 15) 14))
   where
-    go : (a b : Bool) (n : ℕ) → pick a 13 (pick b n 13) ≡ pick (pick a false b) n 13
-    go true b n = refl
-    go false b n = refl
+    go : (a b e : Bool) (n : ℕ) → pick a 13 (pick (pick b (not e) false) n 13) ≡ pick (pick a false b) (pick e 13 n) 13
+    go true b e n = refl
+    go false true true n = refl
+    go false true false n = refl
+    go false false e n = refl
+
+-- A queue of the Rust's rule.
+rust-code : (bs : List ℕ) (d len : ℕ) → imageCode false bs d len ≡ pick (imageRight bs) (rightCode bs d len) 13
+rust-code bs d len = code-is false bs d len ∙ ap (λ e. pick (imageRight bs) (pick e 13 (rightCode bs d len)) 13) (never-early bs (trailerIn bs .«streams_size») (trailerIn bs .messages))
 
 -- Not 13: the rules are kept.
-pub right-of : (bs : List ℕ) (d len : ℕ) → (imageCode bs d len ≡ 13 → ⊥) → imageRight bs ≡ true
-right-of bs d len n = go (imageRight bs) refl
+pub right-of : (strict : Bool) (bs : List ℕ) (d len : ℕ) → (imageCode strict bs d len ≡ 13 → ⊥) → imageRight bs ≡ true
+right-of strict bs d len n = go (imageRight bs) refl
   where
     go : (b : Bool) → imageRight bs ≡ b → imageRight bs ≡ true
     go true e = e
-    go false e = absurd (n (code-is bs d len ∙ ap (λ b. pick b (rightCode bs d len) 13) e))
+    go false e = absurd (n (code-is strict bs d len ∙ ap (λ b. pick b (pick (earlyIn strict bs (trailerIn bs)) 13 (rightCode bs d len)) 13) e))
 
-pub wrong-of : (bs : List ℕ) (d len : ℕ) → imageCode bs d len ≡ 13 → imageRight bs ≡ false
+pub wrong-of : (bs : List ℕ) (d len : ℕ) → imageCode false bs d len ≡ 13 → imageRight bs ≡ false
 unfolding rightCode
-wrong-of bs d len e = go (imageRight bs) refl (eqb (trailerIn bs .«default_priority») d) (amountsFit bs (trailerIn bs) len) (sym (code-is bs d len) ∙ e)
+wrong-of bs d len e = go (imageRight bs) refl (eqb (trailerIn bs .«default_priority») d) (amountsFit bs (trailerIn bs) len) (sym (rust-code bs d len) ∙ e)
   where
     go : (b : Bool) → imageRight bs ≡ b → (p a : Bool) → _≡_ {A = ℕ} (pick b (pick p (pick a 0 15) 14) 13) 13 → imageRight bs ≡ false
     go false f p a e = f
@@ -203,30 +215,30 @@ pub handover-read : (bs : List ℕ) → Read bs (handoverAt bs)
 unfolding handoverAt
 handover-read bs = record { next-is = refl; priority-is = refl; streams-are = refl; messages-are = refl }
 
--- 13 exactly where the model reads nothing; else it reads what stands there.
+-- By the Rust's rule 13 exactly where the model reads nothing; else, by any rule, it reads what stands there.
 pub record ImageRead (bs : List ℕ) (d len : ℕ) : Type 0 where
-  pub broken : imageCode bs d len ≡ 13 → read-image bs ≡ none
-  pub whole : (imageCode bs d len ≡ 13 → ⊥) → read-image bs ≡ some (handoverAt bs)
-  pub none-broken : read-image bs ≡ none → imageCode bs d len ≡ 13
-  pub some-whole : (h : Handover) → read-image bs ≡ some h → (imageCode bs d len ≡ 13 → ⊥) × Read bs h
+  pub broken : imageCode false bs d len ≡ 13 → read-image bs ≡ none
+  pub whole : (strict : Bool) → (imageCode strict bs d len ≡ 13 → ⊥) → read-image bs ≡ some (handoverAt bs)
+  pub none-broken : (strict : Bool) → read-image bs ≡ none → imageCode strict bs d len ≡ 13
+  pub some-whole : (h : Handover) → read-image bs ≡ some h → (imageCode false bs d len ≡ 13 → ⊥) × Read bs h
 
 pub image-read : (bs : List ℕ) (d len : ℕ) → ImageRead bs d len
 image-read bs d len = record { broken = broken; whole = whole; none-broken = none-broken; some-whole = some-whole }
   where
-    broken : imageCode bs d len ≡ 13 → read-image bs ≡ none
+    broken : imageCode false bs d len ≡ 13 → read-image bs ≡ none
     broken e = read-is bs ∙ ap (λ b. pick b (some (handoverAt bs)) none) (wrong-of bs d len e)
 
-    whole : (imageCode bs d len ≡ 13 → ⊥) → read-image bs ≡ some (handoverAt bs)
-    whole n = read-is bs ∙ ap (λ b. pick b (some (handoverAt bs)) none) (right-of bs d len n)
+    whole : (strict : Bool) → (imageCode strict bs d len ≡ 13 → ⊥) → read-image bs ≡ some (handoverAt bs)
+    whole strict n = read-is bs ∙ ap (λ b. pick b (some (handoverAt bs)) none) (right-of strict bs d len n)
 
-    none-broken : read-image bs ≡ none → imageCode bs d len ≡ 13
-    none-broken e = code-is bs d len ∙ go (imageRight bs) (sym (read-is bs) ∙ e)
+    none-broken : (strict : Bool) → read-image bs ≡ none → imageCode strict bs d len ≡ 13
+    none-broken strict e = code-is strict bs d len ∙ go (imageRight bs) (sym (read-is bs) ∙ e)
       where
-        go : (b : Bool) → pick b (some (handoverAt bs)) none ≡ none → pick b (rightCode bs d len) 13 ≡ 13
+        go : (b : Bool) → pick b (some (handoverAt bs)) none ≡ none → pick b (pick (earlyIn strict bs (trailerIn bs)) 13 (rightCode bs d len)) 13 ≡ 13
         go true e = none-some (handoverAt bs) (sym e)
         go false e = refl
 
-    some-whole : (h : Handover) → read-image bs ≡ some h → (imageCode bs d len ≡ 13 → ⊥) × Read bs h
+    some-whole : (h : Handover) → read-image bs ≡ some h → (imageCode false bs d len ≡ 13 → ⊥) × Read bs h
     some-whole h e = (λ c. none-some h (sym (broken c) ∙ e), go (imageRight bs) (sym (read-is bs) ∙ e))
       where
         go : (b : Bool) → pick b (some (handoverAt bs)) none ≡ some h → Read bs h

@@ -1,6 +1,6 @@
--- The rules of the message records. Document 01, "The changeover image". Assumes nothing.
+-- The rules of the message records. Document 01, "The changeover image"; document 02, 6/13, for a queue of the strict rule. Assumes nothing.
 use Prim.Native.Nat.{ℕ, zero, suc, _+_, _-_, _/_, _%_}
-use mathlib.Core.Bool.{Bool, true, false}
+use mathlib.Core.Bool.{Bool, true, false, not}
 use mathlib.Core.List.{List}
 use lib.Dec.{eqb, ltb, leb}
 use Rattle.queue_words.specs.Flags.{pick}
@@ -48,3 +48,22 @@ messagesRight bs at left least (suc n) =
     (pick (ltb (messageAt bs at .id + 1) least) false
     (pick (messageRight (messageAt bs at) (leb least (messageAt bs at .id)))
     (messagesRight bs (at + 44 + messageAt bs at .length) (left - 44 - messageAt bs at .length) (messageAt bs at .id + 1) n) false)))
+
+-- ------------------------------------------------------------------ the strict rule
+
+-- 13. Document 02, 6/13: "Strict restoring answers 13 also to a MID on a message at offset 0."
+unfoldable pub midEarly : Bool → HandoverStreamMessage → Bool
+midEarly strict m = pick strict (pick (eqb (m .flags / 2 % 2) 1) (eqb (m .offset) 0) false) false
+
+-- Whether one of n records from `at` on has such a MID.
+unfoldable pub anyEarly : Bool → List ℕ → ℕ → ℕ → Bool
+anyEarly strict bs at zero = false
+anyEarly strict bs at (suc n) = pick (midEarly strict (messageAt bs at)) true (anyEarly strict bs (at + 44 + messageAt bs at .length) n)
+
+-- The rules of one message record for a queue that is strict or not.
+unfoldable pub messageKept : Bool → HandoverStreamMessage → Bool → Bool
+messageKept strict m head = pick (midEarly strict m) false (messageRight m head)
+
+-- The rules of the message records for such a queue.
+unfoldable pub messagesKept : Bool → List ℕ → ℕ → ℕ → ℕ → ℕ → Bool
+messagesKept strict bs at left least n = pick (messagesRight bs at left least n) (not (anyEarly strict bs at n)) false

@@ -1,6 +1,6 @@
 // What an image's messages need, and the answer to the image.
 ghost use mathlib.Core.Path.{_≡_};
-ghost use mathlib.Core.Bool.{true};
+ghost use mathlib.Core.Bool.{true, false};
 ghost use Prim.Native.Nat.{_+_, _*_, _≤_};
 ghost use lib.ListN.{length};
 ghost use Rattle.image_rules.specs.Messages.{messagesRight};
@@ -111,9 +111,9 @@ fn new_streams(image: &[u8], records: usize, start: usize, size: usize, n: usize
     sum
 }
 
-// Whether the image keeps all rules.
-fn rules_kept(image: &[u8], t: Trailer) -> bool
-    ensures { λ r. ⌜ r ≡ rulesKept (now (image .entry)) t ⌝ }
+// Whether the image keeps all rules, for a queue that is strict or not.
+fn rules_kept(image: &[u8], t: Trailer, strict: bool) -> bool
+    ensures { λ r. ⌜ r ≡ rulesKept strict (now (image .entry)) t ⌝ }
 {
     let agrees = trailer_right(t, image.len());
     if agrees {
@@ -124,6 +124,7 @@ fn rules_kept(image: &[u8], t: Trailer) -> bool
                 t.streams_size as usize,
                 t.messages_size as usize,
                 t.messages as usize,
+                strict,
             );
         }
         return false;
@@ -131,9 +132,9 @@ fn rules_kept(image: &[u8], t: Trailer) -> bool
     false
 }
 
-// Whether the queue has room for the image.
+// Whether the queue has room for the image, which keeps document 01's rules.
 fn amounts_fit(image: &[u8], t: Trailer, store_length: u64) -> bool
-    requires { ⌜ rulesKept (now image) t ≡ true ⌝ }
+    requires { ⌜ rulesKept false (now image) t ≡ true ⌝ }
     ensures { λ r. ⌜ r ≡ amountsFit (now (image .entry)) t «store_length» ⌝ }
 {
     if t.streams > 256 {
@@ -165,15 +166,15 @@ fn amounts_fit(image: &[u8], t: Trailer, store_length: u64) -> bool
 }
 
 // 13, 14, 15, or 0 for an image that is accepted.
-pub fn image_code(image: &[u8], default_priority: u16, store_length: u64) -> u8
-    ensures { λ r. ⌜ r ≡ imageCode (now (image .entry)) «default_priority» «store_length» ⌝ }
+pub fn image_code(image: &[u8], strict: bool, default_priority: u16, store_length: u64) -> u8
+    ensures { λ r. ⌜ r ≡ imageCode strict (now (image .entry)) «default_priority» «store_length» ⌝ }
 {
     let size = image.len();
     if size < 20 {
         return 13;
     }
     let t = read_trailer(image, size - 20);
-    let kept = rules_kept(image, t);
+    let kept = rules_kept(image, t, strict);
     if kept {
         if t.default_priority == default_priority {
             let fit = amounts_fit(image, t, store_length);

@@ -5,7 +5,7 @@ ghost use Prim.Native.Nat.{_+_, _*_, _≤_};
 ghost use lib.ListN.{length};
 ghost use Rattle.image_rules.specs.Trailers.{trailerRight};
 ghost use Rattle.image_rules.specs.Streams.{isPlain, streamsRight};
-ghost use Rattle.image_rules.specs.Messages.{numbersRight, lifetimeRight, midRight, orderRight, messageRight, messagesRight};
+ghost use Rattle.image_rules.specs.Messages.{numbersRight, lifetimeRight, midRight, orderRight, messageRight, midEarly, messageKept, messagesKept};
 use handover_records::records::HandoverOutgoingStream;
 use handover_records::records::HandoverStreamMessage;
 use handover_records::records::Trailer;
@@ -148,10 +148,34 @@ fn message_right(m: HandoverStreamMessage, head: bool) -> bool
     false
 }
 
-// "by rising stream, in queue order": n records from `start` on fill `size` bytes.
-pub fn messages_right(image: &[u8], start: usize, size: usize, n: usize) -> bool
+// "Strict restoring answers 13 also to a MID on a message at offset 0."
+fn mid_early(m: HandoverStreamMessage, strict: bool) -> bool
+    ensures { λ r. ⌜ r ≡ midEarly strict m ⌝ }
+{
+    if strict {
+        if m.flags / 2 % 2 == 1 {
+            return m.offset == 0;
+        }
+        return false;
+    }
+    false
+}
+
+// The rules of one message record for a queue that is strict or not.
+fn message_kept(m: HandoverStreamMessage, head: bool, strict: bool) -> bool
+    ensures { λ r. ⌜ r ≡ messageKept strict m head ⌝ }
+{
+    let early = mid_early(m, strict);
+    if early {
+        return false;
+    }
+    message_right(m, head)
+}
+
+// "by rising stream, in queue order": n records from `start` on fill `size` bytes, and for a strict queue no MID comes early.
+pub fn messages_right(image: &[u8], start: usize, size: usize, n: usize, strict: bool) -> bool
     requires { ⌜ start + size ≤ length (now image) ⌝ }
-    ensures { λ r. ⌜ r ≡ messagesRight (now (image .entry)) start size 0 n ⌝ }
+    ensures { λ r. ⌜ r ≡ messagesKept strict (now (image .entry)) start size 0 n ⌝ }
 {
     let mut at: usize = start;
     let mut left: usize = size;
@@ -170,7 +194,7 @@ pub fn messages_right(image: &[u8], start: usize, size: usize, n: usize) -> bool
         if id + 1 < least {
             return false;
         }
-        let right = message_right(m, least <= id);
+        let right = message_kept(m, least <= id, strict);
         if right {
             at = at + 44 + length;
             left = left - 44 - length;

@@ -2,6 +2,7 @@
 use borrow.Author.Needs.{needs}
 use borrow.Author.Tests.{eq-eqb, le-ltb, lt-ltb, ne-eqb}
 use Rattle.image_rules.specs.Code.{imageCode}
+use Rattle.image_rules.proofs.Kept.{kept-both}
 use mathlib.Core.Path.{sym, _∙_}
 use Rattle.image_rules.proofs.code.image_code.Statement.{statement}
 use Rattle.image_rules.proofs.code.image_code.Tie as tie
@@ -15,7 +16,7 @@ returns c =
     )
 
 amounts-fit-requires : tie.Need-amounts-fit-requires
-amounts-fit-requires c κs = sym (c .before .before .before .rules-kept .ensures) ∙ (c .before .before .if2 .taken)
+amounts-fit-requires c κs = kept-both _ _ _ (sym (c .before .before .before .rules-kept .ensures) ∙ (c .before .before .if2 .taken)) .0
 
 returns-2 : tie.Need-returns-2
 unfolding imageCode
