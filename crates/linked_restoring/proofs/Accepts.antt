@@ -1,13 +1,12 @@
 -- An image that is accepted has what restoring its parts needs. Assumes nothing.
-use mathlib.Core.Path.{_≡_, refl, ap, _∙_}
-use mathlib.Core.Bool.{Bool, true, false}
+use mathlib.Core.Path.{_≡_, ap, _∙_}
+use mathlib.Core.Bool.{Bool}
 use mathlib.Core.List.{List}
 use Prim.Native.Nat.{ℕ, _+_, _*_, _-_, _≤_}
 use native.Mathlib.Omega.{arith}
-use lib.Dec.{T, eqb, ltb}
+use lib.Dec.{T}
 use lib.Pow.{areBytes}
 use lib.ListN.{length}
-use Rattle.queue_words.specs.Flags.{pick}
 use Rattle.queue_model.specs.Types.{Queue}
 use Rattle.queue_model.specs.Restore.{restored}
 use Rattle.queue_state.specs.Model.{tab}
@@ -16,7 +15,7 @@ use Rattle.handover_records.specs.Records.{streamAt}
 use Rattle.handover_records.specs.Positions.{streamRecordAt, streamsFrom}
 use Rattle.handover_records.specs.declared.records.Trailer.{Trailer}
 use Rattle.image_rules.specs.Trailers.{trailerIn}
-use Rattle.image_rules.specs.Code.{rulesKept, amountsFit, imageCode}
+use Rattle.image_rules.specs.Code.{imageCode}
 use Rattle.image_rules.proofs.ReadLink.{handoverAt, Read, handover-read}
 use Rattle.image_rules.proofs.CodeLink.{image-counts}
 use Rattle.image_rules.proofs.AcceptedFacts.{Accepted, accepted-facts}
@@ -25,19 +24,9 @@ use Rattle.linked_restoring.proofs.Behind.{IdsRise}
 use Rattle.linked_restoring.proofs.AllRecords.{Limits}
 use Rattle.linked_restoring.proofs.Parts.{Holds}
 
--- It keeps the rules.
-kept-of : (bs : List ℕ) (d len : ℕ) → imageCode bs d len ≡ 0 → rulesKept bs (trailerIn bs) ≡ true
-unfolding imageCode
-kept-of bs d len e = go (ltb (length bs) 20) (rulesKept bs (trailerIn bs)) (pick (eqb (trailerIn bs .«default_priority») d) (pick (amountsFit bs (trailerIn bs) len) 0 15) 14) e
-  where
-    go : (a b : Bool) (n : ℕ) → _≡_ {A = ℕ} (pick a 13 (pick b n 13)) 0 → b ≡ true
-    go true b n e = absurd (omega (arith, e))
-    go false true n e = refl
-    go false false n e = absurd (omega (arith, e))
-
-module _ (bs : List ℕ) (bytes : T (areBytes bs)) (d len : ℕ) (fine : imageCode bs d len ≡ 0) where
-  a : Accepted bs (trailerIn bs) d len
-  a = accepted-facts bs d len fine
+module _ (strict : Bool) (bs : List ℕ) (bytes : T (areBytes bs)) (d len : ℕ) (fine : imageCode strict bs d len ≡ 0) where
+  a : Accepted strict bs (trailerIn bs) d len
+  a = accepted-facts strict bs d len fine
 
   abbrev t : Trailer
   t = trailerIn bs
@@ -74,7 +63,7 @@ module _ (bs : List ℕ) (bytes : T (areBytes bs)) (d len : ℕ) (fine : imageCo
   pub accepted-limits : (time : ℕ) (q : Queue) → Limits ((restored time (handoverAt bs) q) .streams) len
   unfolding restored
   accepted-limits time q =
-      let c = image-counts (q .options) time bs (kept-of bs d len fine) in
+      let c = image-counts (q .options) time bs (a .rules) in
       record {
         streams-few = omega (arith, c .streams, a .amounts .all-streams-few);
         messages-few = omega (arith, c .messages, a .amounts .messages-few);

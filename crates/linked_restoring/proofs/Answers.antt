@@ -67,17 +67,17 @@ module _ (ws st : List ℕ) (g : Good ws st) (time : ℕ) (bs : List ℕ) where
       (three-checks (ltb 4611686018427387903 time) (ltb 0 (totalsAt ws .known)) (ltb 0 (totalsAt ws .«next_message_id» .0)) q s)
 
   code-is : restoreCode ws (length st) time bs
-      ≡ pick (ltb 4611686018427387903 time) 4 (pick (ltb 0 (totalsAt ws .known)) 12 (pick (ltb 0 (totalsAt ws .«next_message_id» .0)) 12 (imageCode bs (optionsAt ws .«default_priority») (length st))))
+      ≡ pick (ltb 4611686018427387903 time) 4 (pick (ltb 0 (totalsAt ws .known)) 12 (pick (ltb 0 (totalsAt ws .«next_message_id» .0)) 12 (imageCode (optionsAt ws .«strict_restart») bs (optionsAt ws .«default_priority») (length st))))
   unfolding restoreCode
   code-is = rw (eq-eqb (optionsAt ws .«store_length») (length st) (sym (g .store-is)))
 
-  linked : Linked bs (optionsAt ws .«default_priority») (length st) time q
-  linked = code-link bs (optionsAt ws .«default_priority») (length st) time q (ap (λ o. o .default-priority) (model-options ws st)) (sym store-same)
+  linked : Linked (optionsAt ws .«strict_restart») bs (optionsAt ws .«default_priority») (length st) time q
+  linked = code-link (optionsAt ws .«strict_restart») bs (optionsAt ws .«default_priority») (length st) time q (ap (λ o. o .strict-restart) (model-options ws st)) (ap (λ o. o .default-priority) (model-options ws st)) (sym store-same)
 
   -- What the model does: refused with the words' code, or restored from a queue that was not used.
   pub data Answers : Type 0 where
     refusal : 0 < restoreCode ws (length st) time bs → run.step (run.restore (length st) time bs) q ≡ refuse q (restoreCode ws (length st) time bs) → Answers
-    acceptance : restoreCode ws (length st) time bs ≡ 0 → totalsAt ws .known ≡ 0 → imageCode bs (optionsAt ws .«default_priority») (length st) ≡ 0
+    acceptance : restoreCode ws (length st) time bs ≡ 0 → totalsAt ws .known ≡ 0 → imageCode (optionsAt ws .«strict_restart») bs (optionsAt ws .«default_priority») (length st) ≡ 0
         → run.step (run.restore (length st) time bs) q ≡ reply done [] (restored time (handoverAt bs) q) → Answers
 
   refused-as : (n : ℕ) → restoreCode ws (length st) time bs ≡ n → 0 < n → run.step (run.restore (length st) time bs) q ≡ refuse q n → Answers
@@ -93,10 +93,10 @@ module _ (ws st : List ℕ) (g : Good ws st) (time : ℕ) (bs : List ℕ) where
       (code-is ∙ rw (le-ltb 4611686018427387903 time h, le-ltb 0 (totalsAt ws .known) k, le-ltb 0 (totalsAt ws .«next_message_id» .0) n))
       (step-is ∙ rw (le-ltb 4611686018427387903 time h, le-ltb 0 (totalsAt ws .known) k, le-ltb 0 (totalsAt ws .«next_message_id» .0) n))))
     where
-      judged : totalsAt ws .known ≤ 0 → restoreCode ws (length st) time bs ≡ imageCode bs (optionsAt ws .«default_priority») (length st) → run.step (run.restore (length st) time bs) q ≡ s → Answers
-      judged k c e = by-lt 0 (imageCode bs (optionsAt ws .«default_priority») (length st))
-          (λ p. refused-as (imageCode bs (optionsAt ws .«default_priority») (length st)) c p (e ∙ linked .refused (λ z. omega (arith, z, p))))
-          (λ p. let z : imageCode bs (optionsAt ws .«default_priority») (length st) ≡ 0 = omega arith in acceptance (c ∙ z) (omega arith) z (e ∙ linked .accepted z))
+      judged : totalsAt ws .known ≤ 0 → restoreCode ws (length st) time bs ≡ imageCode (optionsAt ws .«strict_restart») bs (optionsAt ws .«default_priority») (length st) → run.step (run.restore (length st) time bs) q ≡ s → Answers
+      judged k c e = by-lt 0 (imageCode (optionsAt ws .«strict_restart») bs (optionsAt ws .«default_priority») (length st))
+          (λ p. refused-as (imageCode (optionsAt ws .«strict_restart») bs (optionsAt ws .«default_priority») (length st)) c p (e ∙ linked .refused (λ z. omega (arith, z, p))))
+          (λ p. let z : imageCode (optionsAt ws .«strict_restart») bs (optionsAt ws .«default_priority») (length st) ≡ 0 = omega arith in acceptance (c ∙ z) (omega arith) z (e ∙ linked .accepted z))
 
   pub answers : Answers
   answers = by-lt 4611686018427387903 time

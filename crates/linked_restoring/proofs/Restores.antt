@@ -1,5 +1,6 @@
 -- Restoring an image is the model's step. Assumes nothing.
 use mathlib.Core.Path.{_≡_, sym, ap, _∙_, subst}
+use mathlib.Core.Bool.{Bool}
 use mathlib.Core.List.{List, []}
 use Prim.Native.Nat.{ℕ, _^_, _≤_, _<_}
 use native.Mathlib.Omega.{arith}
@@ -46,9 +47,12 @@ module _ (ws st : List ℕ) (g : Good ws st) (time : ℕ) (bs : List ℕ) (ht : 
   refused-with e = record { good = g; next = rw e; answer = sym (ap (λ (x : Step). callOf (x .outcome .answer) (length (x .outcome .events))) e) }
 
   -- ---- accepted
-  module _ (none-known : totalsAt ws .known ≡ 0) (fine : imageCode bs (optionsAt ws .«default_priority») (length st) ≡ 0) (e : run.step call q ≡ reply done [] (restored time (handoverAt bs) q)) where
+  module _ (none-known : totalsAt ws .known ≡ 0) (fine : imageCode (optionsAt ws .«strict_restart») bs (optionsAt ws .«default_priority») (length st) ≡ 0) (e : run.step call q ≡ reply done [] (restored time (handoverAt bs) q)) where
     abbrev t : Trailer
     t = trailerIn bs
+
+    abbrev strict : Bool
+    strict = optionsAt ws .«strict_restart»
 
     abbrev d : ℕ
     d = optionsAt ws .«default_priority»
@@ -62,12 +66,12 @@ module _ (ws st : List ℕ) (g : Good ws st) (time : ℕ) (bs : List ℕ) (ht : 
     parts : Parts ws st time (handoverAt bs) (waitingOf vs) ut
     parts =
         all-parts ws st g none-known store-small bs bytes time (t .streams) (t .«streams_size») (t .messages) (t .«next_message_id») (handoverAt bs)
-        (accepted-holds bs bytes d (length st) fine) (accepted-limits bs bytes d (length st) fine time q)
+        (accepted-holds strict bs bytes d (length st) fine) (accepted-limits strict bs bytes d (length st) fine time q)
 
     few : totalsAt vs .known ≤ 256
     few =
         parts-few ws st g none-known store-small bs bytes time (t .streams) (t .«streams_size») (t .messages) (t .«next_message_id») (handoverAt bs)
-        (accepted-holds bs bytes d (length st) fine) (accepted-limits bs bytes d (length st) fine time q)
+        (accepted-holds strict bs bytes d (length st) fine) (accepted-limits strict bs bytes d (length st) fine time q)
 
     -- the words of the call are those of the parts
     abbrev result : Added
@@ -91,7 +95,7 @@ module _ (ws st : List ℕ) (g : Good ws st) (time : ℕ) (bs : List ℕ) (ht : 
   unfolding restore
   by-answers (refusal p e) = rw (lt-ltb 0 code p) (refused-with e)
   by-answers (acceptance z k f e) =
-      rw (le-ltb 0 code (omega (arith, z)), le-ltb (length bs) 20 (accepted-long bs bytes (optionsAt ws .«default_priority») (length st) f))
+      rw (le-ltb 0 code (omega (arith, z)), le-ltb (length bs) 20 (accepted-long (optionsAt ws .«strict_restart») bs bytes (optionsAt ws .«default_priority») (length st) f))
       (subst (λ (x : Added). Does call ws st (x .answer) (x .words) (x .store)) (sym (result-is k f e)) (does-restored k f e))
 
   -- Restoring is the model's step: refused with its number, 2, 4, 12, 13, 14 or 15 in this order, or accepted.

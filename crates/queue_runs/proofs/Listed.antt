@@ -325,11 +325,11 @@ add-listed ws st time m bs =
 abbrev restores : List ℕ
 restores = 2 ∷ 4 ∷ 12 ∷ 13 ∷ 14 ∷ 15 ∷ []
 
-image-code : (bs : List ℕ) (d len : ℕ) → Code restores (imageCode bs d len)
+image-code : (strict : Bool) (bs : List ℕ) (d len : ℕ) → Code restores (imageCode strict bs d len)
 unfolding imageCode
-image-code bs d len =
+image-code strict bs d len =
     code-pick restores (ltb (length bs) 20) _ _ (code-in restores 13 refl)
-    (code-pick restores (rulesKept bs (trailerIn bs)) _ _
+    (code-pick restores (rulesKept strict bs (trailerIn bs)) _ _
     (code-pick restores (eqb (trailerIn bs .«default_priority») d) _ _
     (code-pick restores (amountsFit bs (trailerIn bs) len) _ _ (code-none restores) (code-in restores 15 refl)) (code-in restores 14 refl)) (code-in restores 13 refl))
 
@@ -339,7 +339,7 @@ restore-code ws len time bs =
     code-pick restores (eqb (optionsAt ws .«store_length») len) _ _
     (code-pick restores (ltb 4611686018427387903 time) _ _ (code-in restores 4 refl)
     (code-pick restores (ltb 0 (totalsAt ws .known)) _ _ (code-in restores 12 refl)
-    (code-pick restores (ltb 0 (totalsAt ws .«next_message_id» .0)) _ _ (code-in restores 12 refl) (image-code bs (optionsAt ws .«default_priority») len))))
+    (code-pick restores (ltb 0 (totalsAt ws .«next_message_id» .0)) _ _ (code-in restores 12 refl) (image-code (optionsAt ws .«strict_restart») bs (optionsAt ws .«default_priority») len))))
     (code-in restores 2 refl)
 
 restore-listed : (ws st : List ℕ) (time : ℕ) (bs : List ℕ) → Stores restores (restoring.restore ws st time bs)
