@@ -19,6 +19,7 @@ use Rattle.queue_streams.specs.declared.answers.Call.{Call}
 use Rattle.queue_state.specs.Model.{model}
 use Rattle.queue_state.specs.Good.{Good}
 use Rattle.queue_state.specs.Promise.{callOf, Does}
+use Rattle.queue_words.specs.declared.header.RestartRule.the-variants.{Dcsctp}
 use Rattle.linked_adding.specs.Create.{CreateMeets, answerOf}
 use Rattle.linked_adding.specs.Add.{AddMeets}
 use Rattle.linked_adding.specs.Message.{messageOf}
@@ -37,7 +38,7 @@ is-new : (len : ℕ) → 1 ≤ len → len ≤ 2000000 → create (options len) 
 unfolding create create-refusal creation-or first-refusal
 is-new len h k = rw (le-ltb len 1 h, le-ltb 2000000 len k)
 
-created : (ws st : List ℕ) (r : Call) (ws′ : List ℕ) → 1 ≤ length st → length st ≤ 2000000 → CreateMeets ws st 1200 256 0 0 false r ws′ → Now (isAccepted r) ws′ st (new-queue (options (length st)))
+created : (ws st : List ℕ) (r : Call) (ws′ : List ℕ) → 1 ≤ length st → length st ≤ 2000000 → CreateMeets ws st 1200 256 0 0 false Dcsctp r ws′ → Now (isAccepted r) ws′ st (new-queue (options (length st)))
 created ws st r ws′ h k c =
     let e = is-new (length st) h k in
     record { told-true = ap isAccepted (c .model .answer ∙ ap answerOf e); good = c .model .good _ e; stands = c .model .stands _ e }
@@ -75,7 +76,7 @@ sent t q q′ c ws st es bs xs r ws′ es′ bs′ n d g =
 -- ---- all six calls
 
 pub carries : (ws st es a b one two three : List ℕ)
-    (r₁ : Call) (ws₁ : List ℕ) → CreateMeets ws st 1200 256 0 0 false r₁ ws₁
+    (r₁ : Call) (ws₁ : List ℕ) → CreateMeets ws st 1200 256 0 0 false Dcsctp r₁ ws₁
     → (m : Message) (r₂ : Call) (ws₂ st₂ : List ℕ) → m ≡ plainMessage 1 → AddMeets ws₁ st 0 m a r₂ ws₂ st₂ → length st₂ ≡ length st
     → (n : Message) (r₃ : Call) (ws₃ st₃ : List ℕ) → n ≡ plainMessage 2 → AddMeets ws₂ st₂ 0 n b r₃ ws₃ st₃ → length st₃ ≡ length st₂
     → (r₄ : Produced) (ws₄ es₄ one′ : List ℕ) → ProduceMeets ws₃ st₃ es one 0 1200 r₄ ws₄ es₄ one′ → length es₄ ≡ length es

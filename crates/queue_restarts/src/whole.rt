@@ -150,13 +150,7 @@ fn reset_in(
     }
 }
 
-fn reset_at(
-    queue: &mut [u64; QUEUE_WORDS],
-    strict: bool,
-    interleaving: bool,
-    id: u16,
-    place: u64,
-)
+fn reset_at(queue: &mut [u64; QUEUE_WORDS], strict: bool, interleaving: bool, id: u16, place: u64)
     ensures { λ _. ⌜ now (queue .exit) ≡ resetAt strict (now (queue .entry)) interleaving id place ⌝ }
 {
     if place > 255 {
