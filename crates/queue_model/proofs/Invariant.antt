@@ -13,4 +13,5 @@ pub mod Serving
 pub mod Passing
 pub mod OneStream
 pub mod Fates
+pub mod Fresh
 pub mod Closing

@@ -1,7 +1,7 @@
 -- The laws of tables (specs/Table): finding after putting and after taking out, rows in ascending order, sums; and that what is found tells the table. Assumes nothing.
 use mathlib.Core.Path.{_≡_, refl, sym, ap, ap₂, _∙_, subst}
 use mathlib.Core.Bool.{Bool}
-use mathlib.Core.List.{List, [], _∷_, map}
+use mathlib.Core.List.{List, [], _∷_, _++_, map}
 use mathlib.Core.Option.{Option, none, some}
 use Prim.Native.Nat.{ℕ, suc, _+_, _≤_, _<_}
 use native.Mathlib.Omega.{arith}
@@ -306,6 +306,10 @@ every-weaken P Q (x ∷ xs) h a = (h x (a .0), every-weaken P Q xs h (a .1))
 pub every-both : {A : Type 0} (P Q : A → Type 0) (xs : List A) → Every P xs → Every Q xs → Every (λ x. P x × Q x) xs
 every-both P Q [] a b = tt
 every-both P Q (x ∷ xs) a b = ((a .0, b .0), every-both P Q xs (a .1) (b .1))
+
+pub every-snoc : {A : Type 0} (P : A → Type 0) (xs : List A) (x : A) → Every P xs → P x → Every P (xs ++ (x ∷ []))
+every-snoc P [] x a h = (h, tt)
+every-snoc P (y ∷ xs) x a h = (a .0, every-snoc P xs x (a .1) h)
 
 pub length-sum : {A : Type 0} (xs : List A) → length xs ≡ sum-by (λ x. 1) xs
 length-sum [] = refl

@@ -287,7 +287,7 @@ module _ (r : Queue) (a : Active) (t : Stream) (x : Item) (is : List Item) (n : 
       go false f = further (moved-on sent n) refl (sent-alike .same-id) (alike-further (take n (unsent sent)) x sent (moved-on sent n) sent-alike (moved-further sent n))
           (record { stream = _; behind = is; found = find-put-same stream-key _ (r .streams); state = e; items = refl })
 
-  fragment-on : (make-fragment t ((numbered (t .counters) x) .item) n) .stream-id ≡ t .id
+  pub fragment-on : (make-fragment t ((numbered (t .counters) x) .item) n) .stream-id ≡ t .id
   unfolding make-fragment
   fragment-on = refl
 

@@ -1,0 +1,60 @@
+-- What heads see after a strict reset (request 6/13): the first fragment of each stream starts a message, with numbers from zeroed counters. Assumes nothing.
+use Prim.Native.Nat.{ℕ}
+use mathlib.Core.Bool.{true}
+use mathlib.Core.List.{List, [], _∷_, _++_}
+use mathlib.Core.Path.{_≡_}
+use lib.Dec.{eqb}
+use Rattle.queue_model.specs.Logic.{if_then_else_}
+use Rattle.queue_model.specs.Types.{Options, Queue, Fragment, Answer, refused, done, number, flag, ids, fragment, nothing-waits, Outcome}
+use Rattle.queue_model.specs.Run.{Call, reset, restore, step, run}
+use Rattle.queue_model.specs.Demands.{Reachable, AllTyped}
+
+-- "a message put back starts with FSN 0 and with numbers from the zeroed counters": a fragment that is the first of its message, with MID, SSN and FSN 0.
+pub record Afresh (f : Fragment) : Type 0 where
+  pub first : f .first ≡ true
+  pub mid : f .mid ≡ 0
+  pub ssn : f .ssn ≡ 0
+  pub fsn : f .fsn ≡ 0
+
+-- ------------------------------------------------------------------ the fragments of a stream
+
+-- The fragment of stream k in an answer, if it is one.
+abbrev pub fragment-in : ℕ → Answer → List Fragment
+fragment-in k (refused r) = []
+fragment-in k done = []
+fragment-in k (number m) = []
+fragment-in k (flag b) = []
+fragment-in k (ids ks) = []
+fragment-in k (fragment f) = if eqb (f .stream-id) k then f ∷ [] else []
+fragment-in k nothing-waits = []
+
+-- The fragments of stream k that calls have shown, in order.
+unfoldable pub fragments : ℕ → List Outcome → List Fragment
+fragments k [] = []
+fragments k (o ∷ os) = fragment-in k (o .answer) ++ fragments k os
+
+-- The first one, if any, starts afresh.
+abbrev pub FirstAfresh : List Fragment → Type 0
+FirstAfresh [] = Unit {0}
+FirstAfresh (f ∷ fs) = Afresh f
+
+-- ------------------------------------------------------------------ the claim
+
+-- Any calls but restoring, which gives streams the counters and the half-sent messages of an image. (It is refused on a queue that knows a stream.)
+abbrev pub NotRestore : Call → Type 0
+NotRestore c = (store now : ℕ) (image : List ℕ) → c ≡ restore store now image → ⊥
+
+abbrev pub NoRestore : List Call → Type 0
+NoRestore [] = Unit {0}
+NoRestore (c ∷ cs) = NotRestore c × NoRestore cs
+
+-- The reset is accepted, and the first fragment of stream k after it starts afresh, whatever calls come between.
+pub record Restarts (k : ℕ) (cs : List Call) (q : Queue) : Type 0 where
+  pub accepted : (step reset q) .outcome .answer ≡ done
+  pub starts : FirstAfresh (fragments k (run cs ((step reset q) .next)))
+
+-- "Newer head firmware follows RFC 8260 strictly after a peer restart: a message put back starts with FSN 0 and with numbers from the zeroed counters." Of every stream id and any calls, on every
+-- queue whose creation chose the strict rule.
+unfoldable pub Request6-starts : Type 0
+unfolding step fragments run
+Request6-starts = (o : Options) (q : Queue) (cs : List Call) (k : ℕ) → o .strict-restart ≡ true → Reachable o q → AllTyped cs → NoRestore cs → Restarts k cs q
