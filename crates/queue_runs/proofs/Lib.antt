@@ -18,3 +18,4 @@ pub mod Waiting
 pub mod FairTurns
 pub mod CloseSteps
 pub mod Closing
+pub mod Restart

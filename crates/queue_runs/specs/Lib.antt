@@ -10,3 +10,4 @@ pub mod Account
 pub mod Waiting
 pub mod FairTurns
 pub mod Closing
+pub mod Restart

@@ -1,0 +1,161 @@
+-- After a strict reset the first fragment of every stream starts afresh (request 6/13), on the code. Assumes nothing.
+use mathlib.Core.Path.{_≡_, refl, sym, ap, ap₂, subst, _∙_}
+use mathlib.Core.Bool.{Bool, true, false}
+use mathlib.Core.List.{List, [], _∷_, _++_, map}
+use Prim.Native.Nat.{ℕ}
+use native.Mathlib.Omega.{arith}
+use lib.Dec.{eqb}
+use lib.ListN.{length}
+use Rattle.types.specs.declared.StreamId.{StreamId}
+use Rattle.queue_words.specs.Flags.{pick}
+use Rattle.queue_words.specs.Header.{isStrict}
+use Rattle.queue_model.specs.Logic.{if_then_else_}
+use Rattle.queue_model.specs.Types as plain
+use Rattle.queue_model.specs.Types.{Queue, Outcome, Fragment}
+use Rattle.queue_model.specs.Run as run
+use Rattle.queue_model.specs.Restart as model
+use Rattle.queue_model.proofs.Restart as theorem
+use Rattle.queue_streams.specs.declared.answers.Call.the-variants as call
+use Rattle.queue_sending.specs.declared.data.DataToSend.{DataToSend}
+use Rattle.linked_sending.specs.Meaning.{dataOf, producedOf}
+use Rattle.queue_runs.specs.Calls.{Call, add, produce, discard, close, ready-ids, commit, rollback, reset, set-threshold, set-priority, set-interleaving, restore, ask-priority, ask-amount, ask-threshold, ask-total, ask-empty, ask-has-data, ask-streams-ready, ask-readiness, callOf, Typed, Shown, called}
+use Rattle.queue_runs.specs.Run as runs
+use Rattle.queue_runs.specs.Run.{State, step}
+use Rattle.queue_runs.specs.Meaning.{queueOf, Good, AllTyped, callsOf, quietOf, shownOf}
+use Rattle.queue_runs.specs.Creation.{optionsWith}
+use Rattle.queue_runs.specs.Restart.{dataSent, dataIn, fragments, FirstAfresh, NotRestore, NoRestore, Request6-starts}
+use Rattle.queue_runs.proofs.Steps.{step-link, typed-call, store-small, meant}
+use Rattle.queue_runs.proofs.Forms.{Quiet, quiet-refused, quiet-done, Loud, loud-refused, loud-done, Ids, ids-told, Number, number-told, Flag, flag-told, Form, form-of}
+use Rattle.queue_runs.proofs.Demand3.{stands}
+use Rattle.queue_runs.proofs.Alike.{all-typed}
+use Rattle.queue_runs.proofs.Account.{key-same}
+
+-- ------------------------------------------------------------------ what a call shows
+
+module _ (k : ℕ) where
+  -- The fragment of stream k that an answer of the model has, as the code shows it.
+  abbrev meansData : plain.Answer → List DataToSend
+  meansData a = map dataOf (model.fragment-in k a)
+
+  quiet-none : (o : Outcome) → Quiet o → [] ≡ meansData (o .answer)
+  quiet-none o (quiet-refused n) = refl
+  quiet-none o quiet-done = refl
+
+  loud-none : (o : Outcome) → Loud o → [] ≡ meansData (o .answer)
+  loud-none o (loud-refused n) = refl
+  loud-none o (loud-done es) = refl
+
+  ids-none : (o : Outcome) → Ids o → [] ≡ meansData (o .answer)
+  ids-none o (ids-told l) = refl
+
+  number-none : (o : Outcome) → Number o → [] ≡ meansData (o .answer)
+  number-none o (number-told n) = refl
+
+  flag-none : (o : Outcome) → Flag o → [] ≡ meansData (o .answer)
+  flag-none o (flag-told b) = refl
+
+  picked : (b : Bool) (f : Fragment) → pick b (dataOf f ∷ []) [] ≡ map dataOf (if b then f ∷ [] else [])
+  picked true f = refl
+  picked false f = refl
+
+  sent-data : (a : plain.Answer) (n : ℕ) → dataSent k (producedOf a n) ≡ meansData a
+  sent-data (plain.refused r) n = refl
+  sent-data plain.done n = refl
+  sent-data (plain.number m) n = refl
+  sent-data (plain.flag b) n = refl
+  sent-data (plain.ids l) n = refl
+  sent-data (plain.fragment f) n = ap (λ (x : StreamId). pick (eqb (x .0) k) (dataOf f ∷ []) []) (key-same (f .unordered) (record { 0 = f .stream-id })) ∙ picked (eqb (f .stream-id) k) f
+  sent-data plain.nothing-waits n = refl
+
+  shown-data : (len : ℕ) (c : Call) (o : Outcome) → Form (callOf len c) o → dataIn k (shownOf c o .answer) ≡ meansData (o .answer)
+  shown-data len (add time m payload) o f = quiet-none o f
+  shown-data len (produce es bs time size) o f = sent-data (o .answer) (length (o .events))
+  shown-data len (discard es id m) o f = loud-none o f
+  shown-data len (close es id) o f = loud-none o f
+  shown-data len ready-ids o f = ids-none o f
+  shown-data len commit o f = quiet-none o f
+  shown-data len rollback o f = quiet-none o f
+  shown-data len reset o f = quiet-none o f
+  shown-data len (set-threshold es id t) o f = loud-none o f
+  shown-data len (set-priority id p) o f = quiet-none o f
+  shown-data len (set-interleaving b) o f = quiet-none o f
+  shown-data len (restore time image) o f = quiet-none o f
+  shown-data len (ask-priority id) o f = number-none o f
+  shown-data len (ask-amount id) o f = number-none o f
+  shown-data len (ask-threshold id) o f = number-none o f
+  shown-data len ask-total o f = number-none o f
+  shown-data len ask-empty o f = flag-none o f
+  shown-data len ask-has-data o f = flag-none o f
+  shown-data len ask-streams-ready o f = flag-none o f
+  shown-data len ask-readiness o f = number-none o f
+
+  step-data : (c : Call) (s : State) → Good s → Typed c → dataIn k (step c s .shows .answer) ≡ meansData (meant c s .outcome .answer)
+  step-data c s g t = ap (λ (x : Shown). dataIn k (x .answer)) (step-link c s g t .shows-are) ∙ shown-data (length (s .store)) c (meant c s .outcome) (form-of (callOf (length (s .store)) c) (queueOf s))
+
+  -- ---------------------------------------------------------------- lists of calls
+
+  map-append : (xs ys : List Fragment) → map dataOf (xs ++ ys) ≡ map dataOf xs ++ map dataOf ys
+  map-append [] ys = refl
+  map-append (x ∷ xs) ys = ap (λ (l : List DataToSend). dataOf x ∷ l) (map-append xs ys)
+
+  -- The fragments that calls show are those that the model's show.
+  run-data : (cs : List Call) (s : State) → Good s → AllTyped cs → fragments k (runs.run cs s) ≡ map dataOf (model.fragments k (run.run (callsOf (length (s .store)) cs) (queueOf s)))
+  unfolding fragments runs.run model.fragments run.run
+  run-data [] s g t = refl
+  run-data (c ∷ cs) s g t =
+      let h = step-link c s g (t .0) in
+      let e : callsOf (length (step c s .next .store)) cs ≡ callsOf (length (s .store)) cs = ap (λ (n : ℕ). callsOf n cs) (h .same-store) in
+      ap₂ _++_ (step-data c s g (t .0)) (run-data cs (step c s .next) (h .good) (t .1) ∙ ap₂ (λ (ms : List run.Call) (q : Queue). map dataOf (model.fragments k (run.run ms q))) e (h .next-is))
+      ∙ sym (map-append (model.fragment-in k (meant c s .outcome .answer)) (model.fragments k (run.run (callsOf (length (s .store)) cs) (meant c s .next))))
+
+first-afresh : (fs : List Fragment) → model.FirstAfresh fs → FirstAfresh (map dataOf fs)
+first-afresh [] a = tt
+first-afresh (f ∷ fs) a = record { first = a .first; mid = a .mid; ssn = a .ssn; fsn = a .fsn }
+
+-- ------------------------------------------------------------------ no restoring
+
+not-restore : (len : ℕ) (c : Call) → NotRestore c → model.NotRestore (callOf len c)
+not-restore len (add time m payload) n = λ x y z e. let u : _≡_ {A = ℕ} 0 1 = cc in omega arith
+not-restore len (produce es bs time size) n = λ x y z e. let u : _≡_ {A = ℕ} 0 1 = cc in omega arith
+not-restore len (discard es id m) n = λ x y z e. let u : _≡_ {A = ℕ} 0 1 = cc in omega arith
+not-restore len (close es id) n = λ x y z e. let u : _≡_ {A = ℕ} 0 1 = cc in omega arith
+not-restore len ready-ids n = λ x y z e. let u : _≡_ {A = ℕ} 0 1 = cc in omega arith
+not-restore len commit n = λ x y z e. let u : _≡_ {A = ℕ} 0 1 = cc in omega arith
+not-restore len rollback n = λ x y z e. let u : _≡_ {A = ℕ} 0 1 = cc in omega arith
+not-restore len reset n = λ x y z e. let u : _≡_ {A = ℕ} 0 1 = cc in omega arith
+not-restore len (set-threshold es id t) n = λ x y z e. let u : _≡_ {A = ℕ} 0 1 = cc in omega arith
+not-restore len (set-priority id p) n = λ x y z e. let u : _≡_ {A = ℕ} 0 1 = cc in omega arith
+not-restore len (set-interleaving b) n = λ x y z e. let u : _≡_ {A = ℕ} 0 1 = cc in omega arith
+not-restore len (restore time image) n = λ x y z e. n time image refl
+not-restore len (ask-priority id) n = λ x y z e. let u : _≡_ {A = ℕ} 0 1 = cc in omega arith
+not-restore len (ask-amount id) n = λ x y z e. let u : _≡_ {A = ℕ} 0 1 = cc in omega arith
+not-restore len (ask-threshold id) n = λ x y z e. let u : _≡_ {A = ℕ} 0 1 = cc in omega arith
+not-restore len ask-total n = λ x y z e. let u : _≡_ {A = ℕ} 0 1 = cc in omega arith
+not-restore len ask-empty n = λ x y z e. let u : _≡_ {A = ℕ} 0 1 = cc in omega arith
+not-restore len ask-has-data n = λ x y z e. let u : _≡_ {A = ℕ} 0 1 = cc in omega arith
+not-restore len ask-streams-ready n = λ x y z e. let u : _≡_ {A = ℕ} 0 1 = cc in omega arith
+not-restore len ask-readiness n = λ x y z e. let u : _≡_ {A = ℕ} 0 1 = cc in omega arith
+
+no-restore : (len : ℕ) (cs : List Call) → NoRestore cs → model.NoRestore (callsOf len cs)
+no-restore len [] n = tt
+no-restore len (c ∷ cs) n = (not-restore len c (n .0), no-restore len cs (n .1))
+
+-- ------------------------------------------------------------------ THE THEOREM
+
+done-shown : (o : Outcome) → Quiet o → o .answer ≡ plain.done → quietOf o .answer ≡ called (call.Accepted 0)
+done-shown o (quiet-refused n) e = let z : _≡_ {A = ℕ} 0 1 = cc in absurd (omega arith)
+done-shown o quiet-done e = refl
+
+pub request6-starts : Request6-starts
+unfolding Request6-starts model.Request6-starts
+request6-starts a len s cs k e r t n =
+    let w = stands a len s r in
+    let l : ℕ = length (s .store) in
+    let h = step-link reset s (w .good) tt in
+    let ms : List run.Call = callsOf l cs in
+    let m = theorem.request6-starts (optionsWith a len) (queueOf s) ms k (ap isStrict e) (w .reachable) (all-typed l cs (λ c u. typed-call l c (store-small s (w .good)) u) t) (no-restore l cs n) in
+    let same : run.run (callsOf (length (step reset s .next .store)) cs) (queueOf (step reset s .next)) ≡ run.run ms (meant reset s .next) = ap₂ run.run (ap (λ (x : ℕ). callsOf x cs) (h .same-store)) (h .next-is) in
+    record {
+      accepted = ap (λ (x : Shown). x .answer) (h .shows-are) ∙ done-shown (meant reset s .outcome) (form-of run.reset (queueOf s)) (m .accepted);
+      starts = subst FirstAfresh (sym (run-data k cs (step reset s .next) (h .good) t ∙ ap (λ (os : List Outcome). map dataOf (model.fragments k os)) same)) (first-afresh (model.fragments k (run.run ms (meant reset s .next))) (m .starts));
+    }
