@@ -109,6 +109,11 @@ static uint16_t a_stream(void) {
     return (uint16_t)(below(8) ? below(12) : next());
 }
 
+/* A rule of a restart: half of the queues are strict, by any number that says so. */
+static uint8_t a_rule(void) {
+    return below(2) ? (uint8_t)(DSQ_RESTART_STRICT + below(255)) : DSQ_RESTART_DCSCTP;
+}
+
 static uint8_t add(void) {
     size_t length = below(16) ? 1 + (size_t)below(900) : (size_t)below(2) * (DSQ_MAX_PAYLOAD + 1);
     uint8_t *payload = block(length);
@@ -148,7 +153,7 @@ static uint8_t restore(void) {
             image[below(length)] = (uint8_t)next();
     if (below(4)) { /* into a new queue, sometimes with less room */
         store_length = below(4) ? STORE : 600;
-        dsq_create(now.queue, store_of(store_length), store_length, 1200, 256, 0, 0, 1);
+        dsq_create(now.queue, store_of(store_length), store_length, 1200, 256, 0, 0, 1, a_rule());
         damaged = below(4) == 0;
         if (damaged)
             now.queue[below(DSQ_QUEUE_WORDS)] = odd_number();
@@ -168,7 +173,7 @@ static uint8_t save(void) {
 
 static uint8_t create(void) {
     size_t length = below(8) ? STORE : (size_t)below(STORE);
-    uint8_t r = dsq_create(now.queue, store_of(length), length, below(4) ? 1200 : odd_number(), below(2) ? 256 : (uint16_t)next(), odd_number(), odd_number(), (uint8_t)next());
+    uint8_t r = dsq_create(now.queue, store_of(length), length, below(4) ? 1200 : odd_number(), below(2) ? 256 : (uint16_t)next(), odd_number(), odd_number(), (uint8_t)next(), a_rule());
     if (r == 0) {
         store_length = length;
         damaged = 0;
@@ -273,7 +278,7 @@ int main(int argc, char **argv) {
         seed = (uint64_t)atol(argv[2]) * 2 + 1;
     now = lend();
     was = lend();
-    if (dsq_create(now.queue, now.store, STORE, 1200, 256, 100, 500, 1) != 0)
+    if (dsq_create(now.queue, now.store, STORE, 1200, 256, 100, 500, 1, DSQ_RESTART_DCSCTP) != 0)
         return 1;
     for (calls = 0; on_damaged + images < wanted; calls++) {
         enum kind k = a_kind();

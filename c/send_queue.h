@@ -29,8 +29,9 @@ extern "C" {
 
 /* The layout that a host with this header is compiled for: the words of a queue, of an event, of the event list and of an out-array, what
  * each place means, and the arguments of the functions. It moves when one of these does. In layout 1, whose header has no such number, an
- * event had two words; a list for 2,305 of those is refused here (DSQ_EVENT_LIST_SHORT), not written past. */
-#define DSQ_LAYOUT 2
+ * event had two words; a list for 2,305 of those is refused here (DSQ_EVENT_LIST_SHORT), not written past. In layout 2 dsq_create had no
+ * restart_rule; nothing but a comparison of the layouts tells a host compiled for it. */
+#define DSQ_LAYOUT 3
 
 /* The words of a queue, and of the list of events: DSQ_MAX_EVENTS places of DSQ_PLACE_WORDS words. */
 #define DSQ_QUEUE_WORDS 20768
@@ -78,7 +79,7 @@ enum dsq_refusal {
     DSQ_IMAGE_BUFFER_SHORT = 11,
     /* Restoring finds a queue that knows a stream, or whose next message id is not 0. */
     DSQ_QUEUE_USED = 12,
-    /* The image breaks a rule. */
+    /* The image breaks a rule; one of them holds under DSQ_RESTART_STRICT alone. */
     DSQ_IMAGE_WRONG = 13,
     /* The image's default priority is not the queue's. */
     DSQ_PRIORITY_OTHER = 14,
@@ -133,6 +134,12 @@ enum dsq_event {
     DSQ_EVENT_END = 4         /* follows each DSQ_EVENT_EXPIRED, with the same id */
 };
 
+/* How a whole-queue reset puts a half-sent message back, chosen at creation. The message is sent whole again under either rule. */
+enum dsq_restart {
+    DSQ_RESTART_DCSCTP = 0, /* as dcSCTP: it keeps its MID and SSN and counts its FSN on, whatever its stream counts from then on */
+    DSQ_RESTART_STRICT = 1  /* as RFC 8260: it starts with FSN 0, and with a MID and SSN from its stream's counters, which are 0 then */
+};
+
 /* What dsq_get_handover_readiness tells. */
 enum dsq_readiness {
     DSQ_READY = 0,
@@ -149,9 +156,11 @@ uint64_t dsq_layout(void);
  * ---------------------------------------------------------------- creation and messages */
 
 /* Makes the words those of a new queue without streams or messages; interleaving is off. Only the store's length is looked at.
- * payload_limit: the most payload that goes into a packet, for the scheduler's costs. handover_with_data: see readiness. (1, 2) */
+ * payload_limit: the most payload that goes into a packet, for the scheduler's costs. handover_with_data: see readiness. restart_rule: of
+ * enum dsq_restart; it counts in dsq_reset and dsq_restore; as with a flag, anything but 0 is DSQ_RESTART_STRICT. (1, 2) */
 uint8_t dsq_create(uint64_t queue[DSQ_QUEUE_WORDS], const uint8_t *store, size_t store_length, uint64_t payload_limit,
-                   uint16_t default_priority, uint64_t default_threshold, uint64_t total_threshold, uint8_t handover_with_data);
+                   uint16_t default_priority, uint64_t default_threshold, uint64_t total_threshold, uint8_t handover_with_data,
+                   uint8_t restart_rule);
 
 /* Adds a message; its payload is copied to the store. With has_lifetime it expires lifetime nanoseconds and 1 ms after time, else
  * never (and lifetime is not looked at). Without has_retransmissions no limit is given. Lifecycle id 0 means none. The first message
@@ -189,8 +198,9 @@ uint8_t dsq_commit_reset_streams(uint64_t queue[DSQ_QUEUE_WORDS]);
 /* Opens every resetting stream. (16) */
 uint8_t dsq_rollback_reset_streams(uint64_t queue[DSQ_QUEUE_WORDS]);
 
-/* After a restart of the peer: opens all streams, sets their counters to 0 and puts half-sent messages back whole; these keep the
- * numbers that they have. (16) */
+/* After a restart of the peer: opens all streams, sets their counters to 0 and puts half-sent messages back whole. These keep the numbers
+ * that they have under DSQ_RESTART_DCSCTP, and have none under DSQ_RESTART_STRICT, as if never begun: the first fragment gives them new
+ * ones. (16) */
 uint8_t dsq_reset(uint64_t queue[DSQ_QUEUE_WORDS]);
 
 /* ---------------------------------------------------------------- settings */
@@ -245,8 +255,9 @@ uint64_t dsq_get_handover_readiness(const uint64_t queue[DSQ_QUEUE_WORDS]);
 uint8_t dsq_save(const uint64_t queue[DSQ_QUEUE_WORDS], const uint8_t *store, size_t store_length, uint8_t *image, size_t image_length,
                  uint64_t out[DSQ_OUT_WORDS], uint64_t time);
 
-/* Restores an image of exactly image_length bytes into a queue that knows no stream and has accepted no message.
- * (2, 4, 12, 13, 14, 15) */
+/* Restores an image of exactly image_length bytes into a queue that knows no stream and has accepted no message. The image does not tell
+ * the rule of the queue that was saved. Under DSQ_RESTART_STRICT a message of which nothing was sent may have no MID, else 13: such an
+ * image comes from a queue that was reset under DSQ_RESTART_DCSCTP. (2, 4, 12, 13, 14, 15) */
 uint8_t dsq_restore(uint64_t queue[DSQ_QUEUE_WORDS], uint8_t *store, size_t store_length, const uint8_t *image, size_t image_length,
                     uint64_t time);
 

@@ -73,7 +73,7 @@ static size_t used(enum call which) {
 int main(void) {
     size_t without, all, one, adding, sending;
     unsigned i;
-    if (dsq_create(queue, store, STORE, 1200, 256, 0, 0, 1) != 0)
+    if (dsq_create(queue, store, STORE, 1200, 256, 0, 0, 1, DSQ_RESTART_DCSCTP) != 0)
         return 1;
     for (i = 0; i < DSQ_MAX_MESSAGES; i++)
         if (!add(100, (uint16_t)(i % 256), 1, i + 1))

@@ -135,15 +135,20 @@ static int as_remembered(const struct host *h)
 
 static uint8_t create(struct host *h, uint64_t payload_limit, uint16_t priority, uint64_t threshold, uint64_t total, uint8_t with_data)
 {
-    return dsq_create(h->queue, h->store, h->store_length, payload_limit, priority, threshold, total, with_data);
+    return dsq_create(h->queue, h->store, h->store_length, payload_limit, priority, threshold, total, with_data, DSQ_RESTART_DCSCTP);
 }
 
-/* A queue with payload limit 1,000, default priority 256 and thresholds of 0. */
-static struct host *new_queue(size_t store_length)
+/* A queue with payload limit 1,000, default priority 256 and thresholds of 0, by a rule of a restart; and by dcSCTP's. */
+static struct host *new_queue_by(uint8_t rule, size_t store_length)
 {
     struct host *h = lend(store_length, BUFFER, DSQ_MAX_IMAGE(store_length));
-    CHECK(create(h, 1000, 256, 0, 0, 1) == DSQ_ACCEPTED);
+    CHECK(dsq_create(h->queue, h->store, h->store_length, 1000, 256, 0, 0, 1, rule) == DSQ_ACCEPTED);
     return h;
+}
+
+static struct host *new_queue(size_t store_length)
+{
+    return new_queue_by(DSQ_RESTART_DCSCTP, store_length);
 }
 
 /* A payload whose bytes tell their places. */
@@ -635,6 +640,96 @@ static void amounts(void)
     give_back(h);
 }
 
+/* ---------------------------------------------------------------- the rule of a restart (document 02, 6/13) */
+
+/* A queue whose second message on stream 1 is half-sent, with one behind it. */
+static struct host *half_sent(uint8_t rule, uint8_t unordered, uint8_t interleaved)
+{
+    struct host *h = new_queue_by(rule, SMALL_STORE);
+    CHECK(dsq_enable_message_interleaving(h->queue, interleaved) == DSQ_ACCEPTED);
+    CHECK(add(h, 1, 10, unordered, NEVER, 0) == DSQ_ACCEPTED && add(h, 1, 1500, unordered, NEVER, 0) == DSQ_ACCEPTED);
+    CHECK(add(h, 1, 20, unordered, NEVER, 0) == DSQ_ACCEPTED);
+    CHECK(sends(h, 1000, 1, 10, 0, 1, 1) && counts(h, 0, 0, 0));
+    CHECK(sends(h, 1000, 1, 1000, 0, 1, 0) && counts(h, !unordered, 1, 0));
+    return h;
+}
+
+/* The next two messages, of 1,500 and 20 bytes, have these MIDs; the longer one starts with this FSN. An ordered one's SSN is its MID here. */
+static int continues(struct host *h, uint8_t unordered, uint64_t mid, uint64_t fsn, uint64_t mid_behind)
+{
+    return sends(h, 1000, 1, 1000, 0, 1, 0) && counts(h, unordered ? 0 : mid, mid, fsn)
+        && sends(h, 1000, 1, 500, 1000, 0, 1) && counts(h, unordered ? 0 : mid, mid, fsn + 1)
+        && sends(h, 1000, 1, 20, 0, 1, 1) && counts(h, unordered ? 0 : mid_behind, mid_behind, 0) && sends_nothing(h);
+}
+
+/* "a message put back starts with FSN 0 and with numbers from the zeroed counters" */
+static void restarts_by(uint8_t unordered, uint8_t interleaved)
+{
+    static const uint8_t strict[] = {DSQ_RESTART_STRICT, 2, 255};
+    struct host *h = half_sent(DSQ_RESTART_DCSCTP, unordered, interleaved);
+    size_t i;
+    CHECK(dsq_reset(h->queue) == DSQ_ACCEPTED && amount(h, 1) == 1520);
+    CHECK(continues(h, unordered, 1, 1, 0));
+    give_back(h);
+    for (i = 0; i < sizeof strict; i++) {
+        h = half_sent(strict[i], unordered, interleaved);
+        CHECK(dsq_reset(h->queue) == DSQ_ACCEPTED && amount(h, 1) == 1520);
+        CHECK(continues(h, unordered, 0, 0, 1));
+        give_back(h);
+    }
+}
+
+/* The image of a queue goes into a new one by either rule; or the strict rule refuses it with 13. */
+static void carried(struct host *h, int strictly)
+{
+    struct host *g = new_queue_by(DSQ_RESTART_DCSCTP, SMALL_STORE), *s = new_queue_by(DSQ_RESTART_STRICT, SMALL_STORE);
+    size_t n;
+    CHECK(save(h) == DSQ_ACCEPTED);
+    n = (size_t)h->out[DSQ_OUT_VALUE];
+    CHECK(restore(g, h->image, n) == DSQ_ACCEPTED);
+    if (strictly)
+        CHECK(restore(s, h->image, n) == DSQ_ACCEPTED && save(s) == DSQ_ACCEPTED && memcmp(s->image, h->image, n) == 0);
+    else
+        REFUSED(s, DSQ_IMAGE_WRONG, restore(s, h->image, n));
+    give_back(g);
+    give_back(s);
+}
+
+/* "Strict restoring answers 13 also to a MID on a message at offset 0." */
+static void restarts(void)
+{
+    struct host *h, *g;
+    struct draft d;
+    uint8_t unordered;
+
+    for (unordered = 0; unordered < 2; unordered++) {
+        restarts_by(unordered, 0);
+        restarts_by(unordered, 1);
+        h = half_sent(DSQ_RESTART_DCSCTP, unordered, 0);
+        carried(h, 1);
+        CHECK(dsq_reset(h->queue) == DSQ_ACCEPTED);
+        carried(h, 0);
+        give_back(h);
+        h = half_sent(DSQ_RESTART_STRICT, unordered, 0);
+        carried(h, 1);
+        CHECK(dsq_reset(h->queue) == DSQ_ACCEPTED);
+        carried(h, 1);
+        give_back(h);
+    }
+
+    /* it comes before 14 and 15 */
+    d = draft(44 + SMALL_STORE + 1 + 20);
+    put_message(&d, 1, 2, 7, 7, 3, 0, 0, SMALL_STORE + 1);
+    put_trailer(&d, 1, 255);
+    h = new_queue_by(DSQ_RESTART_STRICT, SMALL_STORE);
+    g = new_queue_by(DSQ_RESTART_DCSCTP, SMALL_STORE);
+    REFUSED(h, DSQ_IMAGE_WRONG, restore(h, d.bytes, d.length));
+    REFUSED(g, DSQ_PRIORITY_OTHER, restore(g, d.bytes, d.length));
+    free(d.bytes);
+    give_back(h);
+    give_back(g);
+}
+
 /* ---------------------------------------------------------------- the ends of the domain */
 
 static void limits(void)
@@ -720,8 +815,8 @@ static void refusals(void)
     REFUSED(h, DSQ_PAYLOAD_LIMIT_WRONG, create(h, 0, 256, 0, 0, 1));
     REFUSED(h, DSQ_PAYLOAD_LIMIT_WRONG, create(h, DSQ_MAX_PAYLOAD_LIMIT + 1, 256, 0, 0, 1));
     REFUSED(h, DSQ_PAYLOAD_LIMIT_WRONG, create(h, UINT64_MAX, 256, 0, 0, 1));
-    REFUSED(h, DSQ_STORE_WRONG, dsq_create(h->queue, h->store, 0, 1000, 256, 0, 0, 1));
-    REFUSED(h, DSQ_PAYLOAD_LIMIT_WRONG, dsq_create(h->queue, h->store, 0, 0, 256, 0, 0, 1));
+    REFUSED(h, DSQ_STORE_WRONG, dsq_create(h->queue, h->store, 0, 1000, 256, 0, 0, 1, DSQ_RESTART_STRICT));
+    REFUSED(h, DSQ_PAYLOAD_LIMIT_WRONG, dsq_create(h->queue, h->store, 0, 0, 256, 0, 0, 1, DSQ_RESTART_STRICT));
     g = lend(DSQ_MAX_STORE + 1, BUFFER, 100);
     REFUSED(g, DSQ_STORE_WRONG, create(g, 1000, 256, 0, 0, 1));
     give_back(g);
@@ -1026,15 +1121,15 @@ static uint64_t any(void)
     return seed;
 }
 
-/* The options (words 0 to 5), the count of messages and the occupied bytes (10 and 12) are kept, since refusals of a smaller number are
+/* The options (words 0 to 6), the count of messages and the occupied bytes (11 and 13) are kept, since refusals of a smaller number are
  * judged by them; all else is as large as can be. */
 static void broken_words(void)
 {
     struct host *h = new_queue(SMALL_STORE);
     size_t i;
     CHECK(plain(h, 1, 100) == DSQ_ACCEPTED);
-    for (i = 6; i < DSQ_QUEUE_WORDS; i++)
-        if (i != 10 && i != 12)
+    for (i = 7; i < DSQ_QUEUE_WORDS; i++)
+        if (i != 11 && i != 13)
             h->queue[i] = UINT64_MAX;
     REFUSED(h, DSQ_WORDS_BROKEN, plain(h, 1, 100));
     REFUSED(h, DSQ_WORDS_BROKEN, produce(h, 1000));
@@ -1085,13 +1180,13 @@ static uint8_t some_call(struct host *h, unsigned which)
     }
 }
 
-/* A queue in use, some of its words damaged: every call returns, and where it refuses leaves every array as it was. */
+/* A queue in use, some of its words from the rule of a restart on (word 6) damaged: every call returns, and where it refuses leaves every array as it was. */
 static void damaged_words(void)
 {
     struct host *h = new_queue(SMALL_STORE);
     unsigned round, i, refused = 0, right = 1;
     for (round = 0; round < 60; round++) {
-        if (create(h, 1000, 256, 0, 0, 1) != DSQ_ACCEPTED)
+        if (dsq_create(h->queue, h->store, h->store_length, 1000, 256, 0, 0, 1, (uint8_t)(round % 2)) != DSQ_ACCEPTED)
             right = 0;
         for (i = 0; i < 12; i++)
             (void)some_call(h, (unsigned)(any() % 6));
@@ -1119,6 +1214,7 @@ int main(void)
     examples();
     amounts();
     closing_expires();
+    restarts();
     limits();
     refusals();
     planning();

@@ -9,6 +9,7 @@ pub use linked_dropping::discard;
 pub use queue_messages::Lifetime;
 pub use queue_messages::MaxRetransmissions;
 pub use queue_messages::Message;
+pub use queue_words::RestartRule;
 // The next fragment.
 pub use linked_sending::produce;
 pub use queue_sending::Data;

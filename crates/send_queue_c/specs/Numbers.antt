@@ -6,6 +6,8 @@ use mathlib.Core.List.{List, _++_}
 use lib.Dec.{eqb}
 use lib.ListN.{set, take, drop}
 use Rattle.queue_words.specs.Flags.{bit}
+use Rattle.queue_words.specs.declared.header.RestartRule.{RestartRule}
+use Rattle.queue_words.specs.declared.header.RestartRule.the-variants.{Dcsctp, Strict}
 use Rattle.types.specs.Keys.{key-id, key-unordered}
 use Rattle.queue_streams.specs.declared.answers.Call.{Call}
 use Rattle.queue_streams.specs.declared.answers.Call.the-variants.{Accepted, Refused}
@@ -34,6 +36,11 @@ use Rattle.saving.specs.declared.image.Saved.the-variants as saved
 -- A flag: 0 for no, anything else for yes.
 abbrev pub isYes : ℕ → Bool
 isYes n = not (eqb n 0)
+
+-- Document 02, 6/13: "Creation chooses the rule, as in the Rust or strict." DSQ_RESTART_DCSCTP is 0, DSQ_RESTART_STRICT 1.
+abbrev pub restartRuleOf : Bool → RestartRule
+restartRuleOf true = Strict
+restartRuleOf false = Dcsctp
 
 abbrev pub lifetimeOf : Bool → ℕ → Lifetime
 lifetimeOf true n = life.Limited n

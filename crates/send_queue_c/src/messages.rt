@@ -4,7 +4,7 @@ ghost use lib.ListN.{length};
 ghost use Rattle.queue_messages.specs.Add.{add};
 ghost use Rattle.queue_messages.specs.Create.{create};
 ghost use Rattle.queue_messages.specs.Discard.{discard};
-ghost use Rattle.send_queue_c.specs.Numbers.{isYes, lifetimeOf, retransmissionsOf, messageOf};
+ghost use Rattle.send_queue_c.specs.Numbers.{isYes, restartRuleOf, lifetimeOf, retransmissionsOf, messageOf};
 ghost use Rattle.send_queue_c.specs.Given.{Gives, GivesEvents, GivesStore};
 use crate::numbers::OUT_WORDS;
 use crate::numbers::call_number;
@@ -14,10 +14,22 @@ use send_queue::Lifetime;
 use send_queue::MaxRetransmissions;
 use send_queue::Message;
 use send_queue::QUEUE_WORDS;
+use send_queue::RestartRule;
 use send_queue::StreamId;
 use send_queue::add;
 use send_queue::create;
 use send_queue::discard;
+
+// DSQ_RESTART_DCSCTP or DSQ_RESTART_STRICT of c/send_queue.h.
+fn restart_rule_of(rule: u8) -> RestartRule
+    ensures { λ r. ⌜ r ≡ restartRuleOf (isYes rule) ⌝ }
+{
+    let strict = is_yes(rule);
+    if strict {
+        return RestartRule::Strict;
+    }
+    RestartRule::Dcsctp
+}
 
 #[no_mangle]
 pub extern "C" fn dsq_create(
@@ -28,10 +40,12 @@ pub extern "C" fn dsq_create(
     default_threshold: u64,
     total_threshold: u64,
     handover_with_data: u8,
+    restart_rule: u8,
 ) -> u8
-    ensures { λ r. ⌜ Gives (create (now (queue .entry)) (length (now (store .entry))) «payload_limit» «default_priority» «default_threshold» «total_threshold» (isYes «handover_with_data»)) r (now (queue .exit)) ⌝ }
+    ensures { λ r. ⌜ Gives (create (now (queue .entry)) (length (now (store .entry))) «payload_limit» «default_priority» «default_threshold» «total_threshold» (isYes «handover_with_data») (restartRuleOf (isYes «restart_rule»))) r (now (queue .exit)) ⌝ }
 {
     let with_data = is_yes(handover_with_data);
+    let rule = restart_rule_of(restart_rule);
     let c = create(
         queue,
         store,
@@ -40,6 +54,7 @@ pub extern "C" fn dsq_create(
         default_threshold,
         total_threshold,
         with_data,
+        rule,
     );
     call_number(c)
 }

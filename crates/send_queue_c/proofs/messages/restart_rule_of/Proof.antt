@@ -1,0 +1,26 @@
+-- `send_queue_c::messages::restart_rule_of` meets its contract: each return is what its definition says, by what the calls ensure and the tests taken. Assumes nothing.
+use borrow.Author.Needs.{needs}
+use Rattle.send_queue_c.proofs.messages.restart_rule_of.Statement.{statement}
+use Rattle.send_queue_c.proofs.messages.restart_rule_of.Tie as tie
+
+returns : tie.Need-returns
+returns c =
+    rw (
+      ← (c .before .is-yes .ensures),
+      (c .if1 .taken),
+    )
+
+returns-2 : tie.Need-returns-2
+returns-2 c =
+    rw (
+      ← (c .before .is-yes .ensures),
+      (c .if1 .left),
+    )
+
+pub restart-rule-of-spec : {M : Type 1} → statement M
+restart-rule-of-spec =
+    tie.close
+    (tie.spec
+    (λ c. search needs)
+    returns
+    returns-2)
