@@ -12,6 +12,7 @@ use crate::limits::MAX_PLANNED;
 use crate::limits::MAX_STREAMS;
 use crate::limits::OUT_WORDS;
 use crate::limits::QUEUE_WORDS;
+use crate::options::RestartRule;
 
 /// A queue's state.
 pub(crate) type Words = [u64; QUEUE_WORDS];
@@ -36,6 +37,7 @@ mod c {
             default_threshold: u64,
             total_threshold: u64,
             handover_with_data: u8,
+            restart_rule: u8,
         ) -> u8;
         pub fn dsq_add(
             queue: *mut u64,
@@ -143,6 +145,7 @@ pub(crate) fn create(
     default_threshold: u64,
     total_threshold: u64,
     handover_with_data: bool,
+    restart_rule: RestartRule,
 ) -> u8 {
     // SAFETY: queue and store are references, the store's length is its own.
     unsafe {
@@ -155,6 +158,7 @@ pub(crate) fn create(
             default_threshold,
             total_threshold,
             u8::from(handover_with_data),
+            restart_rule as u8,
         )
     }
 }

@@ -30,7 +30,7 @@ impl SendQueue {
     }
 
     /// Makes a new queue the one of the image. Its streams are open, with the default thresholds. dcSCTP's `restore_from_state` does it from
-    /// a record.
+    /// a record. The image does not tell the saved queue's [`RestartRule`](crate::RestartRule); one of the two has a rule more for images.
     ///
     /// Refused: [`Refusal::TimeLate`], [`Refusal::QueueUsed`], [`Refusal::ImageWrong`], [`Refusal::PriorityOther`],
     /// [`Refusal::ImageLarge`].

@@ -41,6 +41,7 @@ pub use message::LifecycleId;
 pub use message::Message;
 pub use message::SendOptions;
 pub use options::Options;
+pub use options::RestartRule;
 pub use planning::plan_priorities;
 pub use queue::SendQueue;
 pub use readiness::HandoverReadiness;

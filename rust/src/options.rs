@@ -16,6 +16,22 @@ pub struct Options {
     pub total_buffered_amount_low_threshold: usize,
     /// Whether a queue with waiting messages counts as ready for the changeover.
     pub enable_handover_with_outstanding_data: bool,
+    /// What a half-sent message keeps when the peer restarts. dcSCTP has no such option.
+    pub restart_rule: RestartRule,
+}
+
+/// How [`reset`](crate::SendQueue::reset) puts a half-sent message back. It is sent whole again under either rule.
+#[derive(Clone, Copy, Debug, Default, Eq, Hash, PartialEq)]
+#[repr(u8)]
+pub enum RestartRule {
+    /// As dcSCTP does: the message keeps its MID and SSN and counts its FSN on, whatever its stream counts from then on.
+    #[default]
+    Dcsctp = 0,
+    /// As RFC 8260 has it: the message starts with FSN 0, and with a MID and SSN from its stream's counters, which are 0 then.
+    ///
+    /// [`restore`](crate::SendQueue::restore) then refuses an image with a MID on a message of which nothing was sent, as a queue of the
+    /// other rule may leave it ([`Refusal::ImageWrong`](crate::Refusal::ImageWrong)).
+    Strict = 1,
 }
 
 impl Default for Options {
@@ -26,6 +42,7 @@ impl Default for Options {
             default_stream_buffered_amount_low_threshold: 0,
             total_buffered_amount_low_threshold: 1_800_000,
             enable_handover_with_outstanding_data: false,
+            restart_rule: RestartRule::default(),
         }
     }
 }

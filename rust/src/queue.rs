@@ -76,6 +76,7 @@ impl SendQueue {
             options.default_stream_buffered_amount_low_threshold as u64,
             options.total_buffered_amount_low_threshold as u64,
             options.enable_handover_with_outstanding_data,
+            options.restart_rule,
         ))?;
         Ok(queue)
     }

@@ -33,7 +33,7 @@ pub enum Refusal {
     ImageBufferShort = 11,
     /// Restoring into a queue that knows a stream, or whose next message id is not 0.
     QueueUsed = 12,
-    /// The image breaks a rule of its form.
+    /// The image breaks a rule of its form, or has a number that [`RestartRule::Strict`](crate::RestartRule::Strict) does not take.
     ImageWrong = 13,
     /// The image's default priority is not the queue's.
     PriorityOther = 14,

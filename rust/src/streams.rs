@@ -41,7 +41,8 @@ impl SendQueue {
         accepted(ffi::rollback_reset_streams(&mut self.words));
     }
 
-    /// The peer has restarted: all streams are open and count from 0, and a half-sent message is sent whole again.
+    /// The peer has restarted: all streams are open and count from 0, and a half-sent message is sent whole again, with the numbers that
+    /// it had or with new ones ([`RestartRule`](crate::RestartRule)).
     pub fn reset(&mut self) {
         self.event_count = 0;
         accepted(ffi::reset(&mut self.words));

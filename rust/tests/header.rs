@@ -132,6 +132,7 @@ fn number(text: &str, name: &str) -> u64 {
 fn the_lengths_and_places_are_the_proved_ones() {
     let header = text("../c/send_queue.h");
     let limits = text("src/limits.rs");
+    let options = text("src/options.rs");
     let words = text("../crates/queue_words/src/lib.rt");
     let events = text("../crates/queue_streams/src/events.rt");
     let places = text("../crates/send_queue_c/src/numbers.rt");
@@ -140,6 +141,8 @@ fn the_lengths_and_places_are_the_proved_ones() {
     for (define, source, constant) in [
         ("#define DSQ_LAYOUT", &layout, "const LAYOUT: u64"),
         ("#define DSQ_LAYOUT", &limits, "const LAYOUT: u64"),
+        ("DSQ_RESTART_DCSCTP =", &options, "Dcsctp ="),
+        ("DSQ_RESTART_STRICT =", &options, "Strict ="),
         ("#define DSQ_QUEUE_WORDS", &words, "const QUEUE_WORDS: usize"),
         ("#define DSQ_QUEUE_WORDS", &limits, "const QUEUE_WORDS: usize"),
         ("#define DSQ_MAX_EVENTS", &events, "const EVENT_PLACES: usize"),
@@ -170,7 +173,7 @@ fn the_lengths_and_places_are_the_proved_ones() {
 
 /// The layout, and a sum over what the header declares. Whoever changes a declaration decides whether a host compiled before would be wrong
 /// with it. Then the layout moves, here and in the header, limits.rs and send_queue_c. What is only added has a new sum and no new layout.
-const LAYOUT: (u64, u32) = (2, 2_496_313_941);
+const LAYOUT: (u64, u32) = (3, 3_601_810_940);
 
 #[test]
 fn the_layout_goes_with_what_the_header_declares() {

@@ -232,6 +232,76 @@ fn an_image_is_restored_once() {
     assert_eq!(new(Options { max_send_buffer_size: 1_499, ..Options::default() }), Err(Refusal::ImageLarge));
 }
 
+/// A queue by a rule of a restart whose second message on stream 1 is half-sent.
+fn half_sent(restart_rule: RestartRule, unordered: bool, interleaved: bool) -> SendQueue {
+    let mut q = SendQueue::new(1_000, &Options { restart_rule, ..Options::default() }).unwrap();
+    q.enable_message_interleaving(interleaved);
+    for length in [10, 1_500, 20] {
+        q.add(NOW, message(1, &vec![5; length]), &SendOptions { unordered, ..Default::default() }).unwrap();
+    }
+    assert!(q.produce(NOW, 1_000).unwrap().unwrap().data.is_end);
+    assert!(!q.produce(NOW, 1_000).unwrap().unwrap().data.is_end);
+    q
+}
+
+/// SSN, MID and FSN of every fragment that waits.
+fn numbers(mut q: SendQueue) -> Vec<(u16, u32, u32)> {
+    let mut found = Vec::new();
+    while let Some(d) = q.produce(NOW, 1_000).unwrap() {
+        found.push((d.data.ssn.0, d.data.mid.0, d.data.fsn.0));
+    }
+    found
+}
+
+/// Document 02, 6/13: "a message put back starts with FSN 0 and with numbers from the zeroed counters".
+#[test]
+fn a_strict_reset_gives_new_numbers() {
+    assert_eq!(Options::default().restart_rule, RestartRule::Dcsctp);
+    for interleaved in [false, true] {
+        let reset = |rule, unordered| {
+            let mut q = half_sent(rule, unordered, interleaved);
+            q.reset();
+            assert_eq!(q.buffered_amount(StreamId(1)), 1_520);
+            numbers(q)
+        };
+        assert_eq!(reset(RestartRule::Dcsctp, false), [(1, 1, 1), (1, 1, 2), (0, 0, 0)]);
+        assert_eq!(reset(RestartRule::Dcsctp, true), [(0, 1, 1), (0, 1, 2), (0, 0, 0)]);
+        assert_eq!(reset(RestartRule::Strict, false), [(0, 0, 0), (0, 0, 1), (1, 1, 0)]);
+        assert_eq!(reset(RestartRule::Strict, true), [(0, 0, 0), (0, 0, 1), (0, 1, 0)]);
+    }
+}
+
+/// "Strict restoring answers 13 also to a MID on a message at offset 0."
+#[test]
+fn a_strict_queue_refuses_a_message_put_back_with_its_numbers() {
+    let restored = |rule, image: &[u8]| {
+        let mut q = SendQueue::new(1_000, &Options { restart_rule: rule, ..Options::default() }).unwrap();
+        q.restore(NOW, image).map(|()| numbers(q))
+    };
+    for rule in [RestartRule::Dcsctp, RestartRule::Strict] {
+        let image = half_sent(rule, false, false).save(NOW).unwrap();
+        for other in [RestartRule::Dcsctp, RestartRule::Strict] {
+            assert_eq!(
+                restored(other, &image),
+                Ok(vec![(1, 1, 1), (2, 2, 0)]),
+                "a half-sent message keeps its numbers"
+            );
+        }
+    }
+    let put_back = |rule| {
+        let mut q = half_sent(rule, false, false);
+        q.reset();
+        q.save(NOW).unwrap()
+    };
+    let kept = put_back(RestartRule::Dcsctp);
+    assert_eq!(restored(RestartRule::Dcsctp, &kept), Ok(vec![(1, 1, 1), (1, 1, 2), (0, 0, 0)]));
+    assert_eq!(restored(RestartRule::Strict, &kept), Err(Refusal::ImageWrong));
+    let anew = put_back(RestartRule::Strict);
+    for rule in [RestartRule::Dcsctp, RestartRule::Strict] {
+        assert_eq!(restored(rule, &anew), Ok(vec![(0, 0, 0), (0, 0, 1), (1, 1, 0)]));
+    }
+}
+
 #[test]
 fn readiness_is_the_choice_at_creation() {
     for (choice, ready) in [(false, HandoverReadiness::SEND_QUEUE_NOT_EMPTY), (true, HandoverReadiness::READY)] {

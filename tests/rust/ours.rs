@@ -57,6 +57,8 @@ impl Ours {
             default_stream_buffered_amount_low_threshold: threshold as usize,
             total_buffered_amount_low_threshold: total as usize,
             enable_handover_with_outstanding_data: handover,
+            // The original has no other.
+            restart_rule: RestartRule::Dcsctp,
         };
         let queue = SendQueue::new(limit as usize, &options).map_err(Refusal::number)?;
         Ok(Ours { queue, buffer: vec![FILL; MAX_PAYLOAD + 1] })

@@ -21,6 +21,11 @@ impl<'a> Line<'a> {
         T::try_from(number).unwrap_or_else(|_| panic!("{number} is too large for its place"))
     }
 
+    /// The next number, or 0 where a line may leave it out and does.
+    pub fn take_or_0(&mut self) -> u64 {
+        if self.taken < self.numbers.len() { self.take() } else { 0 }
+    }
+
     pub fn flag(&mut self) -> bool {
         self.take::<u64>() == 1
     }

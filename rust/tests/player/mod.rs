@@ -215,6 +215,7 @@ impl Player {
                 default_stream_buffered_amount_low_threshold: line.take(),
                 total_buffered_amount_low_threshold: line.take(),
                 enable_handover_with_outstanding_data: line.flag(),
+                restart_rule: if line.take_or_0() == 1 { RestartRule::Strict } else { RestartRule::Dcsctp },
             },
         };
         let store = creation.options.max_send_buffer_size;
