@@ -14,6 +14,7 @@ use crate::state::SIZE;
 use crate::state::STATE;
 use crate::state::STORE_BYTES;
 use crate::state::STREAM;
+use crate::state::STRICT;
 use crate::state::THRESHOLD;
 use crate::state::TIME;
 use crate::state::low8;
@@ -25,6 +26,7 @@ use send_queue::MaxRetransmissions;
 use send_queue::Message;
 use send_queue::Produced;
 use send_queue::QUEUE_WORDS;
+use send_queue::RestartRule;
 use send_queue::StreamId;
 use send_queue::add;
 use send_queue::commit_reset_streams;
@@ -41,11 +43,19 @@ use send_queue::set_priority;
 // What the program itself answers where an array is shorter than the length asked for. No document has this number.
 const TOO_SHORT: u8 = 99;
 
+fn rule_of(strict: u64) -> RestartRule {
+    if strict == 1 {
+        return RestartRule::Strict;
+    }
+    RestartRule::Dcsctp
+}
+
 pub fn lent_create(queue: &mut [u64; QUEUE_WORDS], store: &[u8], state: &[u64; STATE]) -> Call {
     let n = state[STORE_BYTES] as usize;
     if n > store.len() {
         return Call::Refused(TOO_SHORT);
     }
+    let rule = rule_of(state[STRICT]);
     create(
         queue,
         &store[0..n],
@@ -54,6 +64,7 @@ pub fn lent_create(queue: &mut [u64; QUEUE_WORDS], store: &[u8], state: &[u64; S
         state[THRESHOLD],
         state[THRESHOLD],
         false,
+        rule,
     )
 }
 

@@ -19,6 +19,7 @@ use crate::state::SIZE;
 use crate::state::STATE;
 use crate::state::STORE_BYTES;
 use crate::state::STREAM;
+use crate::state::STRICT;
 use crate::state::THRESHOLD;
 use crate::state::TIME;
 use crate::state::TURN;
@@ -100,6 +101,7 @@ fn draw_arguments(state: &mut [u64; STATE]) {
     state[THRESHOLD] = draw(state, 200);
     state[INTERLEAVE] = draw(state, 2);
     state[LIMIT] = draw(state, 70000);
+    state[STRICT] = draw(state, 2);
 }
 
 // A random word.
@@ -115,7 +117,7 @@ fn place(state: &mut [u64; STATE]) -> usize
     let k = draw(state, 3);
     let x = draw(state, 0);
     if k == 0 {
-        return (x % 17) as usize;
+        return (x % 18) as usize;
     }
     (x % 20768) as usize
 }

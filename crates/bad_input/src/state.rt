@@ -18,16 +18,19 @@ pub const STATE: usize = 64;
 
 // The keys. Those that a line leaves out have their usual values.
 //
-//     b  bytes of the store lent, or at creation    n  bytes of the payload
-//     e  words of the event list lent               p  priority
-//     f  bytes of the fragment buffer lent          r  how many times the call is made
-//     g  1 to interleave                            s  stream
-//     h  threshold                                  t  time
-//     i  message id                                 u  what is added to the stream each time
-//     l  lifetime                                   w  what is added to the message id each time
-//     m  payload limit                              x  random numbers are below it, 0: of 64 bits
-//     z  size asked for                             y  how many words are replaced, 0: all
+//     b  bytes of the store lent, or at creation    p  priority
+//     c  1 for the strict rule of a restart         r  how many times the call is made
+//     e  words of the event list lent               s  stream
+//     f  bytes of the fragment buffer lent          t  time
+//     g  1 to interleave                            u  what is added to the stream each time
+//     h  threshold                                  w  what is added to the message id each time
+//     i  message id                                 x  random numbers are below it, 0: of 64 bits
+//     l  lifetime                                   y  how many words are replaced, 0: all
+//     m  payload limit                              z  size asked for
+//     n  bytes of the payload
 pub const STORE_BYTES: usize = 1;
+
+pub const STRICT: usize = 2;
 
 pub const EVENT_LIST: usize = 4;
 
@@ -137,6 +140,7 @@ pub fn plus(a: u64, b: u64) -> u64 {
 // The usual values: an accepted call on a queue that was created with b bytes.
 pub fn set_usual(state: &mut [u64; STATE]) {
     state[STORE_BYTES] = state[CREATED];
+    state[STRICT] = 0;
     state[EVENT_LIST] = EVENT_WORDS as u64;
     state[FRAGMENT_BYTES] = 262144;
     state[INTERLEAVE] = 0;

@@ -12,6 +12,7 @@ use crate::output::put_number;
 use crate::output::put_text;
 use crate::payload::sum_of;
 use crate::plan::answer_plan;
+use crate::ranges::NEW_WITH_RULE;
 use crate::settle::events_of;
 use crate::settle::refusal_number;
 use crate::settle::refusal_of;
@@ -22,9 +23,11 @@ use crate::settle::settle_store;
 use crate::settle::settle_words;
 use crate::state::BUFFER;
 use crate::state::CHOICE;
+use crate::state::COUNT;
 use crate::state::CREATED_HANDOVER;
 use crate::state::CREATED_LIMIT;
 use crate::state::CREATED_PRIORITY;
+use crate::state::CREATED_RULE;
 use crate::state::CREATED_STORE;
 use crate::state::CREATED_THRESHOLD;
 use crate::state::CREATED_TOTAL;
@@ -71,6 +74,14 @@ fn begin(state: &mut [u64; STATE]) {
     state[CHOICE] = 0;
 }
 
+// "The seventh number may be missing, which means 0": its place then has another line's.
+fn rule_given(state: &[u64; STATE]) -> u64 {
+    if state[COUNT] < NEW_WITH_RULE {
+        return 0;
+    }
+    state[6]
+}
+
 // The arguments of creation, which a queue alike is created with.
 fn keep_arguments(state: &mut [u64; STATE]) {
     state[CREATED_LIMIT] = state[0];
@@ -79,6 +90,7 @@ fn keep_arguments(state: &mut [u64; STATE]) {
     state[CREATED_THRESHOLD] = state[3];
     state[CREATED_TOTAL] = state[4];
     state[CREATED_HANDOVER] = state[5];
+    state[CREATED_RULE] = rule_given(&*state);
 }
 
 fn answer_create(

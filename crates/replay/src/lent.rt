@@ -3,6 +3,7 @@ use crate::payload::fill;
 use crate::state::CREATED_HANDOVER;
 use crate::state::CREATED_LIMIT;
 use crate::state::CREATED_PRIORITY;
+use crate::state::CREATED_RULE;
 use crate::state::CREATED_STORE;
 use crate::state::CREATED_THRESHOLD;
 use crate::state::CREATED_TOTAL;
@@ -25,6 +26,7 @@ use send_queue::Message;
 use send_queue::PLACE_WORDS;
 use send_queue::Produced;
 use send_queue::QUEUE_WORDS;
+use send_queue::RestartRule;
 use send_queue::Saved;
 use send_queue::StreamId;
 use send_queue::add;
@@ -52,11 +54,19 @@ fn event_words(places: u64) -> usize {
     places as usize * PLACE_WORDS
 }
 
+fn rule_of(strict: u64) -> RestartRule {
+    if strict == 1 {
+        return RestartRule::Strict;
+    }
+    RestartRule::Dcsctp
+}
+
 pub fn lent_create(queue: &mut [u64; QUEUE_WORDS], store: &[u8], state: &[u64; STATE]) -> Call {
     let n = state[CREATED_STORE] as usize;
     if n > store.len() {
         return Call::Refused(TOO_SHORT);
     }
+    let rule = rule_of(state[CREATED_RULE]);
     create(
         queue,
         &store[0..n],
@@ -65,6 +75,7 @@ pub fn lent_create(queue: &mut [u64; QUEUE_WORDS], store: &[u8], state: &[u64; S
         state[CREATED_THRESHOLD],
         state[CREATED_TOTAL],
         state[CREATED_HANDOVER] == 1,
+        rule,
     )
 }
 

@@ -18,13 +18,18 @@ const BITS32: u64 = 4294967295;
 // No line has so many numbers.
 const NO_CALL: u64 = 99;
 
+// The numbers of a line `n` without the rule of a restart, which it may leave out, and with it.
+const NEW: u64 = 6;
+
+pub const NEW_WITH_RULE: u64 = 7;
+
 fn count_of(letter: u8) -> u64 {
     match letter {
         b'g' | b'k' | b'b' | b'r' => 0,
         b'c' | b'i' | b'q' | b's' | b'o' | b'w' | b'l' => 1,
         b'p' | b'd' | b't' | b'y' | b'h' | b'x' => 2,
         b'v' => 4,
-        b'n' => 6,
+        b'n' => NEW,
         b'a' => 11,
         _ => NO_CALL,
     }
@@ -35,7 +40,7 @@ fn most_new(k: usize) -> u64 {
     match k {
         1 => 2100000,
         2 => BITS16,
-        5 => FLAG,
+        5 | 6 => FLAG,
         _ => ANY,
     }
 }
@@ -123,10 +128,22 @@ fn numbers_fit(state: &[u64; STATE], letter: u8, count: usize) -> bool {
     true
 }
 
-// A line with a fixed count of numbers.
+// Whether a line has so many numbers.
+fn has_count(letter: u8, count: u64) -> bool {
+    if count == count_of(letter) {
+        return true;
+    }
+    match letter {
+        b'n' => count == NEW_WITH_RULE,
+        _ => false,
+    }
+}
+
+// A line of a few numbers.
 fn is_short_call(state: &[u64; STATE], letter: u8) -> bool {
     let count = state[COUNT];
-    if count != count_of(letter) {
+    let counted = has_count(letter, count);
+    if counted == false {
         return false;
     }
     let fit = numbers_fit(state, letter, count as usize);

@@ -10,8 +10,8 @@
 //     139           bytes waiting in the output buffer
 //     140 to 141    the next byte of the input buffer, and where its bytes end
 //     142           the length of the current image
-//     143 to 148    the numbers of the line that created the queue
-//     149           the interleaving choice, 0 or 1
+//     143 to 149    the numbers of the line that created the queue; the last, the rule of a restart, is 0 where the line has none
+//     150           the interleaving choice, 0 or 1
 use send_queue::PLACE_WORDS;
 
 pub const STATE: usize = 160;
@@ -54,7 +54,9 @@ pub const CREATED_TOTAL: usize = 147;
 
 pub const CREATED_HANDOVER: usize = 148;
 
-pub const CHOICE: usize = 149;
+pub const CREATED_RULE: usize = 149;
+
+pub const CHOICE: usize = 150;
 
 // The most places of the event list that a trace can lend.
 pub const MOST_PLACES: usize = 4096;
