@@ -12,7 +12,7 @@ use crate::limits::MAX_PLANNED;
 use crate::limits::MAX_STREAMS;
 use crate::limits::OUT_WORDS;
 use crate::limits::QUEUE_WORDS;
-use crate::options::RestartRule;
+use crate::options::Options;
 
 /// A queue's state.
 pub(crate) type Words = [u64; QUEUE_WORDS];
@@ -137,16 +137,7 @@ pub(crate) fn layout() -> u64 {
     unsafe { c::dsq_layout() }
 }
 
-pub(crate) fn create(
-    queue: &mut Words,
-    store: &[u8],
-    payload_limit: u64,
-    default_priority: u16,
-    default_threshold: u64,
-    total_threshold: u64,
-    handover_with_data: bool,
-    restart_rule: RestartRule,
-) -> u8 {
+pub(crate) fn create(queue: &mut Words, store: &[u8], payload_limit: u64, options: &Options) -> u8 {
     // SAFETY: queue and store are references, the store's length is its own.
     unsafe {
         c::dsq_create(
@@ -154,11 +145,11 @@ pub(crate) fn create(
             store.as_ptr(),
             store.len(),
             payload_limit,
-            default_priority,
-            default_threshold,
-            total_threshold,
-            u8::from(handover_with_data),
-            restart_rule as u8,
+            options.default_stream_priority,
+            options.default_stream_buffered_amount_low_threshold as u64,
+            options.total_buffered_amount_low_threshold as u64,
+            u8::from(options.enable_handover_with_outstanding_data),
+            options.restart_rule as u8,
         )
     }
 }

@@ -68,16 +68,7 @@ impl SendQueue {
             event_count: 0,
             fragment: Vec::new(),
         };
-        Refusal::judge(ffi::create(
-            &mut queue.words,
-            &queue.store,
-            max_payload_bytes as u64,
-            options.default_stream_priority,
-            options.default_stream_buffered_amount_low_threshold as u64,
-            options.total_buffered_amount_low_threshold as u64,
-            options.enable_handover_with_outstanding_data,
-            options.restart_rule,
-        ))?;
+        Refusal::judge(ffi::create(&mut queue.words, &queue.store, max_payload_bytes as u64, options))?;
         Ok(queue)
     }
 
