@@ -3,11 +3,15 @@ pub mod Waits
 pub mod Well
 pub mod Fine
 pub mod Sends
+pub mod Recalls
 pub mod Accepted
 pub mod Sixteen
 pub mod Each
 pub mod Pending
 pub mod Strict
+pub mod MidMessage
+pub mod Owed
+pub mod Unbroken
 pub mod Events
 pub mod Serving
 pub mod Passing

@@ -1,7 +1,7 @@
 -- The demands on images, as types over the model: demand 3 whole, and demand 2's sentence on saved images. Assumes nothing.
 use mathlib.Core.Path.{_≡_}
 use mathlib.Core.Logic.{_↔_}
-use mathlib.Core.Bool.{Bool, not, _&&_}
+use mathlib.Core.Bool.{Bool, true, false, not, _&&_}
 use mathlib.Core.List.{List, [], _∷_}
 use mathlib.Core.Option.{none, Option·getD}
 use Prim.Native.Nat.{ℕ, _≤_, _<_, _^_}
@@ -12,7 +12,7 @@ use Rattle.queue_model.specs.Types.{Stream, Options, Queue, Message, don
 use Rattle.queue_model.specs.Streams.{has-items, new-queue}
 use Rattle.queue_model.specs.Refusals.{max-time, create-refusal}
 use Rattle.queue_model.specs.Image.{write-image}
-use Rattle.queue_model.specs.RustHandover.{handover-state, restore-from-state}
+use Rattle.queue_model.specs.RustHandover.{HandoverState, handover-state, restore-from-state, begun-stream, restore-remembering}
 use Rattle.queue_model.specs.Run.{Call, add, produce, discard, close, ready-ids, commit, rollback, reset, set-threshold, set-priority, set-interleaving, restore, ask-priority, ask-amount, ask-threshold, ask-total, ask-empty, ask-has-data, ask-streams-ready, ask-readiness, step, run}
 use Rattle.queue_model.specs.Restore
 
@@ -110,10 +110,21 @@ unfoldable pub forget-plain : Queue → Queue
 unfolding without-plain
 forget-plain q = record { options = q .options; interleaving = q .interleaving; total = q .total; next-message-id = q .next-message-id; streams = without-plain (q .options .default-priority) (q .streams); scheduler = q .scheduler }
 
--- "Every saved image is accepted at any allowed time by a new queue created alike, and restores what the Rust restores from its own record" (specs/RustHandover), but for the
--- streams that have nothing to restore: whenever it was saved, and whatever the new queue's interleaving choice.
+-- "Every saved image is accepted at any allowed time by a new queue created alike, and restores what the Rust restores from its own record" (specs/RustHandover), as document 02's 10/13
+-- amends it, but for the streams that have nothing to restore: whenever it was saved, and whatever the new queue's interleaving choice.
 unfoldable pub Demand2-images : Type 0
 Demand2-images =
     (o : Options) (q : Queue) (saved now : ℕ) (b : Bool)
     → Reachable o q → now ≤ max-time
+    → Restore.restore (o .store-length) now (write-image saved q) (fresh o b) ≡ reply done [] (forget-plain (restore-remembering now (handover-state saved q) (fresh o b)))
+
+-- 10/13: "The Rust is matched on images without a half-sent message and on those restored with interleaving."
+abbrev pub Matched : Bool → HandoverState → Type 0
+Matched true h = Unit {0}
+Matched false h = begun-stream (h .queued-messages) ≡ none
+
+unfoldable pub Demand2-rust : Type 0
+Demand2-rust =
+    (o : Options) (q : Queue) (saved now : ℕ) (b : Bool)
+    → Reachable o q → now ≤ max-time → Matched b (handover-state saved q)
     → Restore.restore (o .store-length) now (write-image saved q) (fresh o b) ≡ reply done [] (forget-plain (restore-from-state now (handover-state saved q) (fresh o b)))

@@ -172,8 +172,17 @@ thrice : Option ℕ → List Call
 unfolding put
 thrice l = set-threshold 2305 5 15 ∷ put 5 10 0 l ∷ put 5 10 0 l ∷ put 5 10 0 l ∷ []
 
+-- A message half-sent on 5; messages half-sent on 5 and 7.
+half : List Call
+unfolding put get
+half = put 5 40 0 none ∷ get 0 10 ∷ put 3 10 0 none ∷ []
+
+halves : List Call
+unfolding put get
+halves = set-interleaving true ∷ put 7 40 0 none ∷ get 0 10 ∷ put 5 20 0 none ∷ get 0 10 ∷ put 3 10 0 none ∷ []
+
 pub facts : List Row
-unfolding shows fires fires-at thrice put get begun ended noted ready-with strictly image-after
+unfolding shows fires fires-at thrice put get begun ended noted ready-with strictly image-after half halves
 facts =
     -- "a remaining half-sent one makes the stream pending"; "When a pending stream's message ends or is discarded, it is paused."
     (shows (put 5 1500 0 none ∷ get 0 1000 ∷ close 2305 5 ∷ ready-ids ∷ get 0 1000 ∷ ready-ids ∷ []) gives (begun 5 ++ ended 5 ++ (5 ∷ [])))
@@ -210,6 +219,12 @@ facts =
     ∷ (strictly (restore 100000 1 (image-after (put 5 10 0 none ∷ get 0 6 ∷ reset ∷ [])) ∷ []) gives (999 ∷ 13 ∷ []))
     ∷ (strictly (restore 100000 1 (image-after (put 5 10 0 none ∷ get 0 6 ∷ [])) ∷ ask-amount 5 ∷ []) gives (4 ∷ []))
     ∷ (shows (restore 100000 1 (image-after (put 5 10 0 none ∷ get 0 6 ∷ reset ∷ [])) ∷ ask-amount 5 ∷ []) gives (10 ∷ []))
+    -- "Restoring without interleaving shall remember the stream whose first message is half-sent, the smallest id if several are, and send its rest first": 10 of 40 bytes sent on 5, then a
+    -- message on 3. The rest of 5 comes first, then 3; restored with interleaving 3 comes first, by its finish time.
+    ∷ (shows (restore 100000 1 (image-after half) ∷ get 1 40 ∷ get 1 40 ∷ []) gives (5 ∷ 30 ∷ 0 ∷ 1 ∷ 0 ∷ 0 ∷ 1 ∷ 3 ∷ 10 ∷ 1 ∷ 1 ∷ 0 ∷ 0 ∷ 0 ∷ []))
+    ∷ (shows (set-interleaving true ∷ restore 100000 1 (image-after half) ∷ get 1 40 ∷ []) gives (3 ∷ 10 ∷ 1 ∷ 1 ∷ 0 ∷ 0 ∷ 0 ∷ []))
+    -- Half-sent messages on 5 and 7, a whole one on 3: 5, then 3, then 7.
+    ∷ (shows (restore 100000 1 (image-after halves) ∷ get 1 40 ∷ get 1 40 ∷ get 1 40 ∷ []) gives (5 ∷ 10 ∷ 0 ∷ 1 ∷ 0 ∷ 0 ∷ 1 ∷ 3 ∷ 10 ∷ 1 ∷ 1 ∷ 0 ∷ 0 ∷ 0 ∷ 7 ∷ 30 ∷ 0 ∷ 1 ∷ 0 ∷ 0 ∷ 1 ∷ []))
     -- "Readiness is 2 if handover with waiting data is off and the total is above 0, else 0."
     ∷ ((ready-with [] ∷ ready-with (put 5 10 0 none ∷ []) ∷ []) gives (0 ∷ 2 ∷ []))
     -- "the first that applies is given": of 2, 3, 4, 9 and 10; of 4 and 5.

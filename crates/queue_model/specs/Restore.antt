@@ -5,9 +5,9 @@ use mathlib.Core.List.{List, [], _∷_, map}
 use mathlib.Core.Option.{Option, none, some}
 use lib.Dec.{eqb, ltb}
 use lib.ListN.{length}
-use Rattle.queue_model.specs.Logic.{is-nil, any}
+use Rattle.queue_model.specs.Logic.{if_then_else_, is-nil, any}
 use Rattle.queue_model.specs.Table.{find, put}
-use Rattle.queue_model.specs.Types.{Item, not-paused, Stream, Options, Queue, done, Step, refuse, reply}
+use Rattle.queue_model.specs.Types.{Item, not-paused, Stream, Scheduler, Options, Queue, done, Step, refuse, reply}
 use Rattle.queue_model.specs.Streams.{max-streams, max-messages, put-stream, at, waiting, occupied, amounts, has-items, reschedule-each, with-message}
 use Rattle.queue_model.specs.Refusals.{Check, _when_, checked, store-other, time-late, queue-used}
 use Rattle.queue_model.specs.Image.{StreamRecord, MessageRecord, Handover}
@@ -66,12 +66,29 @@ unfolding restore-message
 restore-messages o now [] ss = ss
 restore-messages o now (r ∷ rs) ss = restore-messages o now rs (restore-message o now r ss)
 
+-- Whether the first message is half-sent.
+unfoldable pub half-sent-first : List Item → Bool
+half-sent-first [] = false
+half-sent-first (i ∷ is) = ltb 0 (i .offset)
+
+-- "the stream whose first message is half-sent, the smallest id if several are": the streams stand in ascending order.
+unfoldable pub first-half-sent : List Stream → Option ℕ
+unfolding half-sent-first
+first-half-sent [] = none
+first-half-sent (s ∷ ss) = if half-sent-first (s .items) then some (s .id) else first-half-sent ss
+
+-- Document 02, 10/13: "Restoring without interleaving shall remember the stream whose first message is half-sent, the smallest id if several are, and send its rest first."
+unfoldable pub remember-half-sent : Bool → List Stream → Scheduler → Scheduler
+unfolding first-half-sent
+remember-half-sent true ss sc = sc
+remember-half-sent false ss sc = record { payload-limit = sc .payload-limit; current = first-half-sent ss; system-time = sc .system-time; active = sc .active }
+
 -- The queue that a handover record restores at a time: every stream with messages waits.
 unfoldable pub restored : ℕ → Handover → Queue → Queue
-unfolding restore-streams restore-messages reschedule-each has-items
+unfolding restore-streams restore-messages reschedule-each has-items remember-half-sent
 restored now h q =
     let ss = restore-messages (q .options) now (h .messages) (restore-streams (q .options) (h .streams)) in
-    record { options = q .options; interleaving = q .interleaving; total = amounts ss; next-message-id = h .next-message-id; streams = ss; scheduler = reschedule-each (q .interleaving) has-items ss (q .scheduler) }
+    record { options = q .options; interleaving = q .interleaving; total = amounts ss; next-message-id = h .next-message-id; streams = ss; scheduler = remember-half-sent (q .interleaving) ss (reschedule-each (q .interleaving) has-items ss (q .scheduler)) }
 
 -- ------------------------------------------------------------------ the call
 

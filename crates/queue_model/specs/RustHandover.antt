@@ -5,9 +5,11 @@ use Prim.Native.Nat.{ℕ, _+_, _-_, _*_, _/_, min}
 use mathlib.Core.Bool.{Bool, true, false}
 use mathlib.Core.List.{List, [], _∷_, _++_, map}
 use mathlib.Core.Option.{Option, none, some, Option·getD}
+use lib.Dec.{ltb}
 use lib.ListN.{length}
+use Rattle.queue_model.specs.Logic.{if_then_else_}
 use Rattle.queue_model.specs.Table.{find, put}
-use Rattle.queue_model.specs.Types.{Item, not-paused, Counters, Stream, Options, Queue}
+use Rattle.queue_model.specs.Types.{Item, not-paused, Counters, Stream, Options, Queue, with-state}
 use Rattle.queue_model.specs.Streams.{put-stream, at, with-message, amounts, has-items, reschedule-each}
 
 -- ------------------------------------------------------------------ the record
@@ -132,3 +134,19 @@ unfolding stream-from messages-from reschedule-each has-items
 restore-from-state now h q =
     let ss = messages-from (q .options) now (h .queued-messages) (map (stream-from (q .options)) (h .streams)) in
     record { options = q .options; interleaving = q .interleaving; total = amounts ss; next-message-id = h .next-message-id; streams = ss; scheduler = reschedule-each (q .interleaving) has-items ss (q .scheduler) }
+
+-- ------------------------------------------------------------------ the amendment of document 02's 10/13
+
+-- "the stream whose first message is half-sent, the smallest id if several are": of the record's messages, which stand by rising stream, the first that is half-sent.
+unfoldable pub begun-stream : List StreamMessageState → Option ℕ
+begun-stream [] = none
+begun-stream (r ∷ rs) = if ltb 0 (r .remaining-offset) then some (r .stream-id) else begun-stream rs
+
+unfoldable pub remembering : Bool → Option ℕ → Queue → Queue
+remembering true k q = q
+remembering false k q = with-state q (q .total) (q .streams) (record { payload-limit = q .scheduler .payload-limit; current = k; system-time = q .scheduler .system-time; active = q .scheduler .active })
+
+-- "Restoring without interleaving shall remember the stream ...": the queue that the Rust restores, with that stream remembered.
+unfoldable pub restore-remembering : ℕ → HandoverState → Queue → Queue
+unfolding restore-from-state begun-stream remembering
+restore-remembering now h q = remembering (q .interleaving) (begun-stream (h .queued-messages)) (restore-from-state now h q)

@@ -1,8 +1,8 @@
--- A calm queue: all streams open, every stream with messages waiting from time 0, none remembered. A restored queue is calm, and discarding keeps it so. Assumes nothing.
+-- A calm queue: all streams open, every stream with messages waiting from time 0, one remembered or none. A restored queue is calm, and discarding keeps it so. Assumes nothing.
 use mathlib.Core.Path.{_≡_, refl, sym, ap, ap₂, _∙_, subst}
 use mathlib.Core.Bool.{Bool, true, false, _||_}
 use mathlib.Core.List.{List, [], _∷_, _++_}
-use mathlib.Core.Option.{none, some}
+use mathlib.Core.Option.{Option, none, some}
 use Prim.Native.Nat.{ℕ, suc, _+_, _-_, _^_, _≤_, _<_}
 use native.Mathlib.Omega.{arith}
 use lib.Dec.{eqb}
@@ -52,12 +52,27 @@ pub record Good (ss : List Stream) : Type 0 where
 
 -- ---- the calm queue of a list of streams
 
-unfoldable pub calm-scheduler : Options → Bool → List Stream → Scheduler
-calm-scheduler o il ss = record { payload-limit = o .payload-limit; current = none; system-time = 0; active = actives (o .payload-limit) il ss }
+-- c is the remembered stream.
+unfoldable pub calm-scheduler : Options → Bool → Option ℕ → List Stream → Scheduler
+calm-scheduler o il c ss = record { payload-limit = o .payload-limit; current = c; system-time = 0; active = actives (o .payload-limit) il ss }
 
-unfoldable pub calm : Options → Bool → ℕ → List Stream → Queue
+unfoldable pub calm : Options → Bool → Option ℕ → ℕ → List Stream → Queue
 unfolding calm-scheduler
-calm o il n ss = record { options = o; interleaving = il; total = amounts ss; next-message-id = n; streams = ss; scheduler = calm-scheduler o il ss }
+calm o il c n ss = record { options = o; interleaving = il; total = amounts ss; next-message-id = n; streams = ss; scheduler = calm-scheduler o il c ss }
+
+-- The remembered stream after a stream with these messages is let wait: forgotten if it is that stream and has none.
+pub still : ℕ → List Item → Option ℕ → Option ℕ
+still k [] c = forget k c
+still k (i ∷ is) c = c
+
+pub still-none : (k : ℕ) (is : List Item) → still k is none ≡ none
+unfolding still forget
+still-none k [] = refl
+still-none k (i ∷ is) = refl
+
+pub still-some : (k : ℕ) (is : List Item) (i : Item) (is′ : List Item) (c : Option ℕ) → is ≡ i ∷ is′ → still k is c ≡ c
+unfolding still
+still-some k is i is′ c e = ap (λ (l : List Item). still k l c) e
 
 -- ---- rescheduling one stream
 
@@ -65,10 +80,6 @@ rest-zero : (as′ : List Active) → rest-time 0 as′ ≡ 0
 unfolding rest-time
 rest-zero [] = refl
 rest-zero (a ∷ as′) = refl
-
-forget-none : (k : ℕ) → forget k none ≡ none
-unfolding forget
-forget-none k = refl
 
 -- Every entry starts at 0.
 abbrev Starts : List Active → Type 0
@@ -98,34 +109,34 @@ unfolding head-size
 positive-head [] i is′ e g = let z : _≡_ {A = ℕ} 0 1 = cc in absurd (omega arith)
 positive-head (j ∷ js) i is′ e g = let u = g .0 .unsent in omega arith
 
-remove-calm : (o : Options) (il : Bool) (k : ℕ) (ss : List Stream) → remove-stream k (calm-scheduler o il ss) ≡
-    record { payload-limit = o .payload-limit; current = none; system-time = 0; active = without-active k (actives (o .payload-limit) il ss) }
+remove-calm : (o : Options) (il : Bool) (c : Option ℕ) (k : ℕ) (ss : List Stream) → remove-stream k (calm-scheduler o il c ss) ≡
+    record { payload-limit = o .payload-limit; current = forget k c; system-time = 0; active = without-active k (actives (o .payload-limit) il ss) }
 unfolding remove-stream calm-scheduler
-remove-calm o il k ss =
-    let g : ℕ → Scheduler = λ t. record { payload-limit = o .payload-limit; current = none; system-time = t; active = without-active k (actives (o .payload-limit) il ss) } in
+remove-calm o il c k ss =
+    let g : ℕ → Scheduler = λ t. record { payload-limit = o .payload-limit; current = forget k c; system-time = t; active = without-active k (actives (o .payload-limit) il ss) } in
     ap g (rest-zero (without-active k (actives (o .payload-limit) il ss)))
 
 -- The calm scheduler with these entries.
-pub calm-with : Options → List Active → Scheduler
-calm-with o as′ = record { payload-limit = o .payload-limit; current = none; system-time = 0; active = as′ }
+pub calm-with : Options → Option ℕ → List Active → Scheduler
+calm-with o c as′ = record { payload-limit = o .payload-limit; current = c; system-time = 0; active = as′ }
 
-unfold-calm : (o : Options) (as′ : List Active) → _≡_ {A = Scheduler} (record { payload-limit = o .payload-limit; current = none; system-time = 0; active = as′ }) (calm-with o as′)
+unfold-calm : (o : Options) (c : Option ℕ) (as′ : List Active) → _≡_ {A = Scheduler} (record { payload-limit = o .payload-limit; current = c; system-time = 0; active = as′ }) (calm-with o c as′)
 unfolding calm-with
-unfold-calm o as′ = refl
+unfold-calm o c as′ = refl
 
-pub calm-with-of : (o : Options) (il : Bool) (ss : List Stream) → calm-with o (actives (o .payload-limit) il ss) ≡ calm-scheduler o il ss
+pub calm-with-of : (o : Options) (il : Bool) (c : Option ℕ) (ss : List Stream) → calm-with o c (actives (o .payload-limit) il ss) ≡ calm-scheduler o il c ss
 unfolding calm-with calm-scheduler
-calm-with-of o il ss = refl
+calm-with-of o il c ss = refl
 
-pub same-active : (o : Options) (il : Bool) (xs ys : List Stream) → actives (o .payload-limit) il xs ≡ actives (o .payload-limit) il ys → calm-scheduler o il xs ≡ calm-scheduler o il ys
-same-active o il xs ys e = sym (calm-with-of o il xs) ∙ ap (calm-with o) e ∙ calm-with-of o il ys
+pub same-active : (o : Options) (il : Bool) (c : Option ℕ) (xs ys : List Stream) → actives (o .payload-limit) il xs ≡ actives (o .payload-limit) il ys → calm-scheduler o il c xs ≡ calm-scheduler o il c ys
+same-active o il c xs ys e = sym (calm-with-of o il c xs) ∙ ap (calm-with o c) e ∙ calm-with-of o il c ys
 
-set-calm : (o : Options) (il : Bool) (s : Stream) (ss : List Stream) → 0 < head-size (s .items) →
-    set-bytes-remaining (s .id) (head-size (s .items)) (weight-of il s) (calm-scheduler o il ss) ≡ calm-with o (put-active (entry (o .payload-limit) il s) (actives (o .payload-limit) il ss))
+set-calm : (o : Options) (il : Bool) (c : Option ℕ) (s : Stream) (ss : List Stream) → 0 < head-size (s .items) →
+    set-bytes-remaining (s .id) (head-size (s .items)) (weight-of il s) (calm-scheduler o il c ss) ≡ calm-with o c (put-active (entry (o .payload-limit) il s) (actives (o .payload-limit) il ss))
 unfolding calm-scheduler calm-with
-set-calm o il s ss h =
-    set-some (s .id) (head-size (s .items)) (weight-of il s) (calm-scheduler o il ss) h
-    ∙ ap (λ (t : ℕ). calm-with o (put-active (scheduled (o .payload-limit) (s .id) (weight-of il s) t (head-size (s .items))) (actives (o .payload-limit) il ss)))
+set-calm o il c s ss h =
+    set-some (s .id) (head-size (s .items)) (weight-of il s) (calm-scheduler o il c ss) h
+    ∙ ap (λ (t : ℕ). calm-with o c (put-active (scheduled (o .payload-limit) (s .id) (weight-of il s) t (head-size (s .items))) (actives (o .payload-limit) il ss)))
     (start-zero (s .id) (actives (o .payload-limit) il ss) (actives-start (o .payload-limit) il ss))
 
 head-size-none : (is : List Item) → is ≡ [] → head-size is ≡ 0
@@ -133,19 +144,23 @@ unfolding head-size
 head-size-none is e = ap head-size e
 
 -- Rescheduling a stream in a calm scheduler is putting the stream.
-pub reschedule-put : (o : Options) (il : Bool) (s : Stream) (ss : List Stream) → Rising stream-key ss → GoodItems (s .items) → reschedule il s (calm-scheduler o il ss) ≡ calm-scheduler o il (put-stream s ss)
-reschedule-put o il s ss r g = elim (split (s .items)) [
-  | empty e ↦ reschedule-of il s (calm-scheduler o il ss)
-      ∙ ap (λ (n : ℕ). set-bytes-remaining (s .id) n (weight-of il s) (calm-scheduler o il ss)) (head-size-none (s .items) e)
-      ∙ set-none (s .id) (weight-of il s) (calm-scheduler o il ss)
-      ∙ remove-calm o il (s .id) ss
-      ∙ unfold-calm o (without-active (s .id) (actives (o .payload-limit) il ss))
-      ∙ ap (calm-with o) (actives-put-none (o .payload-limit) il s ss r e)
-      ∙ calm-with-of o il (put-stream s ss)
-  | first i is e ↦ reschedule-of il s (calm-scheduler o il ss)
-      ∙ set-calm o il s ss (positive-head (s .items) i is e g)
-      ∙ ap (calm-with o) (actives-put-some (o .payload-limit) il s ss i is r e)
-      ∙ calm-with-of o il (put-stream s ss)
+pub reschedule-put : (o : Options) (il : Bool) (c : Option ℕ) (s : Stream) (ss : List Stream) → Rising stream-key ss → GoodItems (s .items)
+    → reschedule il s (calm-scheduler o il c ss) ≡ calm-scheduler o il (still (s .id) (s .items) c) (put-stream s ss)
+unfolding still
+reschedule-put o il c s ss r g = elim (split (s .items)) [
+  | empty e ↦ reschedule-of il s (calm-scheduler o il c ss)
+      ∙ ap (λ (n : ℕ). set-bytes-remaining (s .id) n (weight-of il s) (calm-scheduler o il c ss)) (head-size-none (s .items) e)
+      ∙ set-none (s .id) (weight-of il s) (calm-scheduler o il c ss)
+      ∙ remove-calm o il c (s .id) ss
+      ∙ unfold-calm o (forget (s .id) c) (without-active (s .id) (actives (o .payload-limit) il ss))
+      ∙ ap (calm-with o (forget (s .id) c)) (actives-put-none (o .payload-limit) il s ss r e)
+      ∙ calm-with-of o il (forget (s .id) c) (put-stream s ss)
+      ∙ ap (λ (is : List Item). calm-scheduler o il (still (s .id) is c) (put-stream s ss)) (sym e)
+  | first i is e ↦ reschedule-of il s (calm-scheduler o il c ss)
+      ∙ set-calm o il c s ss (positive-head (s .items) i is e g)
+      ∙ ap (calm-with o c) (actives-put-some (o .payload-limit) il s ss i is r e)
+      ∙ calm-with-of o il c (put-stream s ss)
+      ∙ ap (λ (is : List Item). calm-scheduler o il (still (s .id) is c) (put-stream s ss)) (sym e)
 ]
 
 -- ---- goodness
@@ -202,8 +217,8 @@ module _ (ss : List Stream) (k : ℕ) (s : Stream) (i : Item) (is : List Item) (
       let l : length (s .items) ≡ suc (length is) = ap length (h .items) in
       omega arith
 
-  module _ (o : Options) (il : Bool) (n : ℕ) where
-    pub not-short : short-of (calm o il n ss) s (remaining i) ≡ false
+  module _ (o : Options) (il : Bool) (c : Option ℕ) (n : ℕ) where
+    pub not-short : short-of (calm o il c n ss) s (remaining i) ≡ false
     unfolding short-of calm
     not-short =
         let a = head-amount in let b = head-total in
@@ -211,16 +226,16 @@ module _ (ss : List Stream) (k : ℕ) (s : Stream) (i : Item) (is : List Item) (
         let y : remaining i ≤ s .amount = omega arith in
         ap₂ _||_ (ltb-false x) (ltb-false y)
 
-    drop-head-calm : drop-head (calm o il n ss) s i is ≡ calm o il n (put-stream (behead s i is) ss)
+    drop-head-calm : drop-head (calm o il c n ss) s i is ≡ calm o il (still (s .id) is c) n (put-stream (behead s i is) ss)
     unfolding drop-head calm
     drop-head-calm =
         let f : ℕ → Scheduler → Queue = λ t sc. record { options = o; interleaving = il; total = t; next-message-id = n; streams = put-stream (behead s i is) ss; scheduler = sc } in
-        ap₂ f (sym behead-amounts) (reschedule-put o il (behead s i is) ss (g .rising) (head-items .1))
+        ap₂ f (sym behead-amounts) (reschedule-put o il c (behead s i is) ss (g .rising) (head-items .1))
 
-    discard-at-calm : (discard-at (i .message-id) (calm o il n ss) (head s i is)) .next ≡ drop-in (s .pause-state) (calm o il n ss) s i is
+    discard-at-calm : (discard-at (i .message-id) (calm o il c n ss) (head s i is)) .next ≡ drop-in (s .pause-state) (calm o il c n ss) s i is
     unfolding discard-at
     discard-at-calm =
-        let q : Queue = calm o il n ss in
+        let q : Queue = calm o il c n ss in
         ap (λ (b : Bool). ((if b then (if short-of q s (remaining i) then refuse q 16 else reply done (drop-head-events q s i) (drop-in (s .pause-state) q s i is)) else reply done [] q)) .next) (eqb-true {a = i .message-id} refl)
         ∙ ap (λ (b : Bool). ((if b then refuse q 16 else reply done (drop-head-events q s i) (drop-in (s .pause-state) q s i is))) .next) not-short
 
@@ -228,15 +243,15 @@ module _ (ss : List Stream) (k : ℕ) (s : Stream) (i : Item) (is : List Item) (
     unfolding head-of
     head-of-found = ap head-of (h .found) ∙ ap (head-in s) (h .items)
 
-    discard-of : discard 2305 k (i .message-id) (calm o il n ss) ≡ discard-at (i .message-id) (calm o il n ss) (head-of (find-stream k ss))
+    discard-of : discard 2305 k (i .message-id) (calm o il c n ss) ≡ discard-at (i .message-id) (calm o il c n ss) (head-of (find-stream k ss))
     unfolding discard calm
     discard-of = refl
 
-    drop-in-open : drop-in not-paused (calm o il n ss) s i is ≡ drop-head (calm o il n ss) s i is
+    drop-in-open : drop-in not-paused (calm o il c n ss) s i is ≡ drop-head (calm o il c n ss) s i is
     unfolding drop-in
     drop-in-open = refl
 
-    pub discard-calm : (discard 2305 k (i .message-id) (calm o il n ss)) .next ≡ calm o il n (put-stream (behead s i is) ss)
+    pub discard-calm : (discard 2305 k (i .message-id) (calm o il c n ss)) .next ≡ calm o il (still (s .id) is c) n (put-stream (behead s i is) ss)
     discard-calm =
-        ap (λ (x : Step). x .next) (discard-of ∙ ap (discard-at (i .message-id) (calm o il n ss)) head-of-found)
-        ∙ discard-at-calm ∙ ap (λ (p : PauseState). drop-in p (calm o il n ss) s i is) (head-good .opened) ∙ drop-in-open ∙ drop-head-calm
+        ap (λ (x : Step). x .next) (discard-of ∙ ap (discard-at (i .message-id) (calm o il c n ss)) head-of-found)
+        ∙ discard-at-calm ∙ ap (λ (p : PauseState). drop-in p (calm o il c n ss) s i is) (head-good .opened) ∙ drop-in-open ∙ drop-head-calm

@@ -22,9 +22,9 @@ use Rattle.queue_model.proofs.Table.{find-here, find-there, find-put-sa
 use Rattle.queue_model.proofs.Checks.{checked-but}
 use Rattle.queue_model.proofs.Streams.{at-found, at-new, at-id, unsent-bytes, sum-put-at}
 use Rattle.queue_model.proofs.Calm.Entries.{actives, actives-none, actives-some}
-use Rattle.queue_model.proofs.Calm.Calm.{GoodItem, GoodItems, GoodStream, AllGood, Good, good-put, calm-scheduler, calm, reschedule-put, HeadAt}
+use Rattle.queue_model.proofs.Calm.Calm.{still-some, GoodItem, GoodItems, GoodStream, AllGood, Good, good-put, calm-scheduler, calm, reschedule-put, HeadAt}
 use Rattle.queue_model.proofs.Calm.Produce.{whole, whole-head}
-use Rattle.queue_model.proofs.Calm.Solo.{Solo, solo-list, solo-least}
+use Rattle.queue_model.proofs.Calm.Solo.{Solo, solo-list, solo-choice}
 use Rattle.queue_model.specs.Calls
 
 -- ---- what cannot be told apart shows the same, and stays so
@@ -94,7 +94,7 @@ at-good o ss k h g = elim (look-up stream-key k ss) [
   | missing e ↦ subst GoodStream (sym (at-new o ss k e)) (record { id-fits = h; opened = refl; counted = refl; good-items = tt; ordered-fits = omega arith; unordered-fits = omega arith })
 ]
 
-module _ (o : Options) (il : Bool) (n : ℕ) (ss : List Stream) (g : Good ss) (room : 1 ≤ o .store-length) (n-fits : n < 2 ^ 32) (a : actives (o .payload-limit) il ss ≡ []) where
+module _ (o : Options) (il : Bool) (c : Option ℕ) (n : ℕ) (ss : List Stream) (g : Good ss) (room : 1 ≤ o .store-length) (n-fits : n < 2 ^ 32) (a : actives (o .payload-limit) il ss ≡ []) where
   pub at-none : (k : ℕ) → (at o ss k) .items ≡ []
   at-none k = elim (look-up stream-key k ss) [
     | found s e ↦ ap (λ (x : Stream). x .items) (at-found o ss k s e) ∙ no-items (o .payload-limit) il ss a k s e
@@ -111,14 +111,14 @@ module _ (o : Options) (il : Bool) (n : ℕ) (ss : List Stream) (g : Good ss) (r
   with-tiny-good : (u : Bool) (k : ℕ) → k < 2 ^ 16 → GoodStream (with-tiny o u n ss k)
   with-tiny-good u k h =
       let w = at-good o ss k h (g .all-good) in
-      let c = w .counted in
+      let am = w .counted in
       let z : unsent-bytes ((at o ss k) .items) ≡ 0 = ap unsent-bytes (at-none k) in
       let y : unsent-bytes ((with-tiny o u n ss k) .items) ≡ 1 = ap unsent-bytes (with-tiny-items u k) ∙ one-byte u n k in
       record { id-fits = w .id-fits; opened = w .opened; counted = omega arith; good-items = subst GoodItems (sym (with-tiny-items u k)) (tiny-good-item u k, tt); ordered-fits = w .ordered-fits; unordered-fits = w .unordered-fits }
 
   -- The queue after the add.
   abbrev pub tiny-added : Bool → ℕ → Queue
-  tiny-added u k = calm o il (wrap-suc 32 n) (put-stream (with-tiny o u n ss k) ss)
+  tiny-added u k = calm o il c (wrap-suc 32 n) (put-stream (with-tiny o u n ss k) ss)
 
   tiny-amounts : (u : Bool) (k : ℕ) → amounts ss + 1 ≡ amounts (put-stream (with-tiny o u n ss k) ss)
   tiny-amounts u k =
@@ -131,32 +131,33 @@ module _ (o : Options) (il : Bool) (n : ℕ) (ss : List Stream) (g : Good ss) (r
   unfolding starts-waiting has-items some-items
   starts k h = ap₂ (λ (p : PauseState) (l : List Item). starts-waiting p && not (some-items l)) ((at-good o ss k h (g .all-good)) .opened) (at-none k)
 
-  added-calm : (u : Bool) (k : ℕ) → k < 2 ^ 16 → added 0 (tiny u k) (calm o il n ss) ≡ tiny-added u k
+  added-calm : (u : Bool) (k : ℕ) → k < 2 ^ 16 → added 0 (tiny u k) (calm o il c n ss) ≡ tiny-added u k
   unfolding added calm
   added-calm u k h =
       let w : Stream = with-tiny o u n ss k in
       let f : ℕ → Scheduler → Queue = λ t sc. record { options = o; interleaving = il; total = t; next-message-id = wrap-suc 32 n; streams = put-stream w ss; scheduler = sc } in
       ap₂ f (tiny-amounts u k)
-      (ap (λ (b : Bool). (if b then reschedule il w (calm-scheduler o il ss) else calm-scheduler o il ss)) (starts k h)
-      ∙ reschedule-put o il w ss (g .rising) ((with-tiny-good u k h) .good-items))
+      (ap (λ (b : Bool). (if b then reschedule il w (calm-scheduler o il c ss) else calm-scheduler o il c ss)) (starts k h)
+      ∙ reschedule-put o il c w ss (g .rising) ((with-tiny-good u k h) .good-items)
+      ∙ ap (λ (d : Option ℕ). calm-scheduler o il d (put-stream w ss)) (still-some (w .id) (w .items) (tiny-item u n k) [] c (with-tiny-items u k)))
 
   -- Only the number of streams can refuse the add.
-  pub add-tiny : (u : Bool) (k : ℕ) → k < 2 ^ 16 → Calls.add (o .store-length) 0 (tiny u k) (calm o il n ss) ≡ (if too-many (calm o il n ss) k then refuse (calm o il n ss) 6 else reply done [] (tiny-added u k))
+  pub add-tiny : (u : Bool) (k : ℕ) → k < 2 ^ 16 → Calls.add (o .store-length) 0 (tiny u k) (calm o il c n ss) ≡ (if too-many (calm o il c n ss) k then refuse (calm o il c n ss) 6 else reply done [] (tiny-added u k))
   unfolding Calls.add calm free-bytes overflows
   add-tiny u k h =
       let b = bare (o .payload-limit) il ss (g .all-good) a in
       let x = b .none-wait in let y = b .none-occupied in let z = b .no-amount in
-      let c = (at-good o ss k h (g .all-good)) .counted in
+      let am = (at-good o ss k h (g .all-good)) .counted in
       let c′ : unsent-bytes ((at o ss k) .items) ≡ 0 = ap unsent-bytes (at-none k) in
       let w₀ : not (eqb (o .store-length) (o .store-length)) ≡ false = ap not (eqb-true {a = o .store-length} refl) in
       let w₁ : waiting ss < max-messages = omega arith in
       let w₂ : 1 ≤ o .store-length - occupied ss = omega arith in
       let w₃ : amounts ss + 1 ≤ max-word = omega arith in
       let w₄ : (at o ss k) .amount + 1 ≤ max-word = omega arith in
-      let q : Queue = calm o il n ss in
+      let q : Queue = calm o il c n ss in
       checked-but (store-other (o .store-length) q ∷ time-late 0 ∷ time-late 0 ∷ payload-wrong 1 ∷ []) (messages-full q ∷ store-full q 1 ∷ (16 when overflows q (at o ss k) 1) ∷ []) 6 (too-many q k) q (reply done [] (added 0 (tiny u k) q))
       (w₀, (refl, (refl, (refl, tt)))) (leb-false w₁, (ltb-false w₂, (ap₂ _||_ (ltb-false w₃) (ltb-false w₄), tt)))
-      ∙ ap (λ (r : Queue). if too-many (calm o il n ss) k then refuse (calm o il n ss) 6 else reply done [] r) (added-calm u k h)
+      ∙ ap (λ (r : Queue). if too-many (calm o il c n ss) k then refuse (calm o il c n ss) 6 else reply done [] r) (added-calm u k h)
 
   -- What the tiny message shows when it is sent.
   pub tiny-head : (u : Bool) (k : ℕ) → HeadAt (put-stream (with-tiny o u n ss k) ss) k (with-tiny o u n ss k) (tiny-item u n k) []
@@ -177,7 +178,7 @@ module _ (o : Options) (il : Bool) (n : ℕ) (ss : List Stream) (g : Good ss) (r
       let good : Good xs = good-put w ss (with-tiny-good u k h) g in
       let hd : HeadAt xs (w .id) w (tiny-item u n k) [] = subst (λ (j : ℕ). HeadAt xs j w (tiny-item u n k) []) (sym (at-id o ss k)) (tiny-head u k) in
       let one : Solo (w .id) xs = subst (λ (j : ℕ). Solo j xs) (sym (at-id o ss k)) (tiny-solo u k h) in
-      ap (λ (x : Step). x .outcome .answer) (whole-head o il (wrap-suc 32 n) xs w (tiny-item u n k) [] good hd (solo-least o il (wrap-suc 32 n) xs w (tiny-item u n k) [] good hd one))
+      ap (λ (x : Step). x .outcome .answer) (whole-head o il c (wrap-suc 32 n) xs w (tiny-item u n k) [] good hd (solo-choice o il c (wrap-suc 32 n) xs w (tiny-item u n k) [] good hd one))
 
 -- ---- the calls as steps, and their numbers' widths
 
@@ -243,50 +244,50 @@ counters-same c d x y z =
     ap₂ f x y ∙ ap g z
 
 module _ (o : Options) (il : Bool) (room : 1 ≤ o .store-length) (store : o .store-length ≤ 2000000)
-    (n₁ n₂ : ℕ) (ss₁ ss₂ : List Stream) (g₁ : Good ss₁) (g₂ : Good ss₂) (f₁ : n₁ < 2 ^ 32) (f₂ : n₂ < 2 ^ 32)
+    (c₁ c₂ : Option ℕ) (n₁ n₂ : ℕ) (ss₁ ss₂ : List Stream) (g₁ : Good ss₁) (g₂ : Good ss₂) (f₁ : n₁ < 2 ^ 32) (f₂ : n₂ < 2 ^ 32)
     (a₁ : actives (o .payload-limit) il ss₁ ≡ []) (a₂ : actives (o .payload-limit) il ss₂ ≡ [])
-    (ind : Indistinguishable (calm o il n₁ ss₁) (calm o il n₂ ss₂)) where
-  tests-same : (k : ℕ) → k < 2 ^ 16 → too-many (calm o il n₁ ss₁) k ≡ too-many (calm o il n₂ ss₂) k
+    (ind : Indistinguishable (calm o il c₁ n₁ ss₁) (calm o il c₂ n₂ ss₂)) where
+  tests-same : (k : ℕ) → k < 2 ^ 16 → too-many (calm o il c₁ n₁ ss₁) k ≡ too-many (calm o il c₂ n₂ ss₂) k
   tests-same k h =
       let c : Call = add (o .store-length) 0 (tiny false k) in
-      let e : (step c (calm o il n₁ ss₁)) .outcome ≡ (step c (calm o il n₂ ss₂)) .outcome = shown (calm o il n₁ ss₁) (calm o il n₂ ss₂) ind c (typed-tiny o false k store h) in
-      let e₁ : (step c (calm o il n₁ ss₁)) .outcome .answer ≡ verdict (too-many (calm o il n₁ ss₁) k) =
-      ap (λ (x : Step). x .outcome .answer) (step-add (o .store-length) 0 (tiny false k) (calm o il n₁ ss₁) ∙ add-tiny o il n₁ ss₁ g₁ room f₁ a₁ false k h)
-      ∙ verdict-of (too-many (calm o il n₁ ss₁) k) (calm o il n₁ ss₁) (tiny-added o il n₁ ss₁ g₁ room f₁ a₁ false k) in
-      let e₂ : (step c (calm o il n₂ ss₂)) .outcome .answer ≡ verdict (too-many (calm o il n₂ ss₂) k) =
-      ap (λ (x : Step). x .outcome .answer) (step-add (o .store-length) 0 (tiny false k) (calm o il n₂ ss₂) ∙ add-tiny o il n₂ ss₂ g₂ room f₂ a₂ false k h)
-      ∙ verdict-of (too-many (calm o il n₂ ss₂) k) (calm o il n₂ ss₂) (tiny-added o il n₂ ss₂ g₂ room f₂ a₂ false k) in
-      verdict-same (too-many (calm o il n₁ ss₁) k) (too-many (calm o il n₂ ss₂) k) (sym e₁ ∙ ap (λ (x : Outcome). x .answer) e ∙ e₂)
+      let e : (step c (calm o il c₁ n₁ ss₁)) .outcome ≡ (step c (calm o il c₂ n₂ ss₂)) .outcome = shown (calm o il c₁ n₁ ss₁) (calm o il c₂ n₂ ss₂) ind c (typed-tiny o false k store h) in
+      let e₁ : (step c (calm o il c₁ n₁ ss₁)) .outcome .answer ≡ verdict (too-many (calm o il c₁ n₁ ss₁) k) =
+      ap (λ (x : Step). x .outcome .answer) (step-add (o .store-length) 0 (tiny false k) (calm o il c₁ n₁ ss₁) ∙ add-tiny o il c₁ n₁ ss₁ g₁ room f₁ a₁ false k h)
+      ∙ verdict-of (too-many (calm o il c₁ n₁ ss₁) k) (calm o il c₁ n₁ ss₁) (tiny-added o il c₁ n₁ ss₁ g₁ room f₁ a₁ false k) in
+      let e₂ : (step c (calm o il c₂ n₂ ss₂)) .outcome .answer ≡ verdict (too-many (calm o il c₂ n₂ ss₂) k) =
+      ap (λ (x : Step). x .outcome .answer) (step-add (o .store-length) 0 (tiny false k) (calm o il c₂ n₂ ss₂) ∙ add-tiny o il c₂ n₂ ss₂ g₂ room f₂ a₂ false k h)
+      ∙ verdict-of (too-many (calm o il c₂ n₂ ss₂) k) (calm o il c₂ n₂ ss₂) (tiny-added o il c₂ n₂ ss₂ g₂ room f₂ a₂ false k) in
+      verdict-same (too-many (calm o il c₁ n₁ ss₁) k) (too-many (calm o il c₂ n₂ ss₂) k) (sym e₁ ∙ ap (λ (x : Outcome). x .answer) e ∙ e₂)
 
   -- The next states after an accepted add.
-  next₁ : (u : Bool) (k : ℕ) → k < 2 ^ 16 → too-many (calm o il n₁ ss₁) k ≡ false → (step (add (o .store-length) 0 (tiny u k)) (calm o il n₁ ss₁)) .next ≡ tiny-added o il n₁ ss₁ g₁ room f₁ a₁ u k
+  next₁ : (u : Bool) (k : ℕ) → k < 2 ^ 16 → too-many (calm o il c₁ n₁ ss₁) k ≡ false → (step (add (o .store-length) 0 (tiny u k)) (calm o il c₁ n₁ ss₁)) .next ≡ tiny-added o il c₁ n₁ ss₁ g₁ room f₁ a₁ u k
   next₁ u k h t =
-      ap (λ (x : Step). x .next) (step-add (o .store-length) 0 (tiny u k) (calm o il n₁ ss₁) ∙ add-tiny o il n₁ ss₁ g₁ room f₁ a₁ u k h)
-      ∙ ap (λ (b : Bool). ((if b then refuse (calm o il n₁ ss₁) 6 else reply done [] (tiny-added o il n₁ ss₁ g₁ room f₁ a₁ u k))) .next) t
+      ap (λ (x : Step). x .next) (step-add (o .store-length) 0 (tiny u k) (calm o il c₁ n₁ ss₁) ∙ add-tiny o il c₁ n₁ ss₁ g₁ room f₁ a₁ u k h)
+      ∙ ap (λ (b : Bool). ((if b then refuse (calm o il c₁ n₁ ss₁) 6 else reply done [] (tiny-added o il c₁ n₁ ss₁ g₁ room f₁ a₁ u k))) .next) t
 
-  next₂ : (u : Bool) (k : ℕ) → k < 2 ^ 16 → too-many (calm o il n₂ ss₂) k ≡ false → (step (add (o .store-length) 0 (tiny u k)) (calm o il n₂ ss₂)) .next ≡ tiny-added o il n₂ ss₂ g₂ room f₂ a₂ u k
+  next₂ : (u : Bool) (k : ℕ) → k < 2 ^ 16 → too-many (calm o il c₂ n₂ ss₂) k ≡ false → (step (add (o .store-length) 0 (tiny u k)) (calm o il c₂ n₂ ss₂)) .next ≡ tiny-added o il c₂ n₂ ss₂ g₂ room f₂ a₂ u k
   next₂ u k h t =
-      ap (λ (x : Step). x .next) (step-add (o .store-length) 0 (tiny u k) (calm o il n₂ ss₂) ∙ add-tiny o il n₂ ss₂ g₂ room f₂ a₂ u k h)
-      ∙ ap (λ (b : Bool). ((if b then refuse (calm o il n₂ ss₂) 6 else reply done [] (tiny-added o il n₂ ss₂ g₂ room f₂ a₂ u k))) .next) t
+      ap (λ (x : Step). x .next) (step-add (o .store-length) 0 (tiny u k) (calm o il c₂ n₂ ss₂) ∙ add-tiny o il c₂ n₂ ss₂ g₂ room f₂ a₂ u k h)
+      ∙ ap (λ (b : Bool). ((if b then refuse (calm o il c₂ n₂ ss₂) 6 else reply done [] (tiny-added o il c₂ n₂ ss₂ g₂ room f₂ a₂ u k))) .next) t
 
-  fragments-same : (u : Bool) (k : ℕ) → k < 2 ^ 16 → too-many (calm o il n₁ ss₁) k ≡ false → tiny-fragment o il n₁ ss₁ g₁ room f₁ a₁ u k ≡ tiny-fragment o il n₂ ss₂ g₂ room f₂ a₂ u k
+  fragments-same : (u : Bool) (k : ℕ) → k < 2 ^ 16 → too-many (calm o il c₁ n₁ ss₁) k ≡ false → tiny-fragment o il c₁ n₁ ss₁ g₁ room f₁ a₁ u k ≡ tiny-fragment o il c₂ n₂ ss₂ g₂ room f₂ a₂ u k
   fragments-same u k h t =
       let c : Call = add (o .store-length) 0 (tiny u k) in
       let d : Call = produce (o .store-length) 2305 262144 0 262144 in
-      let r₁ : Queue = (step c (calm o il n₁ ss₁)) .next in
-      let r₂ : Queue = (step c (calm o il n₂ ss₂)) .next in
-      let i′ : Indistinguishable r₁ r₂ = onward (calm o il n₁ ss₁) (calm o il n₂ ss₂) ind c (typed-tiny o u k store h) in
+      let r₁ : Queue = (step c (calm o il c₁ n₁ ss₁)) .next in
+      let r₂ : Queue = (step c (calm o il c₂ n₂ ss₂)) .next in
+      let i′ : Indistinguishable r₁ r₂ = onward (calm o il c₁ n₁ ss₁) (calm o il c₂ n₂ ss₂) ind c (typed-tiny o u k store h) in
       let e : (step d r₁) .outcome ≡ (step d r₂) .outcome = shown r₁ r₂ i′ d (typed-whole o store) in
-      let e₁ : (step d r₁) .outcome .answer ≡ fragment (tiny-fragment o il n₁ ss₁ g₁ room f₁ a₁ u k) =
-      ap (λ (x : Step). x .outcome .answer) (ap (step d) (next₁ u k h t) ∙ step-whole o (tiny-added o il n₁ ss₁ g₁ room f₁ a₁ u k)) ∙ tiny-sent o il n₁ ss₁ g₁ room f₁ a₁ u k h in
-      let e₂ : (step d r₂) .outcome .answer ≡ fragment (tiny-fragment o il n₂ ss₂ g₂ room f₂ a₂ u k) =
-      ap (λ (x : Step). x .outcome .answer) (ap (step d) (next₂ u k h (sym (tests-same k h) ∙ t)) ∙ step-whole o (tiny-added o il n₂ ss₂ g₂ room f₂ a₂ u k)) ∙ tiny-sent o il n₂ ss₂ g₂ room f₂ a₂ u k h in
-      let e′ : fragment (tiny-fragment o il n₁ ss₁ g₁ room f₁ a₁ u k) ≡ fragment (tiny-fragment o il n₂ ss₂ g₂ room f₂ a₂ u k) = sym e₁ ∙ ap (λ (x : Outcome). x .answer) e ∙ e₂ in
+      let e₁ : (step d r₁) .outcome .answer ≡ fragment (tiny-fragment o il c₁ n₁ ss₁ g₁ room f₁ a₁ u k) =
+      ap (λ (x : Step). x .outcome .answer) (ap (step d) (next₁ u k h t) ∙ step-whole o (tiny-added o il c₁ n₁ ss₁ g₁ room f₁ a₁ u k)) ∙ tiny-sent o il c₁ n₁ ss₁ g₁ room f₁ a₁ u k h in
+      let e₂ : (step d r₂) .outcome .answer ≡ fragment (tiny-fragment o il c₂ n₂ ss₂ g₂ room f₂ a₂ u k) =
+      ap (λ (x : Step). x .outcome .answer) (ap (step d) (next₂ u k h (sym (tests-same k h) ∙ t)) ∙ step-whole o (tiny-added o il c₂ n₂ ss₂ g₂ room f₂ a₂ u k)) ∙ tiny-sent o il c₂ n₂ ss₂ g₂ room f₂ a₂ u k h in
+      let e′ : fragment (tiny-fragment o il c₁ n₁ ss₁ g₁ room f₁ a₁ u k) ≡ fragment (tiny-fragment o il c₂ n₂ ss₂ g₂ room f₂ a₂ u k) = sym e₁ ∙ ap (λ (x : Outcome). x .answer) e ∙ e₂ in
       cc
 
   pub empty-counters : (k : ℕ) → k < 2 ^ 16 → (at o ss₁ k) .counters ≡ (at o ss₂ k) .counters
   unfolding calm
-  empty-counters k h = go (too-many (calm o il n₁ ss₁) k) refl
+  empty-counters k h = go (too-many (calm o il c₁ n₁ ss₁) k) refl
     where
       w₁ : Bool → Stream
       w₁ u = with-tiny o u n₁ ss₁ k
@@ -294,21 +295,21 @@ module _ (o : Options) (il : Bool) (room : 1 ≤ o .store-length) (store : o .st
       w₂ : Bool → Stream
       w₂ u = with-tiny o u n₂ ss₂ k
 
-      go : (t : Bool) → too-many (calm o il n₁ ss₁) k ≡ t → (at o ss₁ k) .counters ≡ (at o ss₂ k) .counters
+      go : (t : Bool) → too-many (calm o il c₁ n₁ ss₁) k ≡ t → (at o ss₁ k) .counters ≡ (at o ss₂ k) .counters
       go true t =
-          ap (λ (x : Stream). x .counters) (at-new o ss₁ k (too-many-none (calm o il n₁ ss₁) k t))
-          ∙ sym (ap (λ (x : Stream). x .counters) (at-new o ss₂ k (too-many-none (calm o il n₂ ss₂) k (sym (tests-same k h) ∙ t))))
+          ap (λ (x : Stream). x .counters) (at-new o ss₁ k (too-many-none (calm o il c₁ n₁ ss₁) k t))
+          ∙ sym (ap (λ (x : Stream). x .counters) (at-new o ss₂ k (too-many-none (calm o il c₂ n₂ ss₂) k (sym (tests-same k h) ∙ t))))
       go false t =
-          let c₁ : Counters = (at o ss₁ k) .counters in
-          let c₂ : Counters = (at o ss₂ k) .counters in
-          let e : tiny-fragment o il n₁ ss₁ g₁ room f₁ a₁ false k ≡ tiny-fragment o il n₂ ss₂ g₂ room f₂ a₂ false k = fragments-same false k h t in
-          let e′ : tiny-fragment o il n₁ ss₁ g₁ room f₁ a₁ true k ≡ tiny-fragment o il n₂ ss₂ g₂ room f₂ a₂ true k = fragments-same true k h t in
-          counters-same c₁ c₂
-          (sym (shows-ssn (w₁ false) c₁ n₁ k (remaining (tiny-item false n₁ k))) ∙ ap (λ (f : Fragment). f .ssn) e ∙ shows-ssn (w₂ false) c₂ n₂ k (remaining (tiny-item false n₂ k)))
-          (sym (shows-unordered (w₁ true) c₁ n₁ k (remaining (tiny-item true n₁ k))) ∙ ap (λ (f : Fragment). f .mid) e′ ∙ shows-unordered (w₂ true) c₂ n₂ k (remaining (tiny-item true n₂ k)))
-          (sym (shows-ordered (w₁ false) c₁ n₁ k (remaining (tiny-item false n₁ k))) ∙ ap (λ (f : Fragment). f .mid) e ∙ shows-ordered (w₂ false) c₂ n₂ k (remaining (tiny-item false n₂ k)))
+          let d₁ : Counters = (at o ss₁ k) .counters in
+          let d₂ : Counters = (at o ss₂ k) .counters in
+          let e : tiny-fragment o il c₁ n₁ ss₁ g₁ room f₁ a₁ false k ≡ tiny-fragment o il c₂ n₂ ss₂ g₂ room f₂ a₂ false k = fragments-same false k h t in
+          let e′ : tiny-fragment o il c₁ n₁ ss₁ g₁ room f₁ a₁ true k ≡ tiny-fragment o il c₂ n₂ ss₂ g₂ room f₂ a₂ true k = fragments-same true k h t in
+          counters-same d₁ d₂
+          (sym (shows-ssn (w₁ false) d₁ n₁ k (remaining (tiny-item false n₁ k))) ∙ ap (λ (f : Fragment). f .ssn) e ∙ shows-ssn (w₂ false) d₂ n₂ k (remaining (tiny-item false n₂ k)))
+          (sym (shows-unordered (w₁ true) d₁ n₁ k (remaining (tiny-item true n₁ k))) ∙ ap (λ (f : Fragment). f .mid) e′ ∙ shows-unordered (w₂ true) d₂ n₂ k (remaining (tiny-item true n₂ k)))
+          (sym (shows-ordered (w₁ false) d₁ n₁ k (remaining (tiny-item false n₁ k))) ∙ ap (λ (f : Fragment). f .mid) e ∙ shows-ordered (w₂ false) d₂ n₂ k (remaining (tiny-item false n₂ k)))
 
-  next-from : (k : ℕ) → k < 2 ^ 16 → too-many (calm o il n₁ ss₁) k ≡ false → n₁ ≡ n₂
+  next-from : (k : ℕ) → k < 2 ^ 16 → too-many (calm o il c₁ n₁ ss₁) k ≡ false → n₁ ≡ n₂
   next-from k h t =
       sym (shows-id (with-tiny o false n₁ ss₁ k) ((at o ss₁ k) .counters) n₁ k (remaining (tiny-item false n₁ k))) ∙ ap (λ (f : Fragment). f .message-id) (fragments-same false k h t)
       ∙ shows-id (with-tiny o false n₂ ss₂ k) ((at o ss₂ k) .counters) n₂ k (remaining (tiny-item false n₂ k))

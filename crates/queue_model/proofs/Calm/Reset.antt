@@ -2,7 +2,7 @@
 use mathlib.Core.Path.{_≡_, refl, sym, ap, ap₂, _∙_, subst}
 use mathlib.Core.Bool.{Bool, true, false, _||_}
 use mathlib.Core.List.{List, [], _∷_, _++_, map}
-use mathlib.Core.Option.{some}
+use mathlib.Core.Option.{Option, some}
 use Prim.Native.Nat.{ℕ, _+_, _≤_, _<_}
 use native.Mathlib.Omega.{arith}
 use lib.Dec.{eqb}
@@ -19,7 +19,7 @@ use Rattle.queue_model.proofs.Scheduler.{each-nil, each-cons}
 use Rattle.queue_model.proofs.Streams.{unsent-bytes}
 use Rattle.queue_model.proofs.PutBack.{put-back-fits, no-overflow, reset-amounts}
 use Rattle.queue_model.proofs.Calm.Entries.{entries, actives, actives-none}
-use Rattle.queue_model.proofs.Calm.Calm.{GoodItem, GoodItems, GoodStream, AllGood, Good, calm-scheduler, calm, same-active, reschedule-put, HeadAt}
+use Rattle.queue_model.proofs.Calm.Calm.{still-some, GoodItem, GoodItems, GoodStream, AllGood, Good, calm-scheduler, calm, same-active, reschedule-put, HeadAt}
 use Rattle.queue_model.proofs.Calm.Solo.{Solo}
 
 -- ---- rescheduling the streams of a list that have messages
@@ -43,18 +43,18 @@ rising-put-if [] s xs r = r
 rising-put-if (i ∷ is) s xs r = rising-put stream-key s xs r
 
 -- One stream of the list.
-one-put : (o : Options) (il : Bool) (s : Stream) (xs : List Stream) → GoodItems (s .items) → Rising stream-key xs → (if has-items s then reschedule il s (calm-scheduler o il xs) else calm-scheduler o il xs) ≡ calm-scheduler o il (put-if (s .items) s xs)
+one-put : (o : Options) (il : Bool) (c : Option ℕ) (s : Stream) (xs : List Stream) → GoodItems (s .items) → Rising stream-key xs → (if has-items s then reschedule il s (calm-scheduler o il c xs) else calm-scheduler o il c xs) ≡ calm-scheduler o il c (put-if (s .items) s xs)
 unfolding has-items put-if
-one-put o il s xs g r = elim (split (s .items)) [
-  | empty e ↦ ap (λ (is : List Item). if some-items is then reschedule il s (calm-scheduler o il xs) else calm-scheduler o il xs) e ∙ ap (λ (is : List Item). calm-scheduler o il (put-if is s xs)) (sym e)
-  | first i is e ↦ ap (λ (is : List Item). if some-items is then reschedule il s (calm-scheduler o il xs) else calm-scheduler o il xs) e ∙ reschedule-put o il s xs r g ∙ ap (λ (is : List Item). calm-scheduler o il (put-if is s xs)) (sym e)
+one-put o il c s xs g r = elim (split (s .items)) [
+  | empty e ↦ ap (λ (is : List Item). if some-items is then reschedule il s (calm-scheduler o il c xs) else calm-scheduler o il c xs) e ∙ ap (λ (is : List Item). calm-scheduler o il c (put-if is s xs)) (sym e)
+  | first i is e ↦ ap (λ (is : List Item). if some-items is then reschedule il s (calm-scheduler o il c xs) else calm-scheduler o il c xs) e ∙ reschedule-put o il c s xs r g ∙ ap (λ (d : Option ℕ). calm-scheduler o il d (put-stream s xs)) (still-some (s .id) (s .items) i is c e) ∙ ap (λ (is : List Item). calm-scheduler o il c (put-if is s xs)) (sym e)
 ]
 
-each-put : (o : Options) (il : Bool) (rs xs : List Stream) → AllItems rs → Rising stream-key xs → reschedule-each il has-items rs (calm-scheduler o il xs) ≡ calm-scheduler o il (put-waiting rs xs)
+each-put : (o : Options) (il : Bool) (c : Option ℕ) (rs xs : List Stream) → AllItems rs → Rising stream-key xs → reschedule-each il has-items rs (calm-scheduler o il c xs) ≡ calm-scheduler o il c (put-waiting rs xs)
 unfolding put-waiting
-each-put o il [] xs g r = each-nil il has-items (calm-scheduler o il xs)
-each-put o il (s ∷ ss) xs g r =
-    each-cons il has-items s ss (calm-scheduler o il xs) ∙ ap (reschedule-each il has-items ss) (one-put o il s xs (g .0) r) ∙ each-put o il ss (put-if (s .items) s xs) (g .1) (rising-put-if (s .items) s xs r)
+each-put o il c [] xs g r = each-nil il has-items (calm-scheduler o il c xs)
+each-put o il c (s ∷ ss) xs g r =
+    each-cons il has-items s ss (calm-scheduler o il c xs) ∙ ap (reschedule-each il has-items ss) (one-put o il c s xs (g .0) r) ∙ each-put o il c ss (put-if (s .items) s xs) (g .1) (rising-put-if (s .items) s xs r)
 
 put-if-later : (is : List Item) (s r : Stream) (xs : List Stream) → r .id < s .id → put-if is s (r ∷ xs) ≡ r ∷ put-if is s xs
 unfolding put-if
@@ -77,8 +77,8 @@ put-all-actives limit il (s ∷ ss) a = elim (split (s .items)) [
 ]
 
 -- A new queue's scheduler, after every stream with messages is let wait.
-pub each-new : (o : Options) (il : Bool) (ss : List Stream) → Rising stream-key ss → AllItems ss → reschedule-each il has-items ss (calm-scheduler o il []) ≡ calm-scheduler o il ss
-each-new o il ss r g = each-put o il ss [] g tt ∙ same-active o il (put-waiting ss []) ss (put-all-actives (o .payload-limit) il ss r)
+pub each-new : (o : Options) (il : Bool) (c : Option ℕ) (ss : List Stream) → Rising stream-key ss → AllItems ss → reschedule-each il has-items ss (calm-scheduler o il c []) ≡ calm-scheduler o il c ss
+each-new o il c ss r g = each-put o il c ss [] g tt ∙ same-active o il c (put-waiting ss []) ss (put-all-actives (o .payload-limit) il ss r)
 
 -- ---- the whole-queue reset
 
@@ -177,15 +177,15 @@ module _ (strict : Bool) where
 
 -- ---- the call
 
-pub reset-calm : (o : Options) (il : Bool) (n : ℕ) (ss : List Stream) → Good ss → occupied ss ≤ 2000000 → reset (calm o il n ss) ≡ reply done [] (calm o il n (map (reset-stream (o .strict-restart)) ss))
+pub reset-calm : (o : Options) (il : Bool) (c : Option ℕ) (n : ℕ) (ss : List Stream) → Good ss → occupied ss ≤ 2000000 → reset (calm o il c n ss) ≡ reply done [] (calm o il c n (map (reset-stream (o .strict-restart)) ss))
 unfolding reset calm
-reset-calm o il n ss g h =
+reset-calm o il c n ss g h =
     let strict : Bool = o .strict-restart in
-    let c = every-weaken GoodStream (λ (s : Stream). s .amount ≡ unsent-bytes (s .items)) ss (λ s a. a .counted) (g .all-good) in
-    let b = put-back-fits ss c in
+    let counted = every-weaken GoodStream (λ (s : Stream). s .amount ≡ unsent-bytes (s .items)) ss (λ s a. a .counted) (g .all-good) in
+    let b = put-back-fits ss counted in
     let x : amounts ss + all-put-back ss ≤ max-word = omega arith in
     let f : ℕ → Scheduler → Step = λ t sc. reply done [] (record { options = o; interleaving = il; total = t; next-message-id = n; streams = map (reset-stream strict) ss; scheduler = sc }) in
-    checked-past (reset-checks (calm o il n ss)) (calm o il n ss) (f (amounts ss + all-put-back ss) (reschedule-each il has-items (map (reset-stream strict) ss) (calm-scheduler o il ss))) (ap₂ _||_ (ltb-false x) (no-overflow ss c h), tt)
+    checked-past (reset-checks (calm o il c n ss)) (calm o il c n ss) (f (amounts ss + all-put-back ss) (reschedule-each il has-items (map (reset-stream strict) ss) (calm-scheduler o il c ss))) (ap₂ _||_ (ltb-false x) (no-overflow ss counted h), tt)
     ∙ ap₂ f (sym (reset-amounts strict ss))
-    (each-put o il (map (reset-stream strict) ss) ss (all-items (map (reset-stream strict) ss) (all-reset strict ss (g .all-good))) (g .rising)
-    ∙ same-active o il (put-waiting (map (reset-stream strict) ss) ss) (map (reset-stream strict) ss) (reset-actives strict (o .payload-limit) il ss (g .rising)))
+    (each-put o il c (map (reset-stream strict) ss) ss (all-items (map (reset-stream strict) ss) (all-reset strict ss (g .all-good))) (g .rising)
+    ∙ same-active o il c (put-waiting (map (reset-stream strict) ss) ss) (map (reset-stream strict) ss) (reset-actives strict (o .payload-limit) il ss (g .rising)))

@@ -9,14 +9,15 @@ use lib.ListN.{length}
 use Rattle.queue_model.specs.Logic.{if_then_else_}
 use Rattle.queue_model.specs.Table.{sum-by}
 use Rattle.queue_model.specs.Types.{Item, PauseState, not-paused, Stream, Weight, Active, Scheduler, Options, Queue, remaining, with-items, with-pause, with-counters, with-state}
-use Rattle.queue_model.specs.Scheduler.{scheduled, forget, rest-time, remove-stream, set-bytes-remaining, moved, least, least-of, accept-last, accept-part, accept, active-key}
+use Rattle.queue_model.specs.Scheduler.{scheduled, forget, rest-time, remove-stream, set-bytes-remaining, moved, least, least-of, remembered, or-else, accept-last, accept-part, accept, active-key}
 use Rattle.queue_model.specs.Streams.{find-stream, put-stream, weight-of, head-size, reschedule, waiting, amounts, stream-key}
 use Rattle.queue_model.specs.Produce.{numbered, end-pending, next-size, handed-out-last, handed-out-part, handed-out}
 use Rattle.queue_model.proofs.Tests.{leb-true, eqb-true, less, same, more, tri}
-use Rattle.queue_model.proofs.Table.{find-here, find-there, found-above, put-later, put-here, put-before, put-end, After, Rising, after-down, sum-put-old, without-here, without-nil, put-found}
+use Rattle.queue_model.proofs.Table.{find-here, find-there, find-nil, own, other, is-own, found-above, put-later, put-here, put-before, put-end, After, Rising, after-down, sum-put-old, without-here, without-nil, put-found}
 use Rattle.queue_model.proofs.Scheduler.{reschedule-of}
 use Rattle.queue_model.proofs.Calm.Entries.{entry, entries, actives, actives-none}
-use Rattle.queue_model.proofs.Calm.Calm.{Good, calm-scheduler, calm, reschedule-put, HeadAt, head-good, head-items, head-amount, head-total, calm-with, calm-with-of}
+use Rattle.queue_model.proofs.Calm.Calm.{Good, calm-scheduler, calm, reschedule-put, HeadAt, head-good, head-items, head-amount, head-total, same-active, still-none}
+use Rattle.queue_model.proofs.Calm.Produce.{choice}
 
 -- Only the stream k has messages.
 abbrev pub Solo : ℕ → List Stream → Type 0
@@ -95,23 +96,31 @@ handed-out-last-of : (q : Queue) (a : Active) (s : Stream) (i : Item) (is : List
 unfolding handed-out-last last-in
 handed-out-last-of q a s i is n = refl
 
-module _ (o : Options) (il : Bool) (n : ℕ) (ss : List Stream) (s : Stream) (i : Item) (is : List Item) (g : Good ss) (h : HeadAt ss (s .id) s i is) (one : Solo (s .id) ss) where
+-- The only entry is chosen, whatever is remembered.
+choice-one : (c : Option ℕ) (a : Active) → choice c (a ∷ []) ≡ some a
+unfolding choice least-of least or-else remembered
+choice-one none a = refl
+choice-one (some k) a = elim (is-own active-key a k) [
+  | own e ↦ ap (λ (x : Option Active). or-else x (some a)) (find-here active-key k a [] e)
+  | other n ↦ ap (λ (x : Option Active). or-else x (some a)) (find-there active-key k a [] n ∙ find-nil active-key k)
+]
+
+module _ (o : Options) (il : Bool) (c : Option ℕ) (n : ℕ) (ss : List Stream) (s : Stream) (i : Item) (is : List Item) (g : Good ss) (h : HeadAt ss (s .id) s i is) (one : Solo (s .id) ss) where
   one-active : actives (o .payload-limit) il ss ≡ entry (o .payload-limit) il s ∷ []
   one-active =
       ap (actives (o .payload-limit) il) (sym (put-found stream-key s ss (g .rising) (h .found))) ∙ solo-actives (o .payload-limit) il s ss (g .rising) one
       ∙ ap (entries (o .payload-limit) il s) (h .items)
 
-  pub solo-least : least-of (actives (o .payload-limit) il ss) ≡ some (entry (o .payload-limit) il s)
-  unfolding least-of least
-  solo-least = ap least-of one-active
+  pub solo-choice : choice c (actives (o .payload-limit) il ss) ≡ some (entry (o .payload-limit) il s)
+  solo-choice = ap (choice c) one-active ∙ choice-one c (entry (o .payload-limit) il s)
 
-  accept-one : accept (entry (o .payload-limit) il s) (remaining i) ((calm o il n ss) .scheduler) ≡ calm-scheduler o il []
+  accept-one : accept (entry (o .payload-limit) il s) (remaining i) ((calm o il c n ss) .scheduler) ≡ calm-scheduler o il none []
   unfolding calm calm-scheduler scheduled
   accept-one =
       let a : Active = entry (o .payload-limit) il s in
       let b : head-size (s .items) ≡ remaining i = ap head-size (h .items) ∙ head-size-cons i is in
       let f : List Active → Scheduler = λ l. remove-stream (s .id) (record { payload-limit = o .payload-limit; current = some (s .id); system-time = moved a (remaining i); active = l }) in
-      accept-whole a (remaining i) (calm-scheduler o il ss) (omega arith) ∙ accept-last-of a (remaining i) (calm-scheduler o il ss)
+      accept-whole a (remaining i) (calm-scheduler o il c ss) (omega arith) ∙ accept-last-of a (remaining i) (calm-scheduler o il c ss)
       ∙ ap f one-active ∙ remove-last (o .payload-limit) (s .id) (moved a (remaining i)) a refl
 
   sent-amounts : amounts (put-stream (sent s i is) ss) ≡ amounts ss - remaining i
@@ -129,32 +138,30 @@ module _ (o : Options) (il : Bool) (n : ℕ) (ss : List Stream) (s : Stream) (i 
       omega arith
 
   -- The scheduler begins anew with the stream's next message.
-  anew : set-bytes-remaining (s .id) (head-size is) (weight-of il s) (calm-scheduler o il []) ≡ calm-scheduler o il (put-stream (sent s i is) ss)
+  anew : set-bytes-remaining (s .id) (head-size is) (weight-of il s) (calm-scheduler o il none []) ≡ calm-scheduler o il none (put-stream (sent s i is) ss)
   anew =
-      ap (λ (w : Weight). set-bytes-remaining (s .id) (head-size is) w (calm-scheduler o il [])) (weight-same il s (sent s i is) refl)
+      ap (λ (w : Weight). set-bytes-remaining (s .id) (head-size is) w (calm-scheduler o il none [])) (weight-same il s (sent s i is) refl)
       ∙ reschedule-as (sent s i is)
-      ∙ reschedule-put o il (sent s i is) [] tt ((head-items ss (s .id) s i is g h) .1)
-      ∙ same-active (put-stream (sent s i is) []) (put-stream (sent s i is) ss)
+      ∙ reschedule-put o il none (sent s i is) [] tt ((head-items ss (s .id) s i is g h) .1)
+      ∙ ap (λ (d : Option ℕ). calm-scheduler o il d (put-stream (sent s i is) [])) (still-none (s .id) is)
+      ∙ same-active o il none (put-stream (sent s i is) []) (put-stream (sent s i is) ss)
       (solo-actives (o .payload-limit) il (sent s i is) [] tt tt ∙ sym (solo-actives (o .payload-limit) il (sent s i is) ss (g .rising) one))
     where
-      reschedule-as : (x : Stream) → set-bytes-remaining (x .id) (head-size (x .items)) (weight-of il x) (calm-scheduler o il []) ≡ reschedule il x (calm-scheduler o il [])
-      reschedule-as x = sym (reschedule-of il x (calm-scheduler o il []))
+      reschedule-as : (x : Stream) → set-bytes-remaining (x .id) (head-size (x .items)) (weight-of il x) (calm-scheduler o il none []) ≡ reschedule il x (calm-scheduler o il none [])
+      reschedule-as x = sym (reschedule-of il x (calm-scheduler o il none []))
 
-      same-active : (xs ys : List Stream) → actives (o .payload-limit) il xs ≡ actives (o .payload-limit) il ys → calm-scheduler o il xs ≡ calm-scheduler o il ys
-      same-active xs ys e = sym (calm-with-of o il xs) ∙ ap (calm-with o) e ∙ calm-with-of o il ys
-
-  last-calm : last-in not-paused (calm o il n ss) (entry (o .payload-limit) il s) s i is (remaining i) ≡ with-state (calm o il n ss) (amounts ss - remaining i) (put-stream (with-pause not-paused (sent s i is)) ss)
-      (set-bytes-remaining (s .id) (head-size is) (weight-of il s) (accept (entry (o .payload-limit) il s) (remaining i) ((calm o il n ss) .scheduler)))
+  last-calm : last-in not-paused (calm o il c n ss) (entry (o .payload-limit) il s) s i is (remaining i) ≡ with-state (calm o il c n ss) (amounts ss - remaining i) (put-stream (with-pause not-paused (sent s i is)) ss)
+      (set-bytes-remaining (s .id) (head-size is) (weight-of il s) (accept (entry (o .payload-limit) il s) (remaining i) ((calm o il c n ss) .scheduler)))
   unfolding last-in next-size calm
   last-calm = refl
 
-  with-calm : (t : ℕ) (xs : List Stream) → t ≡ amounts xs → with-state (calm o il n ss) t xs (calm-scheduler o il xs) ≡ calm o il n xs
+  with-calm : (t : ℕ) (xs : List Stream) → t ≡ amounts xs → with-state (calm o il c n ss) t xs (calm-scheduler o il none xs) ≡ calm o il none n xs
   unfolding calm
-  with-calm t xs e = let f : ℕ → Queue = λ x. record { options = o; interleaving = il; total = x; next-message-id = n; streams = xs; scheduler = calm-scheduler o il xs } in ap f e
+  with-calm t xs e = let f : ℕ → Queue = λ x. record { options = o; interleaving = il; total = x; next-message-id = n; streams = xs; scheduler = calm-scheduler o il none xs } in ap f e
 
-  pub handed-out-one : handed-out (calm o il n ss) (entry (o .payload-limit) il s) s i is (remaining i) ≡ calm o il n (put-stream (sent s i is) ss)
+  pub handed-out-one : handed-out (calm o il c n ss) (entry (o .payload-limit) il s) s i is (remaining i) ≡ calm o il none n (put-stream (sent s i is) ss)
   handed-out-one =
-      let q : Queue = calm o il n ss in
+      let q : Queue = calm o il c n ss in
       let a : Active = entry (o .payload-limit) il s in
       let op = (head-good ss (s .id) s i is g h) .opened in
       let same-sent : with-pause not-paused (sent s i is) ≡ sent s i is = ap (λ (p : PauseState). with-pause p (sent s i is)) (sym op) in

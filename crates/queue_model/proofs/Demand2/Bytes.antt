@@ -10,7 +10,7 @@ use Rattle.queue_model.specs.Types.{Item, Stream, Options, Queue, done, 
 use Rattle.queue_model.specs.Refusals.{max-time}
 use Rattle.queue_model.specs.Bytes.{number-bytes, row-bytes}
 use Rattle.queue_model.specs.Image.{StreamRecord, MessageRecord, Handover, stream-widths, message-widths, trailer-widths, stream-row, message-row, trailer-row, stream-bytes, message-bytes, streams-bytes, messages-bytes, image-bytes, message-record, message-records, handover, write-image}
-use Rattle.queue_model.specs.RustHandover.{handover-state, restore-from-state}
+use Rattle.queue_model.specs.RustHandover.{handover-state, restore-remembering}
 use Rattle.queue_model.specs.Demands.{Reachable, Restores, forget-plain, fresh, Demand2-images}
 use Rattle.queue_model.proofs.Table.{Every}
 use Rattle.queue_model.proofs.Image.ByteRows.{and-intro}
@@ -80,9 +80,9 @@ unfolding blank
 blank-store o b = refl
 
 -- Demand 2 on images, with the image's bytes: a saved image is accepted.
-pub demand2-restores : (o : Options) (q : Queue) (saved now : ℕ) (b : Bool) → Reachable o q → now ≤ max-time → Restores now (write-image saved q) (fresh o b) (forget-plain (restore-from-state now (handover-state saved q) (fresh o b)))
+pub demand2-restores : (o : Options) (q : Queue) (saved now : ℕ) (b : Bool) → Reachable o q → now ≤ max-time → Restores now (write-image saved q) (fresh o b) (forget-plain (restore-remembering now (handover-state saved q) (fresh o b)))
 unfolding Demand2-images
 demand2-restores o q saved now b r early = record {
   bytes = image-is-bytes saved q (reachable-well r);
-  accepted = subst (λ (n : ℕ). Restore.restore n now (write-image saved q) (fresh o b) ≡ reply done [] (forget-plain (restore-from-state now (handover-state saved q) (fresh o b)))) (sym (ap (λ (x : Queue). x .options .store-length) (fresh-blank o b) ∙ blank-store o b)) (demand2-images o q saved now b r early);
+  accepted = subst (λ (n : ℕ). Restore.restore n now (write-image saved q) (fresh o b) ≡ reply done [] (forget-plain (restore-remembering now (handover-state saved q) (fresh o b)))) (sym (ap (λ (x : Queue). x .options .store-length) (fresh-blank o b) ∙ blank-store o b)) (demand2-images o q saved now b r early);
 }

@@ -2,31 +2,31 @@
 use mathlib.Core.Path.{_≡_, refl, sym, ap, ap₂, _∙_, subst}
 use mathlib.Core.Bool.{Bool, true, false, not, _&&_, _||_}
 use mathlib.Core.List.{List, [], _∷_, _++_, map}
-use mathlib.Core.Option.{Option, Option·getD}
-use Prim.Native.Nat.{ℕ, suc, _+_, _≤_, _<_}
+use mathlib.Core.Option.{Option, none, some, Option·getD}
+use Prim.Native.Nat.{ℕ, zero, suc, _+_, _≤_, _<_}
 use native.Mathlib.Omega.{arith}
 use lib.Dec.{T, ltb, eqb, eqb→eq}
 use lib.ListN.{length}
 use Rattle.queue_model.specs.Logic.{is-nil, if_then_else_, same-bool, any}
 use Rattle.queue_model.specs.Table.{sum-by}
-use Rattle.queue_model.specs.Types.{Item, Stream, Scheduler, Options, Queue, done, reply}
-use Rattle.queue_model.specs.Scheduler.{new-scheduler}
-use Rattle.queue_model.specs.Streams.{max-streams, max-messages, put-stream, new-stream, waiting, payload-bytes, occupied, reschedule, reschedule-each, some-items, has-items, amounts, stream-key, with-message, new-queue}
+use Rattle.queue_model.specs.Types.{Item, Stream, Weight, Scheduler, Options, Queue, done, reply}
+use Rattle.queue_model.specs.Scheduler.{forget, remove-stream, set-bytes-remaining, new-scheduler}
+use Rattle.queue_model.specs.Streams.{max-streams, max-messages, put-stream, new-stream, waiting, payload-bytes, occupied, weight-of, head-size, reschedule, reschedule-each, some-items, has-items, amounts, stream-key, with-message, new-queue}
 use Rattle.queue_model.specs.Refusals.{max-time}
 use Rattle.queue_model.specs.Image.{MessageRecord, Handover, plain, stream-record, stream-records, message-record, message-records, handover, write-image}
 use Rattle.queue_model.specs.Reader.{read-image}
-use Rattle.queue_model.specs.Restore.{restored-stream, restored-item, restore-streams, restore-message, restore-messages, restored, restore-checks, mid-too-early, record-checks, restore-read}
-use Rattle.queue_model.specs.RustHandover.{handover-state, restore-from-state}
+use Rattle.queue_model.specs.Restore.{restored-stream, restored-item, restore-streams, restore-message, restore-messages, half-sent-first, first-half-sent, remember-half-sent, restored, restore-checks, mid-too-early, record-checks, restore-read}
+use Rattle.queue_model.specs.RustHandover.{StreamMessageState, HandoverState, message-state, message-states, handover-state, stream-from, messages-from, restore-from-state, begun-stream, remembering, restore-remembering}
 use Rattle.queue_model.specs.Run.{step}
-use Rattle.queue_model.specs.Demands.{without-plain, forget-plain, fresh, Demand2-images, nothing-to-restore}
+use Rattle.queue_model.specs.Demands.{without-plain, forget-plain, fresh, Demand2-images, Matched, Demand2-rust, nothing-to-restore}
 use Rattle.queue_model.proofs.Tests.{holds, ltb-false, eqb-true}
 use Rattle.queue_model.proofs.Table.{find-here, find-there, find-after, put-later, put-here, put-before, put-end, After, Rising, empty, first, split, length-sum, length-map, sum-map, Every, every-weaken}
 use Rattle.queue_model.proofs.Checks.{Passed, read-some, checked-past, restore-of}
-use Rattle.queue_model.proofs.Scheduler.{each-cons}
+use Rattle.queue_model.proofs.Scheduler.{reschedule-of, each-nil, each-cons}
 use Rattle.queue_model.proofs.Streams.{at-found, at-new, at-id, length-snoc, payload-snoc}
 use Rattle.queue_model.proofs.Image.ByteRows.{and-l, and-r}
 use Rattle.queue_model.proofs.Image.Saved.{read-write-image}
-use Rattle.queue_model.proofs.Invariant.Messages.{WellItems}
+use Rattle.queue_model.proofs.Invariant.Messages.{WellRest, WellItems}
 use Rattle.queue_model.proofs.Invariant.Well.{Kept, Well, well-queue}
 use Rattle.queue_model.proofs.Invariant.Sixteen.{reachable-well, reachable-options}
 use Rattle.queue_model.proofs.Invariant.Strict.{strict-image}
@@ -264,6 +264,49 @@ module _ (o : Options) (now : ℕ) where
               ∙ sym (left-in (full s) (map full ss) (ap (λ (b : Bool). plain (o .default-priority) (stream-record (full s)) && not b) (has-some (full s) (omega arith)) ∙ and-false (plain (o .default-priority) (stream-record (full s))))))
         ]
 
+    -- ---- the half-sent message
+
+    -- A stream filled behind its first message is half-sent if that is.
+    filled-half : (k : ℕ) (x : Stream) (is : List Item) (j : Item) (js : List Item) → x .items ≡ j ∷ js → half-sent-first ((fill k x is) .items) ≡ ltb 0 (j .offset)
+    unfolding fill half-sent-first
+    filled-half k x [] j js e = ap half-sent-first e
+    filled-half k x (i ∷ is) j js e = filled-half k (with-message x (again k i)) is j (js ++ (again k i ∷ [])) (ap (λ (l : List Item). l ++ (again k i ∷ [])) e)
+
+    again-offset : (k : ℕ) (i : Item) → (again k i) .offset ≡ i .offset
+    unfolding again restored-item message-record
+    again-offset k i = refl
+
+    full-half : (s : Stream) → half-sent-first ((full s) .items) ≡ half-sent-first (s .items)
+    unfolding full fill half-sent-first
+    full-half s = elim (split (s .items)) [
+      | empty e ↦ ap (λ (x : Stream). half-sent-first (x .items)) (fill-nil (s .id) (restored-stream o (stream-record s)) (s .items) e) ∙ ap half-sent-first (no-restored-items o (stream-record s)) ∙ ap half-sent-first (sym e)
+      | first i is e ↦ (let x : Stream = restored-stream o (stream-record s) in
+          ap (λ (l : List Item). half-sent-first ((fill (s .id) x l) .items)) e
+          ∙ filled-half (s .id) (with-message x (again (s .id) i)) is (again (s .id) i) [] (ap (λ (l : List Item). l ++ (again (s .id) i ∷ [])) (no-restored-items o (stream-record s)))
+          ∙ ap (ltb 0) (again-offset (s .id) i) ∙ ap half-sent-first (sym e))
+    ]
+
+    rest-begun : (k : ℕ) (is : List Item) (ts : List StreamMessageState) → WellRest is → begun-stream (map (message-state saved k) is ++ ts) ≡ begun-stream ts
+    unfolding begun-stream message-state
+    rest-begun k [] ts w = refl
+    rest-begun k (i ∷ is) ts w =
+        let z = w .0 .no-offset (w .1 .0) in let l : i .offset ≤ 0 = omega arith in
+        ap (λ (b : Bool). if b then some k else begun-stream (map (message-state saved k) is ++ ts)) (ltb-false l) ∙ rest-begun k is ts (w .1 .1)
+
+    items-begun : (k : ℕ) (is : List Item) (ts : List StreamMessageState) → WellItems is → begun-stream (map (message-state saved k) is ++ ts) ≡ (if half-sent-first is then some k else begun-stream ts)
+    unfolding begun-stream message-state half-sent-first
+    items-begun k [] ts w = refl
+    items-begun k (i ∷ is) ts w = ap (λ (x : Option ℕ). if ltb 0 (i .offset) then some k else x) (rest-begun k is ts (w .1))
+
+    -- The stream that restoring remembers is the record's.
+    full-begun : (ss : List Stream) → Every (λ (s : Stream). WellItems (s .items)) ss → first-half-sent (map full ss) ≡ begun-stream (message-states saved ss)
+    unfolding first-half-sent message-states
+    full-begun [] w = unfold begun-stream in refl
+    full-begun (s ∷ ss) w =
+        ap (λ (k : ℕ). if half-sent-first ((full s) .items) then some k else first-half-sent (map full ss)) (full-id s)
+        ∙ ap₂ (λ (b : Bool) (x : Option ℕ). if b then some (s .id) else x) (full-half s) (full-begun ss (w .1))
+        ∙ sym (items-begun (s .id) (s .items) (message-states saved ss) (w .0))
+
 -- ---- leaving plain streams out
 
 -- A stream is left out, having no messages, or stays.
@@ -316,6 +359,32 @@ each-without d il (x ∷ xs) sc = elim (cutting d x xs) [
       ∙ each-without d il xs (if has-items x then reschedule il x sc else sc) ∙ sym (each-cons il has-items x xs sc)
 ]
 
+-- A stream that is left out is not half-sent.
+not-half : (x : Stream) → has-items x ≡ false → half-sent-first (x .items) ≡ false
+unfolding has-items some-items half-sent-first
+not-half x n = go (x .items) n
+  where
+    go : (is : List Item) → some-items is ≡ false → half-sent-first is ≡ false
+    go [] f = refl
+    go (i ∷ is) f = let z : _≡_ {A = ℕ} 0 1 = cc in absurd (omega arith)
+
+half-cons : (x : Stream) (xs : List Stream) → first-half-sent (x ∷ xs) ≡ (if half-sent-first (x .items) then some (x .id) else first-half-sent xs)
+unfolding first-half-sent
+half-cons x xs = refl
+
+half-without : (d : ℕ) (xs : List Stream) → first-half-sent (without-plain d xs) ≡ first-half-sent xs
+half-without d [] = ap first-half-sent (none-left d)
+half-without d (x ∷ xs) = elim (cutting d x xs) [
+  | cut n e ↦ ap first-half-sent e ∙ half-without d xs ∙ sym (half-cons x xs ∙ ap (λ (b : Bool). if b then some (x .id) else first-half-sent xs) (not-half x n))
+  | uncut e ↦ ap first-half-sent e ∙ half-cons x (without-plain d xs) ∙ ap (λ (y : Option ℕ). if half-sent-first (x .items) then some (x .id) else y) (half-without d xs) ∙ sym (half-cons x xs)
+]
+
+remember-without : (d : ℕ) (il : Bool) (xs : List Stream) (sc : Scheduler) → remember-half-sent il (without-plain d xs) sc ≡ remember-half-sent il xs sc
+unfolding remember-half-sent
+remember-without d true xs sc = refl
+remember-without d false xs sc =
+    let f : Option ℕ → Scheduler = λ c. record { payload-limit = sc .payload-limit; current = c; system-time = sc .system-time; active = sc .active } in ap f (half-without d xs)
+
 -- ---- the theorem
 
 none-amount : (o : Options) (now saved : ℕ) (ss : List Stream) → Every (λ x. has-items x ≡ false → x .amount ≡ 0) (map (full o now saved) ss)
@@ -328,6 +397,10 @@ none-amount o now saved (s ∷ ss) = (
   none-amount o now saved ss,
 )
 
+blank-options : (o : Options) (b : Bool) → (blank o b) .options ≡ o
+unfolding blank
+blank-options o b = refl
+
 module _ (q : Queue) (saved now : ℕ) (b : Bool) (w : Well q) (early : now ≤ max-time) (strict : any (mid-too-early (q .options .strict-restart)) (message-records saved (q .streams)) ≡ false) where
   xs : List Stream
   xs = map (full (q .options) now saved) (q .streams)
@@ -336,16 +409,16 @@ module _ (q : Queue) (saved now : ℕ) (b : Bool) (w : Well q) (early : now ≤ 
   d = q .options .default-priority
 
   sc : Scheduler
-  sc = calm-scheduler (q .options) b []
+  sc = calm-scheduler (q .options) b none []
 
   same-queue : restored now (handover saved q) (blank (q .options) b) ≡ forget-plain (restored now (whole-handover saved q) (blank (q .options) b))
   unfolding restored handover whole-handover forget-plain blank restore-streams xs d sc
   same-queue =
       let f : ℕ → List Stream → Scheduler → Queue = λ t l s. record { options = q .options; interleaving = b; total = t; next-message-id = q .next-message-id; streams = l; scheduler = s } in
       let e : amounts (without-plain d xs) ≡ amounts xs = sum-same d (λ x. x .amount) xs (none-amount (q .options) now saved (q .streams)) in
-      ap (λ (l : List Stream). f (amounts l) l (reschedule-each b has-items l sc)) (our-streams (q .options) now saved (q .streams) (w .rising))
-      ∙ ap₂ (λ (t : ℕ) (s : Scheduler). f t (without-plain d xs) s) e (each-without d b xs sc)
-      ∙ ap (λ (l : List Stream). f (amounts l) (without-plain d l) (reschedule-each b has-items l sc)) (sym (rust-streams (q .options) now saved (q .streams) (w .rising)))
+      ap (λ (l : List Stream). f (amounts l) l (remember-half-sent b l (reschedule-each b has-items l sc))) (our-streams (q .options) now saved (q .streams) (w .rising))
+      ∙ ap₂ (λ (t : ℕ) (s : Scheduler). f t (without-plain d xs) s) e (ap (remember-half-sent b (without-plain d xs)) (each-without d b xs sc) ∙ remember-without d b xs (reschedule-each b has-items xs sc))
+      ∙ ap (λ (l : List Stream). f (amounts l) (without-plain d l) (remember-half-sent b l (reschedule-each b has-items l sc))) (sym (rust-streams (q .options) now saved (q .streams) (w .rising)))
 
   restored-are : (restored now (handover saved q) (blank (q .options) b)) .streams ≡ without-plain d xs
   unfolding restored handover blank restore-streams xs d
@@ -381,7 +454,18 @@ module _ (q : Queue) (saved now : ℕ) (b : Bool) (w : Well q) (early : now ≤ 
       λ l e x y z. ap (λ (v : List Stream). ltb max-streams (length v) || ltb max-messages (waiting v) || ltb (q .options .store-length) (occupied v)) e ∙ ap₂ _||_ (ap₂ _||_ (ltb-false x) (ltb-false y)) (ltb-false z) in
       (strict, (ap not (eqb-true {a = q .options .default-priority} refl), (h (without-plain d xs) restored-are few few-messages few-bytes, tt)))
 
-  accepted : Restore.restore (q .options .store-length) now (write-image saved q) (blank (q .options) b) ≡ reply done [] (forget-plain (restore-from-state now (handover-state saved q) (blank (q .options) b)))
+  well-items : Every (λ (s : Stream). WellItems (s .items)) (q .streams)
+  well-items = every-weaken Kept (λ (s : Stream). WellItems (s .items)) (q .streams) (λ s k. k .well-items) (w .kept)
+
+  -- The stream that restoring remembers.
+  begun-same : first-half-sent (restore-messages (q .options) now (message-records saved (q .streams)) (restore-streams (q .options) (map stream-record (q .streams)))) ≡ begun-stream (message-states saved (q .streams))
+  unfolding restore-streams
+  begun-same = ap first-half-sent (rust-streams (q .options) now saved (q .streams) (w .rising)) ∙ full-begun (q .options) now saved (q .streams) well-items
+
+  rust-same : restored now (whole-handover saved q) (blank (q .options) b) ≡ restore-remembering now (handover-state saved q) (blank (q .options) b)
+  rust-same = rust-restores now saved q (blank (q .options) b) well-items (subst (λ (o : Options). first-half-sent (restore-messages o now (message-records saved (q .streams)) (restore-streams o (map stream-record (q .streams)))) ≡ begun-stream (message-states saved (q .streams))) (sym (blank-options (q .options) b)) begun-same)
+
+  accepted : Restore.restore (q .options .store-length) now (write-image saved q) (blank (q .options) b) ≡ reply done [] (forget-plain (restore-remembering now (handover-state saved q) (blank (q .options) b)))
   accepted =
       let q₀ : Queue = blank (q .options) b in
       let h : Handover = handover saved q in
@@ -390,7 +474,7 @@ module _ (q : Queue) (saved now : ℕ) (b : Bool) (w : Well q) (early : now ≤ 
       ∙ ap (restore-read now q₀) (read-write-image saved q (well-queue q w))
       ∙ read-some now q₀ h
       ∙ checked-past (record-checks now q₀ h) q₀ (reply done [] (restored now h q₀)) behind-passed
-      ∙ ap (reply done []) (same-queue ∙ ap forget-plain (rust-restores now saved q q₀ (every-weaken Kept (λ (s : Stream). WellItems (s .items)) (q .streams) (λ s k. k .well-items) (w .kept))))
+      ∙ ap (reply done []) (same-queue ∙ ap forget-plain rust-same)
 
 pub fresh-blank : (o : Options) (b : Bool) → fresh o b ≡ blank o b
 unfolding fresh step Calls.set-interleaving same-bool new-queue new-scheduler reschedule-each blank calm-scheduler
@@ -402,6 +486,38 @@ pub demand2-images : Demand2-images
 unfolding Demand2-images
 demand2-images o q saved now b r early =
     let e : q .options ≡ o = reachable-options r in
-    subst (λ (p : Options). Restore.restore (p .store-length) now (write-image saved q) (fresh p b) ≡ reply done [] (forget-plain (restore-from-state now (handover-state saved q) (fresh p b)))) e
-    (subst (λ (x : Queue). Restore.restore (q .options .store-length) now (write-image saved q) x ≡ reply done [] (forget-plain (restore-from-state now (handover-state saved q) x))) (sym (fresh-blank (q .options) b)) (accepted q saved now b (reachable-well r) early
+    subst (λ (p : Options). Restore.restore (p .store-length) now (write-image saved q) (fresh p b) ≡ reply done [] (forget-plain (restore-remembering now (handover-state saved q) (fresh p b)))) e
+    (subst (λ (x : Queue). Restore.restore (q .options .store-length) now (write-image saved q) x ≡ reply done [] (forget-plain (restore-remembering now (handover-state saved q) x))) (sym (fresh-blank (q .options) b)) (accepted q saved now b (reachable-well r) early
     (subst (λ (p : Options). any (mid-too-early (p .strict-restart)) (message-records saved (q .streams)) ≡ false) (sym e) (strict-image r saved))))
+
+-- ---- where the Rust is matched
+
+set-forgets : (k n : ℕ) (w : Weight) (sc : Scheduler) → sc .current ≡ none → (set-bytes-remaining k n w sc) .current ≡ none
+unfolding set-bytes-remaining remove-stream forget
+set-forgets k zero w sc e = ap (forget k) e
+set-forgets k (suc n) w sc e = e
+
+each-forgets : (il : Bool) (xs : List Stream) (sc : Scheduler) → sc .current ≡ none → (reschedule-each il has-items xs sc) .current ≡ none
+each-forgets il [] sc e = ap (λ (x : Scheduler). x .current) (each-nil il has-items sc) ∙ e
+each-forgets il (x ∷ xs) sc e = ap (λ (y : Scheduler). y .current) (each-cons il has-items x xs sc) ∙ each-forgets il xs (if has-items x then reschedule il x sc else sc) (go (has-items x))
+  where
+    go : (b : Bool) → (if b then reschedule il x sc else sc) .current ≡ none
+    go true = ap (λ (y : Scheduler). y .current) (reschedule-of il x sc) ∙ set-forgets (x .id) (head-size (x .items)) (weight-of il x) sc e
+    go false = e
+
+-- With no half-sent message, or with interleaving, nothing is remembered, and the Rust's own restoring is the amended one.
+pub matched-same : (o : Options) (now : ℕ) (b : Bool) (h : HandoverState) → Matched b h → restore-remembering now h (blank o b) ≡ restore-from-state now h (blank o b)
+unfolding restore-remembering remembering restore-from-state blank calm-scheduler
+matched-same o now true h m = refl
+matched-same o now false h m =
+    let sc : Scheduler = calm-scheduler o false none [] in
+    let ss : List Stream = messages-from o now (h .queued-messages) (map (stream-from o) (h .streams)) in
+    let rs : Scheduler = reschedule-each false has-items ss sc in
+    let f : Option ℕ → Queue = λ c. record { options = o; interleaving = false; total = amounts ss; next-message-id = h .next-message-id; streams = ss; scheduler = record { payload-limit = rs .payload-limit; current = c; system-time = rs .system-time; active = rs .active } } in
+    ap f (m ∙ sym (each-forgets false ss sc refl))
+
+pub demand2-rust : Demand2-rust
+unfolding Demand2-rust Demand2-images
+demand2-rust o q saved now b r early m =
+    demand2-images o q saved now b r early
+    ∙ ap (λ (x : Queue). reply done [] (forget-plain x)) (ap (restore-remembering now (handover-state saved q)) (fresh-blank o b) ∙ matched-same o now b (handover-state saved q) m ∙ ap (restore-from-state now (handover-state saved q)) (sym (fresh-blank o b)))

@@ -7,12 +7,12 @@ use Prim.Native.Nat.{ℕ, _+_, _*_, min}
 use native.Mathlib.Omega.{arith}
 use lib.ListN.{length}
 use Rattle.queue_model.specs.Logic.{is-some}
-use Rattle.queue_model.specs.Types.{Item, Stream, Options, Queue}
+use Rattle.queue_model.specs.Types.{Item, Stream, Options, Queue, with-state}
 use Rattle.queue_model.specs.Streams.{amounts, at, with-message, has-items, put-stream, reschedule-each}
 use Rattle.queue_model.specs.Image.{Handover, MessageRecord, message-record, message-records, ms-left-at, stream-record}
 use Rattle.queue_model.specs.Reader.{has-flag}
-use Rattle.queue_model.specs.Restore.{give, restored, restore-message, restore-messages, restore-streams, restored-item, restored-stream}
-use Rattle.queue_model.specs.RustHandover.{StreamMessageState, expires-from, expires-in, handover-state, item-from, message-state, message-states, messages-from, restore-from-state, ssn-state, stream-from, stream-state}
+use Rattle.queue_model.specs.Restore.{give, first-half-sent, remember-half-sent, restored, restore-message, restore-messages, restore-streams, restored-item, restored-stream}
+use Rattle.queue_model.specs.RustHandover.{begun-stream, remembering, restore-remembering, StreamMessageState, expires-from, expires-in, handover-state, item-from, message-state, message-states, messages-from, restore-from-state, ssn-state, stream-from, stream-state}
 use Rattle.queue_model.proofs.Table.{Every}
 use Rattle.queue_model.proofs.Image.Saved.{flags, flags-read}
 use Rattle.queue_model.proofs.Invariant.Messages.{WellItem, WellRest, WellItems}
@@ -23,7 +23,7 @@ whole-handover now q = record { next-message-id = q .next-message-id; default-pr
 
 -- ---- one message
 
-mid-back : (b : Bool) (m : Option ℕ) → b ≡ is-some m → give b (Option·getD m 0) ≡ m
+pub mid-back : (b : Bool) (m : Option ℕ) → b ≡ is-some m → give b (Option·getD m 0) ≡ m
 unfolding give is-some
 mid-back b none e = ap (λ (x : Bool). give x 0) e
 mid-back b (some n) e = ap (λ (x : Bool). give x n) e
@@ -83,8 +83,25 @@ module _ (o : Options) (now saved : ℕ) where
 
 -- ---- the queue
 
-pub rust-restores : (now saved : ℕ) (q r : Queue) → Every (λ (s : Stream). WellItems (s .items)) (q .streams) → restored now (whole-handover saved q) r ≡ restore-from-state now (handover-state saved q) r
-unfolding restored whole-handover restore-from-state handover-state
-rust-restores now saved q r w =
+-- The streams of both.
+pub rust-list : (o : Options) (now saved : ℕ) (ss : List Stream) → Every (λ (s : Stream). WellItems (s .items)) ss
+    → restore-messages o now (message-records saved ss) (restore-streams o (map stream-record ss)) ≡ messages-from o now (message-states saved ss) (map (stream-from o) (map stream-state ss))
+rust-list o now saved ss w = ap (restore-messages o now (message-records saved ss)) (streams-same o now saved ss) ∙ messages-same o now saved ss w (map (stream-from o) (map stream-state ss))
+
+-- A scheduler that remembers, on both sides.
+both-remember : (il : Bool) (k : Option ℕ) (ss : List Stream) (q : Queue) → (il ≡ false → first-half-sent ss ≡ k) → with-state q (q .total) (q .streams) (remember-half-sent il ss (q .scheduler)) ≡ remembering il k q
+unfolding remember-half-sent remembering
+both-remember true k ss q e = refl
+both-remember false k ss q e =
+    let f : Option ℕ → Queue = λ c. with-state q (q .total) (q .streams) (record { payload-limit = q .scheduler .payload-limit; current = c; system-time = q .scheduler .system-time; active = q .scheduler .active }) in
+    ap f (e refl)
+
+pub rust-restores : (now saved : ℕ) (q r : Queue) → Every (λ (s : Stream). WellItems (s .items)) (q .streams)
+    → first-half-sent (restore-messages (r .options) now (message-records saved (q .streams)) (restore-streams (r .options) (map stream-record (q .streams)))) ≡ begun-stream (message-states saved (q .streams))
+    → restored now (whole-handover saved q) r ≡ restore-remembering now (handover-state saved q) r
+unfolding restored whole-handover restore-remembering restore-from-state handover-state
+rust-restores now saved q r w e =
+    let l : List Stream = restore-messages (r .options) now (message-records saved (q .streams)) (restore-streams (r .options) (map stream-record (q .streams))) in
     let f : List Stream → Queue = λ l. record { options = r .options; interleaving = r .interleaving; total = amounts l; next-message-id = q .next-message-id; streams = l; scheduler = reschedule-each (r .interleaving) has-items l (r .scheduler) } in
-    ap f (ap (restore-messages (r .options) now (message-records saved (q .streams))) (streams-same (r .options) now saved (q .streams)) ∙ messages-same (r .options) now saved (q .streams) w (map (stream-from (r .options)) (map stream-state (q .streams))))
+    both-remember (r .interleaving) (begun-stream (message-states saved (q .streams))) l (f l) (λ g. e)
+    ∙ ap (λ (x : List Stream). remembering (r .interleaving) (begun-stream (message-states saved (q .streams))) (f x)) (rust-list (r .options) now saved (q .streams) w)

@@ -52,7 +52,7 @@ reachable-new {q = q} r =
       new-scheduled = λ n. new-waits (q .options .payload-limit) (q .interleaving) (q .scheduler) (subst (λ (l : List Stream). Waits (q .options .payload-limit) (Listed (q .interleaving) l) (q .scheduler)) n (w .waits)) ∙ ap (λ (o : Options). new-scheduler (o .payload-limit)) e;
     }
 
-calm-new : (o : Options) (il : Bool) → new-scheduler (o .payload-limit) ≡ calm-scheduler o il []
+calm-new : (o : Options) (il : Bool) → new-scheduler (o .payload-limit) ≡ calm-scheduler o il none []
 unfolding new-scheduler calm-scheduler
 calm-new o il = refl
 
@@ -63,11 +63,11 @@ make-queue-of : (q : Queue) → q ≡ make-queue (q .options) (q .interleaving) 
 unfolding make-queue
 make-queue-of q = refl
 
-blank-of : (o : Options) (il : Bool) → blank o il ≡ make-queue o il 0 0 [] (calm-scheduler o il [])
+blank-of : (o : Options) (il : Bool) → blank o il ≡ make-queue o il 0 0 [] (calm-scheduler o il none [])
 unfolding blank make-queue
 blank-of o il = refl
 
 pub new-blank : (o : Options) (q : Queue) → AsNew o q → q .streams ≡ [] → q .next-message-id ≡ 0 → q ≡ blank o (q .interleaving)
 new-blank o q n e z =
-    let a = n .new-options in let t = n .new-total e in let s : q .scheduler ≡ calm-scheduler o (q .interleaving) [] = n .new-scheduled e ∙ calm-new o (q .interleaving) in
+    let a = n .new-options in let t = n .new-total e in let s : q .scheduler ≡ calm-scheduler o (q .interleaving) none [] = n .new-scheduled e ∙ calm-new o (q .interleaving) in
     cc (make-queue-of q, blank-of o (q .interleaving))

@@ -17,9 +17,9 @@ use Rattle.queue_model.specs.Demands.{Typed, Indistinguishable}
 use Rattle.queue_model.proofs.Tests.{less, same, more, tri}
 use Rattle.queue_model.proofs.Table.{find-here, find-there, find-put-same, find-put-other, found-above, Rising, sum-put-old, empty, first, split, find-key, found, missing, look-up, Found, every-find}
 use Rattle.queue_model.proofs.Streams.{at-found, at-new}
-use Rattle.queue_model.proofs.Calm.Calm.{GoodStream, GoodItem, Good, good-put, calm, HeadAt, behead, head-good, head-items, head-amount, head-id, behead-good, behead-waiting, discard-calm}
+use Rattle.queue_model.proofs.Calm.Calm.{GoodStream, GoodItem, Good, good-put, calm, still, HeadAt, behead, head-good, head-items, head-amount, head-id, behead-good, behead-waiting, discard-calm}
 use Rattle.queue_model.proofs.Calm.Produce.{whole, whole-nothing, whole-head, Choice, none-waits, one-waits, choose}
-use Rattle.queue_model.proofs.Calm.Solo.{Solo, solo-list, solo-least, sent, sent-waiting, handed-out-one}
+use Rattle.queue_model.proofs.Calm.Solo.{Solo, solo-list, solo-choice, sent, sent-waiting, handed-out-one}
 use Rattle.queue_model.proofs.Calm.Reset.{reset-calm, good-reset, head-reset, solo-reset, reset-id}
 use Rattle.queue_model.proofs.Calm.Empty.{shown, onward, at-none, empty-counters, empty-next, step-whole, typed-whole}
 use Rattle.queue_model.proofs.Calm.Heads.{whole-fragment, shows-stream, shows-message, shows-unordered, shows-ppid, shows-retransmissions, shows-expiry, shows-fsn, shows-bytes, shows-lifecycle, shows-mid, shows-ssn, length-bytes, counters-given, counters-new, give-moves, numbered-fits, same-item}
@@ -103,22 +103,22 @@ step-reset q = refl
 
 module _ (o : Options) (il : Bool) (room : 1 ≤ o .store-length) (store : o .store-length ≤ 2000000) where
   -- One head discarded on both sides.
-  discarded : (n₁ n₂ k : ℕ) (ss₁ ss₂ : List Stream) (s₁ s₂ : Stream) (i₁ i₂ : Item) (is₁ is₂ : List Item) → Good ss₁ → Good ss₂ → HeadAt ss₁ k s₁ i₁ is₁ → HeadAt ss₂ k s₂ i₂ is₂
-      → i₁ .message-id ≡ i₂ .message-id → Indistinguishable (calm o il n₁ ss₁) (calm o il n₂ ss₂)
-      → Indistinguishable (calm o il n₁ (put-stream (behead s₁ i₁ is₁) ss₁)) (calm o il n₂ (put-stream (behead s₂ i₂ is₂) ss₂))
-  discarded n₁ n₂ k ss₁ ss₂ s₁ s₂ i₁ i₂ is₁ is₂ g₁ g₂ h₁ h₂ e ind =
+  discarded : (c₁ c₂ : Option ℕ) (n₁ n₂ k : ℕ) (ss₁ ss₂ : List Stream) (s₁ s₂ : Stream) (i₁ i₂ : Item) (is₁ is₂ : List Item) → Good ss₁ → Good ss₂ → HeadAt ss₁ k s₁ i₁ is₁ → HeadAt ss₂ k s₂ i₂ is₂
+      → i₁ .message-id ≡ i₂ .message-id → Indistinguishable (calm o il c₁ n₁ ss₁) (calm o il c₂ n₂ ss₂)
+      → Indistinguishable (calm o il (still (s₁ .id) is₁ c₁) n₁ (put-stream (behead s₁ i₁ is₁) ss₁)) (calm o il (still (s₂ .id) is₂ c₂) n₂ (put-stream (behead s₂ i₂ is₂) ss₂))
+  discarded c₁ c₂ n₁ n₂ k ss₁ ss₂ s₁ s₂ i₁ i₂ is₁ is₂ g₁ g₂ h₁ h₂ e ind =
       let c : Call = discard 2305 k (i₁ .message-id) in
       let gs = head-good ss₁ k s₁ i₁ is₁ g₁ h₁ in
       let kid = head-id ss₁ k s₁ i₁ is₁ g₁ h₁ in
       let kf = gs .id-fits in
       let mf = (head-items ss₁ k s₁ i₁ is₁ g₁ h₁) .0 .id-fits in
       let t : Typed (discard 2305 k (i₁ .message-id)) = (omega arith, (omega arith, mf)) in
-      let x₁ : (step c (calm o il n₁ ss₁)) .next ≡ calm o il n₁ (put-stream (behead s₁ i₁ is₁) ss₁) =
-      ap (λ (x : Step). x .next) (step-discard k (i₁ .message-id) (calm o il n₁ ss₁)) ∙ discard-calm ss₁ k s₁ i₁ is₁ g₁ h₁ o il n₁ in
-      let x₂ : (step c (calm o il n₂ ss₂)) .next ≡ calm o il n₂ (put-stream (behead s₂ i₂ is₂) ss₂) =
-      ap (λ (x : Step). x .next) (step-discard k (i₁ .message-id) (calm o il n₂ ss₂) ∙ ap (λ (m : ℕ). Calls.discard 2305 k m (calm o il n₂ ss₂)) e) ∙ discard-calm ss₂ k s₂ i₂ is₂ g₂ h₂ o il n₂ in
-      subst (λ (q : Queue). Indistinguishable q (calm o il n₂ (put-stream (behead s₂ i₂ is₂) ss₂))) x₁
-      (subst (Indistinguishable ((step c (calm o il n₁ ss₁)) .next)) x₂ (onward (calm o il n₁ ss₁) (calm o il n₂ ss₂) ind c t))
+      let x₁ : (step c (calm o il c₁ n₁ ss₁)) .next ≡ calm o il (still (s₁ .id) is₁ c₁) n₁ (put-stream (behead s₁ i₁ is₁) ss₁) =
+      ap (λ (x : Step). x .next) (step-discard k (i₁ .message-id) (calm o il c₁ n₁ ss₁)) ∙ discard-calm ss₁ k s₁ i₁ is₁ g₁ h₁ o il c₁ n₁ in
+      let x₂ : (step c (calm o il c₂ n₂ ss₂)) .next ≡ calm o il (still (s₂ .id) is₂ c₂) n₂ (put-stream (behead s₂ i₂ is₂) ss₂) =
+      ap (λ (x : Step). x .next) (step-discard k (i₁ .message-id) (calm o il c₂ n₂ ss₂) ∙ ap (λ (m : ℕ). Calls.discard 2305 k m (calm o il c₂ n₂ ss₂)) e) ∙ discard-calm ss₂ k s₂ i₂ is₂ g₂ h₂ o il c₂ n₂ in
+      subst (λ (q : Queue). Indistinguishable q (calm o il (still (s₂ .id) is₂ c₂) n₂ (put-stream (behead s₂ i₂ is₂) ss₂))) x₁
+      (subst (Indistinguishable ((step c (calm o il c₁ n₁ ss₁)) .next)) x₂ (onward (calm o il c₁ n₁ ss₁) (calm o il c₂ n₂ ss₂) ind c t))
 
   behead-state : (n k : ℕ) (ss : List Stream) (s : Stream) (i : Item) (is : List Item) → State n ss → HeadAt ss k s i is → State n (put-stream (behead s i is) ss)
   behead-state n k ss s i is st h =
@@ -127,39 +127,39 @@ module _ (o : Options) (il : Bool) (room : 1 ≤ o .store-length) (store : o .st
       record { good = good-put (behead s i is) ss (behead-good ss k s i is (st .good) h) (st .good); next-fits = st .next-fits; fits = omega arith }
 
   -- The whole next fragment on both sides.
-  both-sent : (n₁ n₂ : ℕ) (ss₁ ss₂ : List Stream) (s₁ s₂ : Stream) (i₁ i₂ : Item) (is₁ is₂ : List Item) → Good ss₁ → Good ss₂
-      → (h₁ : (whole o (calm o il n₁ ss₁)) .outcome .answer ≡ fragment (whole-fragment s₁ i₁)) → (h₂ : (whole o (calm o il n₂ ss₂)) .outcome .answer ≡ fragment (whole-fragment s₂ i₂))
-      → Indistinguishable (calm o il n₁ ss₁) (calm o il n₂ ss₂) → whole-fragment s₁ i₁ ≡ whole-fragment s₂ i₂
-  both-sent n₁ n₂ ss₁ ss₂ s₁ s₂ i₁ i₂ is₁ is₂ g₁ g₂ h₁ h₂ ind =
-      let e = shown (calm o il n₁ ss₁) (calm o il n₂ ss₂) ind (produce (o .store-length) 2305 262144 0 262144) (typed-whole o store) in
+  both-sent : (c₁ c₂ : Option ℕ) (n₁ n₂ : ℕ) (ss₁ ss₂ : List Stream) (s₁ s₂ : Stream) (i₁ i₂ : Item) (is₁ is₂ : List Item) → Good ss₁ → Good ss₂
+      → (h₁ : (whole o (calm o il c₁ n₁ ss₁)) .outcome .answer ≡ fragment (whole-fragment s₁ i₁)) → (h₂ : (whole o (calm o il c₂ n₂ ss₂)) .outcome .answer ≡ fragment (whole-fragment s₂ i₂))
+      → Indistinguishable (calm o il c₁ n₁ ss₁) (calm o il c₂ n₂ ss₂) → whole-fragment s₁ i₁ ≡ whole-fragment s₂ i₂
+  both-sent c₁ c₂ n₁ n₂ ss₁ ss₂ s₁ s₂ i₁ i₂ is₁ is₂ g₁ g₂ h₁ h₂ ind =
+      let e = shown (calm o il c₁ n₁ ss₁) (calm o il c₂ n₂ ss₂) ind (produce (o .store-length) 2305 262144 0 262144) (typed-whole o store) in
       let e′ : fragment (whole-fragment s₁ i₁) ≡ fragment (whole-fragment s₂ i₂) =
-      sym h₁ ∙ ap (λ (x : Step). x .outcome .answer) (sym (step-whole o (calm o il n₁ ss₁))) ∙ ap (λ (x : Outcome). x .answer) e ∙ ap (λ (x : Step). x .outcome .answer) (step-whole o (calm o il n₂ ss₂)) ∙ h₂ in
+      sym h₁ ∙ ap (λ (x : Step). x .outcome .answer) (sym (step-whole o (calm o il c₁ n₁ ss₁))) ∙ ap (λ (x : Outcome). x .answer) e ∙ ap (λ (x : Step). x .outcome .answer) (step-whole o (calm o il c₂ n₂ ss₂)) ∙ h₂ in
       cc
 
   -- The reset on both sides.
-  both-reset : (n₁ n₂ : ℕ) (ss₁ ss₂ : List Stream) → State n₁ ss₁ → State n₂ ss₂ → Indistinguishable (calm o il n₁ ss₁) (calm o il n₂ ss₂)
-      → Indistinguishable (calm o il n₁ (map (reset-stream (o .strict-restart)) ss₁)) (calm o il n₂ (map (reset-stream (o .strict-restart)) ss₂))
-  both-reset n₁ n₂ ss₁ ss₂ t₁ t₂ ind =
-      let x₁ : (step reset (calm o il n₁ ss₁)) .next ≡ calm o il n₁ (map (reset-stream (o .strict-restart)) ss₁) = ap (λ (x : Step). x .next) (step-reset (calm o il n₁ ss₁) ∙ reset-calm o il n₁ ss₁ (t₁ .good) (t₁ .fits)) in
-      let x₂ : (step reset (calm o il n₂ ss₂)) .next ≡ calm o il n₂ (map (reset-stream (o .strict-restart)) ss₂) = ap (λ (x : Step). x .next) (step-reset (calm o il n₂ ss₂) ∙ reset-calm o il n₂ ss₂ (t₂ .good) (t₂ .fits)) in
-      subst (λ (q : Queue). Indistinguishable q (calm o il n₂ (map (reset-stream (o .strict-restart)) ss₂))) x₁
-      (subst (Indistinguishable ((step reset (calm o il n₁ ss₁)) .next)) x₂ (onward (calm o il n₁ ss₁) (calm o il n₂ ss₂) ind reset tt))
+  both-reset : (c₁ c₂ : Option ℕ) (n₁ n₂ : ℕ) (ss₁ ss₂ : List Stream) → State n₁ ss₁ → State n₂ ss₂ → Indistinguishable (calm o il c₁ n₁ ss₁) (calm o il c₂ n₂ ss₂)
+      → Indistinguishable (calm o il c₁ n₁ (map (reset-stream (o .strict-restart)) ss₁)) (calm o il c₂ n₂ (map (reset-stream (o .strict-restart)) ss₂))
+  both-reset c₁ c₂ n₁ n₂ ss₁ ss₂ t₁ t₂ ind =
+      let x₁ : (step reset (calm o il c₁ n₁ ss₁)) .next ≡ calm o il c₁ n₁ (map (reset-stream (o .strict-restart)) ss₁) = ap (λ (x : Step). x .next) (step-reset (calm o il c₁ n₁ ss₁) ∙ reset-calm o il c₁ n₁ ss₁ (t₁ .good) (t₁ .fits)) in
+      let x₂ : (step reset (calm o il c₂ n₂ ss₂)) .next ≡ calm o il c₂ n₂ (map (reset-stream (o .strict-restart)) ss₂) = ap (λ (x : Step). x .next) (step-reset (calm o il c₂ n₂ ss₂) ∙ reset-calm o il c₂ n₂ ss₂ (t₂ .good) (t₂ .fits)) in
+      subst (λ (q : Queue). Indistinguishable q (calm o il c₂ n₂ (map (reset-stream (o .strict-restart)) ss₂))) x₁
+      (subst (Indistinguishable ((step reset (calm o il c₁ n₁ ss₁)) .next)) x₂ (onward (calm o il c₁ n₁ ss₁) (calm o il c₂ n₂ ss₂) ind reset tt))
 
   -- One stream alone has messages, the same on both sides: its whole next fragment.
-  module _ (n : ℕ) (ss : List Stream) (s : Stream) (i : Item) (is : List Item) (g : Good ss) (h : HeadAt ss (s .id) s i is) (one : Solo (s .id) ss) where
-    solo-whole : (whole o (calm o il n ss)) .outcome .answer ≡ fragment (whole-fragment s i)
-    solo-whole = ap (λ (x : Step). x .outcome .answer) (whole-head o il n ss s i is g h (solo-least o il n ss s i is g h one))
+  module _ (c : Option ℕ) (n : ℕ) (ss : List Stream) (s : Stream) (i : Item) (is : List Item) (g : Good ss) (h : HeadAt ss (s .id) s i is) (one : Solo (s .id) ss) where
+    solo-whole : (whole o (calm o il c n ss)) .outcome .answer ≡ fragment (whole-fragment s i)
+    solo-whole = ap (λ (x : Step). x .outcome .answer) (whole-head o il c n ss s i is g h (solo-choice o il c n ss s i is g h one))
 
-    solo-next : (whole o (calm o il n ss)) .next ≡ calm o il n (put-stream (sent s i is) ss)
-    solo-next = ap (λ (x : Step). x .next) (whole-head o il n ss s i is g h (solo-least o il n ss s i is g h one)) ∙ handed-out-one o il n ss s i is g h one
+    solo-next : (whole o (calm o il c n ss)) .next ≡ calm o il none n (put-stream (sent s i is) ss)
+    solo-next = ap (λ (x : Step). x .next) (whole-head o il c n ss s i is g h (solo-choice o il c n ss s i is g h one)) ∙ handed-out-one o il c n ss s i is g h one
 
     -- After stream-key a reset it shows the whole payload.
-    reset-whole : (whole o (calm o il n (map (reset-stream (o .strict-restart)) ss))) .outcome .answer ≡ fragment (whole-fragment (reset-stream (o .strict-restart) s) (whole-item (o .strict-restart) i))
+    reset-whole : (whole o (calm o il c n (map (reset-stream (o .strict-restart)) ss))) .outcome .answer ≡ fragment (whole-fragment (reset-stream (o .strict-restart) s) (whole-item (o .strict-restart) i))
     reset-whole =
         let xs : List Stream = map (reset-stream (o .strict-restart)) ss in
         let hd : HeadAt xs ((reset-stream (o .strict-restart) s) .id) (reset-stream (o .strict-restart) s) (whole-item (o .strict-restart) i) is = subst (λ (k : ℕ). HeadAt xs k (reset-stream (o .strict-restart) s) (whole-item (o .strict-restart) i) is) (reset-id (o .strict-restart) s) (head-reset (o .strict-restart) ss (s .id) s i is h) in
         let on : Solo ((reset-stream (o .strict-restart) s) .id) xs = subst (λ (k : ℕ). Solo k xs) (reset-id (o .strict-restart) s) (solo-reset (o .strict-restart) (s .id) ss one) in
-        ap (λ (x : Step). x .outcome .answer) (whole-head o il n xs (reset-stream (o .strict-restart) s) (whole-item (o .strict-restart) i) is (good-reset (o .strict-restart) ss g) hd (solo-least o il n xs (reset-stream (o .strict-restart) s) (whole-item (o .strict-restart) i) is (good-reset (o .strict-restart) ss g) hd on))
+        ap (λ (x : Step). x .outcome .answer) (whole-head o il c n xs (reset-stream (o .strict-restart) s) (whole-item (o .strict-restart) i) is (good-reset (o .strict-restart) ss g) hd (solo-choice o il c n xs (reset-stream (o .strict-restart) s) (whole-item (o .strict-restart) i) is (good-reset (o .strict-restart) ss g) hd on))
 
     payload-shown : (whole-fragment (reset-stream (o .strict-restart) s) (whole-item (o .strict-restart) i)) .bytes ≡ i .payload
     payload-shown = shows-bytes (reset-stream (o .strict-restart) s) (whole-item (o .strict-restart) i) ∙ take-all (length (i .payload) - 0) (i .payload) (omega arith)
@@ -170,11 +170,11 @@ module _ (o : Options) (il : Bool) (room : 1 ≤ o .store-length) (store : o .st
         let f = numbered-fits (s .counters) i (gs .ordered-fits) (gs .unordered-fits) in
         record { id-fits = gs .id-fits; opened = gs .opened; counted = omega arith; good-items = (head-items ss (s .id) s i is g h) .1; ordered-fits = f .0; unordered-fits = f .1 }
 
-  sent-state : (n : ℕ) (ss : List Stream) (s : Stream) (i : Item) (is : List Item) → (st : State n ss) → (h : HeadAt ss (s .id) s i is) → Solo (s .id) ss → State n (put-stream (sent s i is) ss)
-  sent-state n ss s i is st h one =
+  sent-state : (c : Option ℕ) (n : ℕ) (ss : List Stream) (s : Stream) (i : Item) (is : List Item) → (st : State n ss) → (h : HeadAt ss (s .id) s i is) → Solo (s .id) ss → State n (put-stream (sent s i is) ss)
+  sent-state c n ss s i is st h one =
       let b = put-fits (sent s i is) s ss i (st .good .rising) (h .found) (h .items) in
       let f = st .fits in
-      record { good = good-put (sent s i is) ss (sent-good n ss s i is (st .good) h one) (st .good); next-fits = st .next-fits; fits = omega arith }
+      record { good = good-put (sent s i is) ss (sent-good c n ss s i is (st .good) h one) (st .good); next-fits = st .next-fits; fits = omega arith }
 
   -- Two MIDs are the same if the fragments, the counters before and the counters after are.
   mids-same : (s₁ s₂ : Stream) (i₁ i₂ : Item) → GoodStream s₁ → GoodItem i₁ → GoodItem i₂ → s₁ .counters ≡ s₂ .counters → whole-fragment s₁ i₁ ≡ whole-fragment s₂ i₂
@@ -212,14 +212,14 @@ module _ (o : Options) (il : Bool) (room : 1 ≤ o .store-length) (store : o .st
 
   -- ---- one step of the induction: what holds of all queues with fewer messages holds of this one
 
-  module _ (n₁ n₂ : ℕ) (ss₁ ss₂ : List Stream) (t₁ : State n₁ ss₁) (t₂ : State n₂ ss₂) (ind : Indistinguishable (calm o il n₁ ss₁) (calm o il n₂ ss₂))
-      (smaller : (xs₁ xs₂ : List Stream) → State n₁ xs₁ → State n₂ xs₂ → suc (waiting xs₁) ≡ waiting ss₁ → Indistinguishable (calm o il n₁ xs₁) (calm o il n₂ xs₂) → Alike o n₁ n₂ xs₁ xs₂) where
+  module _ (c₁ c₂ : Option ℕ) (n₁ n₂ : ℕ) (ss₁ ss₂ : List Stream) (t₁ : State n₁ ss₁) (t₂ : State n₂ ss₂) (ind : Indistinguishable (calm o il c₁ n₁ ss₁) (calm o il c₂ n₂ ss₂))
+      (smaller : (d₁ d₂ : Option ℕ) (xs₁ xs₂ : List Stream) → State n₁ xs₁ → State n₂ xs₂ → suc (waiting xs₁) ≡ waiting ss₁ → Indistinguishable (calm o il d₁ n₁ xs₁) (calm o il d₂ n₂ xs₂) → Alike o n₁ n₂ xs₁ xs₂) where
     -- Heads of one stream with the same message id, on both sides: all else is the same.
     module _ (k : ℕ) (s₁ s₂ : Stream) (i₁ i₂ : Item) (is₁ is₂ : List Item) (h₁ : HeadAt ss₁ k s₁ i₁ is₁) (h₂ : HeadAt ss₂ k s₂ i₂ is₂) (e : i₁ .message-id ≡ i₂ .message-id) where
       rest-alike : Alike o n₁ n₂ (put-stream (behead s₁ i₁ is₁) ss₁) (put-stream (behead s₂ i₂ is₂) ss₂)
       rest-alike =
-          smaller (put-stream (behead s₁ i₁ is₁) ss₁) (put-stream (behead s₂ i₂ is₂) ss₂) (behead-state n₁ k ss₁ s₁ i₁ is₁ t₁ h₁) (behead-state n₂ k ss₂ s₂ i₂ is₂ t₂ h₂)
-          (behead-waiting ss₁ k s₁ i₁ is₁ (t₁ .good) h₁) (discarded n₁ n₂ k ss₁ ss₂ s₁ s₂ i₁ i₂ is₁ is₂ (t₁ .good) (t₂ .good) h₁ h₂ e ind)
+          smaller (still (s₁ .id) is₁ c₁) (still (s₂ .id) is₂ c₂) (put-stream (behead s₁ i₁ is₁) ss₁) (put-stream (behead s₂ i₂ is₂) ss₂) (behead-state n₁ k ss₁ s₁ i₁ is₁ t₁ h₁) (behead-state n₂ k ss₂ s₂ i₂ is₂ t₂ h₂)
+          (behead-waiting ss₁ k s₁ i₁ is₁ (t₁ .good) h₁) (discarded c₁ c₂ n₁ n₂ k ss₁ ss₂ s₁ s₂ i₁ i₂ is₁ is₂ (t₁ .good) (t₂ .good) h₁ h₂ e ind)
 
       id₁ : s₁ .id ≡ k
       id₁ = head-id ss₁ k s₁ i₁ is₁ (t₁ .good) h₁
@@ -322,12 +322,12 @@ module _ (o : Options) (il : Bool) (room : 1 ≤ o .store-length) (store : o .st
         sent-alike : Alike o n₁ n₂ (put-stream (sent s₁ i₁ is₁) ss₁) (put-stream (sent s₂ i₂ is₂) ss₂)
         sent-alike =
             let c : Call = produce (o .store-length) 2305 262144 0 262144 in
-            let x₁ : (step c (calm o il n₁ ss₁)) .next ≡ calm o il n₁ (put-stream (sent s₁ i₁ is₁) ss₁) = ap (λ (x : Step). x .next) (step-whole o (calm o il n₁ ss₁)) ∙ solo-next n₁ ss₁ s₁ i₁ is₁ (t₁ .good) h₁ one₁ in
-            let x₂ : (step c (calm o il n₂ ss₂)) .next ≡ calm o il n₂ (put-stream (sent s₂ i₂ is₂) ss₂) = ap (λ (x : Step). x .next) (step-whole o (calm o il n₂ ss₂)) ∙ solo-next n₂ ss₂ s₂ i₂ is₂ (t₂ .good) h₂′ one₂ in
-            smaller (put-stream (sent s₁ i₁ is₁) ss₁) (put-stream (sent s₂ i₂ is₂) ss₂) (sent-state n₁ ss₁ s₁ i₁ is₁ t₁ h₁ one₁) (sent-state n₂ ss₂ s₂ i₂ is₂ t₂ h₂′ one₂)
-            (sent-waiting o il n₁ ss₁ s₁ i₁ is₁ (t₁ .good) h₁ one₁)
-            (subst (λ (q : Queue). Indistinguishable q (calm o il n₂ (put-stream (sent s₂ i₂ is₂) ss₂))) x₁
-            (subst (Indistinguishable ((step c (calm o il n₁ ss₁)) .next)) x₂ (onward (calm o il n₁ ss₁) (calm o il n₂ ss₂) ind c (typed-whole o store))))
+            let x₁ : (step c (calm o il c₁ n₁ ss₁)) .next ≡ calm o il none n₁ (put-stream (sent s₁ i₁ is₁) ss₁) = ap (λ (x : Step). x .next) (step-whole o (calm o il c₁ n₁ ss₁)) ∙ solo-next c₁ n₁ ss₁ s₁ i₁ is₁ (t₁ .good) h₁ one₁ in
+            let x₂ : (step c (calm o il c₂ n₂ ss₂)) .next ≡ calm o il none n₂ (put-stream (sent s₂ i₂ is₂) ss₂) = ap (λ (x : Step). x .next) (step-whole o (calm o il c₂ n₂ ss₂)) ∙ solo-next c₂ n₂ ss₂ s₂ i₂ is₂ (t₂ .good) h₂′ one₂ in
+            smaller none none (put-stream (sent s₁ i₁ is₁) ss₁) (put-stream (sent s₂ i₂ is₂) ss₂) (sent-state c₁ n₁ ss₁ s₁ i₁ is₁ t₁ h₁ one₁) (sent-state c₂ n₂ ss₂ s₂ i₂ is₂ t₂ h₂′ one₂)
+            (sent-waiting o il c₁ n₁ ss₁ s₁ i₁ is₁ (t₁ .good) h₁ one₁)
+            (subst (λ (q : Queue). Indistinguishable q (calm o il none n₂ (put-stream (sent s₂ i₂ is₂) ss₂))) x₁
+            (subst (Indistinguishable ((step c (calm o il c₁ n₁ ss₁)) .next)) x₂ (onward (calm o il c₁ n₁ ss₁) (calm o il c₂ n₂ ss₂) ind c (typed-whole o store))))
 
         sent-counters : (numbered (s₁ .counters) i₁) .counters ≡ (numbered (s₂ .counters) i₂) .counters
         sent-counters =
@@ -336,10 +336,10 @@ module _ (o : Options) (il : Bool) (room : 1 ≤ o .store-length) (store : o .st
 
         payloads : i₁ .payload ≡ i₂ .payload
         payloads =
-            sym (payload-shown n₁ ss₁ s₁ i₁ is₁ (t₁ .good) h₁ one₁)
-            ∙ ap (λ (x : Fragment). x .bytes) (both-sent n₁ n₂ (map (reset-stream (o .strict-restart)) ss₁) (map (reset-stream (o .strict-restart)) ss₂) (reset-stream (o .strict-restart) s₁) (reset-stream (o .strict-restart) s₂) (whole-item (o .strict-restart) i₁) (whole-item (o .strict-restart) i₂) is₁ is₂ (good-reset (o .strict-restart) ss₁ (t₁ .good)) (good-reset (o .strict-restart) ss₂ (t₂ .good))
-            (reset-whole n₁ ss₁ s₁ i₁ is₁ (t₁ .good) h₁ one₁) (reset-whole n₂ ss₂ s₂ i₂ is₂ (t₂ .good) h₂′ one₂) (both-reset n₁ n₂ ss₁ ss₂ t₁ t₂ ind))
-            ∙ payload-shown n₂ ss₂ s₂ i₂ is₂ (t₂ .good) h₂′ one₂
+            sym (payload-shown c₁ n₁ ss₁ s₁ i₁ is₁ (t₁ .good) h₁ one₁)
+            ∙ ap (λ (x : Fragment). x .bytes) (both-sent c₁ c₂ n₁ n₂ (map (reset-stream (o .strict-restart)) ss₁) (map (reset-stream (o .strict-restart)) ss₂) (reset-stream (o .strict-restart) s₁) (reset-stream (o .strict-restart) s₂) (whole-item (o .strict-restart) i₁) (whole-item (o .strict-restart) i₂) is₁ is₂ (good-reset (o .strict-restart) ss₁ (t₁ .good)) (good-reset (o .strict-restart) ss₂ (t₂ .good))
+            (reset-whole c₁ n₁ ss₁ s₁ i₁ is₁ (t₁ .good) h₁ one₁) (reset-whole c₂ n₂ ss₂ s₂ i₂ is₂ (t₂ .good) h₂′ one₂) (both-reset c₁ c₂ n₁ n₂ ss₁ ss₂ t₁ t₂ ind))
+            ∙ payload-shown c₂ n₂ ss₂ s₂ i₂ is₂ (t₂ .good) h₂′ one₂
 
         by-sending : (at o ss₁ (s₁ .id)) .items ≡ (at o ss₂ (s₁ .id)) .items
         by-sending =
@@ -358,37 +358,37 @@ module _ (o : Options) (il : Bool) (room : 1 ≤ o .store-length) (store : o .st
 
     -- The step.
     step-alike : Alike o n₁ n₂ ss₁ ss₂
-    step-alike = go (choose (o .payload-limit) il ss₁ (t₁ .good .rising)) (choose (o .payload-limit) il ss₂ (t₂ .good .rising))
+    step-alike = go (choose (o .payload-limit) il c₁ ss₁ (t₁ .good .rising)) (choose (o .payload-limit) il c₂ ss₂ (t₂ .good .rising))
       where
-        outs : (whole o (calm o il n₁ ss₁)) .outcome .answer ≡ (whole o (calm o il n₂ ss₂)) .outcome .answer
+        outs : (whole o (calm o il c₁ n₁ ss₁)) .outcome .answer ≡ (whole o (calm o il c₂ n₂ ss₂)) .outcome .answer
         outs =
-            ap (λ (x : Step). x .outcome .answer) (sym (step-whole o (calm o il n₁ ss₁)))
-            ∙ ap (λ (x : Outcome). x .answer) (shown (calm o il n₁ ss₁) (calm o il n₂ ss₂) ind (produce (o .store-length) 2305 262144 0 262144) (typed-whole o store))
-            ∙ ap (λ (x : Step). x .outcome .answer) (step-whole o (calm o il n₂ ss₂))
+            ap (λ (x : Step). x .outcome .answer) (sym (step-whole o (calm o il c₁ n₁ ss₁)))
+            ∙ ap (λ (x : Outcome). x .answer) (shown (calm o il c₁ n₁ ss₁) (calm o il c₂ n₂ ss₂) ind (produce (o .store-length) 2305 262144 0 262144) (typed-whole o store))
+            ∙ ap (λ (x : Step). x .outcome .answer) (step-whole o (calm o il c₂ n₂ ss₂))
 
-        go : Choice (o .payload-limit) il ss₁ → Choice (o .payload-limit) il ss₂ → Alike o n₁ n₂ ss₁ ss₂
+        go : Choice (o .payload-limit) il c₁ ss₁ → Choice (o .payload-limit) il c₂ ss₂ → Alike o n₁ n₂ ss₁ ss₂
         go (none-waits e₁ a₁) (none-waits e₂ a₂) =
             record {
-              next-same = empty-next o il room store n₁ n₂ ss₁ ss₂ (t₁ .good) (t₂ .good) (t₁ .next-fits) (t₂ .next-fits) a₁ a₂ ind;
-              counters-same = empty-counters o il room store n₁ n₂ ss₁ ss₂ (t₁ .good) (t₂ .good) (t₁ .next-fits) (t₂ .next-fits) a₁ a₂ ind;
-              items-same = λ k h. at-none o il n₁ ss₁ (t₁ .good) room (t₁ .next-fits) a₁ k ∙ sym (at-none o il n₂ ss₂ (t₂ .good) room (t₂ .next-fits) a₂ k);
+              next-same = empty-next o il room store c₁ c₂ n₁ n₂ ss₁ ss₂ (t₁ .good) (t₂ .good) (t₁ .next-fits) (t₂ .next-fits) a₁ a₂ ind;
+              counters-same = empty-counters o il room store c₁ c₂ n₁ n₂ ss₁ ss₂ (t₁ .good) (t₂ .good) (t₁ .next-fits) (t₂ .next-fits) a₁ a₂ ind;
+              items-same = λ k h. at-none o il c₁ n₁ ss₁ (t₁ .good) room (t₁ .next-fits) a₁ k ∙ sym (at-none o il c₂ n₂ ss₂ (t₂ .good) room (t₂ .next-fits) a₂ k);
             }
         go (none-waits e₁ a₁) (one-waits s₂ i₂ is₂ h₂ e₂) =
             let x : nothing-waits ≡ fragment (whole-fragment s₂ i₂) =
-            ap (λ (x : Step). x .outcome .answer) (sym (whole-nothing o il n₁ ss₁ e₁)) ∙ outs ∙ ap (λ (x : Step). x .outcome .answer) (whole-head o il n₂ ss₂ s₂ i₂ is₂ (t₂ .good) h₂ e₂) in
+            ap (λ (x : Step). x .outcome .answer) (sym (whole-nothing o il c₁ n₁ ss₁ e₁)) ∙ outs ∙ ap (λ (x : Step). x .outcome .answer) (whole-head o il c₂ n₂ ss₂ s₂ i₂ is₂ (t₂ .good) h₂ e₂) in
             let z : _≡_ {A = ℕ} 0 1 = cc in absurd (omega arith)
         go (one-waits s₁ i₁ is₁ h₁ e₁) (none-waits e₂ a₂) =
             let x : fragment (whole-fragment s₁ i₁) ≡ nothing-waits =
-            ap (λ (x : Step). x .outcome .answer) (sym (whole-head o il n₁ ss₁ s₁ i₁ is₁ (t₁ .good) h₁ e₁)) ∙ outs ∙ ap (λ (x : Step). x .outcome .answer) (whole-nothing o il n₂ ss₂ e₂) in
+            ap (λ (x : Step). x .outcome .answer) (sym (whole-head o il c₁ n₁ ss₁ s₁ i₁ is₁ (t₁ .good) h₁ e₁)) ∙ outs ∙ ap (λ (x : Step). x .outcome .answer) (whole-nothing o il c₂ n₂ ss₂ e₂) in
             let z : _≡_ {A = ℕ} 0 1 = cc in absurd (omega arith)
         go (one-waits s₁ i₁ is₁ h₁ e₁) (one-waits s₂ i₂ is₂ h₂ e₂) =
             let f : whole-fragment s₁ i₁ ≡ whole-fragment s₂ i₂ =
-            both-sent n₁ n₂ ss₁ ss₂ s₁ s₂ i₁ i₂ is₁ is₂ (t₁ .good) (t₂ .good) (ap (λ (x : Step). x .outcome .answer) (whole-head o il n₁ ss₁ s₁ i₁ is₁ (t₁ .good) h₁ e₁))
-            (ap (λ (x : Step). x .outcome .answer) (whole-head o il n₂ ss₂ s₂ i₂ is₂ (t₂ .good) h₂ e₂)) ind in
+            both-sent c₁ c₂ n₁ n₂ ss₁ ss₂ s₁ s₂ i₁ i₂ is₁ is₂ (t₁ .good) (t₂ .good) (ap (λ (x : Step). x .outcome .answer) (whole-head o il c₁ n₁ ss₁ s₁ i₁ is₁ (t₁ .good) h₁ e₁))
+            (ap (λ (x : Step). x .outcome .answer) (whole-head o il c₂ n₂ ss₂ s₂ i₂ is₂ (t₂ .good) h₂ e₂)) ind in
             let si : s₂ .id ≡ s₁ .id = sym (shows-stream s₂ i₂) ∙ ap (λ (x : Fragment). x .stream-id) (sym f) ∙ shows-stream s₁ i₁ in
             chosen-alike s₁ s₂ i₁ i₂ is₁ is₂ h₁ (subst (λ (x : ℕ). HeadAt ss₂ x s₂ i₂ is₂) si h₂) si f
 
   -- Two calm queues that cannot be told apart are alike.
-  pub peel : (N n₁ n₂ : ℕ) (ss₁ ss₂ : List Stream) → State n₁ ss₁ → State n₂ ss₂ → waiting ss₁ ≤ N → Indistinguishable (calm o il n₁ ss₁) (calm o il n₂ ss₂) → Alike o n₁ n₂ ss₁ ss₂
-  peel zero n₁ n₂ ss₁ ss₂ t₁ t₂ h ind = step-alike n₁ n₂ ss₁ ss₂ t₁ t₂ ind (λ xs₁ xs₂ u₁ u₂ w i. absurd (omega arith))
-  peel (suc N) n₁ n₂ ss₁ ss₂ t₁ t₂ h ind = step-alike n₁ n₂ ss₁ ss₂ t₁ t₂ ind (λ xs₁ xs₂ u₁ u₂ w i. peel N n₁ n₂ xs₁ xs₂ u₁ u₂ (omega arith) i)
+  pub peel : (N : ℕ) (c₁ c₂ : Option ℕ) (n₁ n₂ : ℕ) (ss₁ ss₂ : List Stream) → State n₁ ss₁ → State n₂ ss₂ → waiting ss₁ ≤ N → Indistinguishable (calm o il c₁ n₁ ss₁) (calm o il c₂ n₂ ss₂) → Alike o n₁ n₂ ss₁ ss₂
+  peel zero c₁ c₂ n₁ n₂ ss₁ ss₂ t₁ t₂ h ind = step-alike c₁ c₂ n₁ n₂ ss₁ ss₂ t₁ t₂ ind (λ d₁ d₂ xs₁ xs₂ u₁ u₂ w i. absurd (omega arith))
+  peel (suc N) c₁ c₂ n₁ n₂ ss₁ ss₂ t₁ t₂ h ind = step-alike c₁ c₂ n₁ n₂ ss₁ ss₂ t₁ t₂ ind (λ d₁ d₂ xs₁ xs₂ u₁ u₂ w i. peel N d₁ d₂ n₁ n₂ xs₁ xs₂ u₁ u₂ (omega arith) i)

@@ -14,7 +14,7 @@ use Rattle.queue_model.specs.Refusals.{max-payload}
 use Rattle.queue_model.specs.Bytes.{Fits}
 use Rattle.queue_model.specs.Image.{StreamRecord, MessageRecord, Handover, StreamsFit, MessagesFit, stream-widths, message-widths, stream-row, message-row, plain, stream-record, stream-records, bit, ms-left-at, message-record, message-records, handover}
 use Rattle.queue_model.specs.Reader.{has-flag, message-right, messages-right-after, messages-right, streams-right, handover-right}
-use Rattle.queue_model.specs.Restore.{restored-stream, give, restored-item, restore-streams, restore-message, restore-messages, restored}
+use Rattle.queue_model.specs.Restore.{restored-stream, give, restored-item, restore-streams, restore-message, restore-messages, first-half-sent, remember-half-sent, restored}
 use Rattle.queue_model.proofs.Tests.{less, same, more, tri, ltb-false, eqb-true}
 use Rattle.queue_model.proofs.Table.{find-there, find-here, find-after, put-later, put-here, put-before, put-end, After, Rising, after-down}
 use Rattle.queue_model.proofs.Streams.{at-found, at-new, at-id, unsent-snoc}
@@ -417,11 +417,21 @@ bases o now (r ∷ rs) t f = base-cons rs (bases o now rs (tail-right (o .defaul
 -- A new queue with an interleaving choice.
 unfoldable pub blank : Options → Bool → Queue
 unfolding calm-scheduler
-blank o il = record { options = o; interleaving = il; total = 0; next-message-id = 0; streams = []; scheduler = calm-scheduler o il [] }
+blank o il = record { options = o; interleaving = il; total = 0; next-message-id = 0; streams = []; scheduler = calm-scheduler o il none [] }
 
 -- The streams that a handover record restores.
 unfoldable pub restored-streams : Options → ℕ → Handover → List Stream
 restored-streams o now h = restore-messages o now (h .messages) (restore-streams o (h .streams))
+
+-- The stream that restoring remembers: with interleaving none.
+unfoldable pub recalled : Bool → List Stream → Option ℕ
+recalled true ss = none
+recalled false ss = first-half-sent ss
+
+recalled-calm : (o : Options) (il : Bool) (ss : List Stream) → remember-half-sent il ss (calm-scheduler o il none ss) ≡ calm-scheduler o il (recalled il ss) ss
+unfolding remember-half-sent recalled calm-scheduler
+recalled-calm o true ss = refl
+recalled-calm o false ss = refl
 
 module _ (o : Options) (il : Bool) (now : ℕ) (late : 1 ≤ now) (h : Handover) (right : T (handover-right h)) (sf : StreamsFit (h .streams)) (mf : MessagesFit (h .messages)) (default : h .default-priority ≡ o .default-priority) where
   streams-ok : T (streams-right (o .default-priority) (h .streams))
@@ -443,16 +453,16 @@ module _ (o : Options) (il : Bool) (now : ℕ) (late : 1 ≤ now) (h : Handover)
   pub restored-good : Good (restored-streams o now h)
   restored-good = placed .placed-good
 
-  pub restored-calm : restored now h (blank o il) ≡ calm o il (h .next-message-id) (restored-streams o now h)
+  pub restored-calm : restored now h (blank o il) ≡ calm o il (recalled il (restored-streams o now h)) (h .next-message-id) (restored-streams o now h)
   unfolding restored blank calm restored-streams
   restored-calm =
       let xs : List Stream = restore-messages o now (h .messages) (restore-streams o (h .streams)) in
       let f : Scheduler → Queue = λ sc. record { options = o; interleaving = il; total = amounts xs; next-message-id = h .next-message-id; streams = xs; scheduler = sc } in
-      ap f (each-new o il xs (restored-good .rising) (all-items xs (restored-good .all-good)))
+      ap f (ap (remember-half-sent il xs) (each-new o il none xs (restored-good .rising) (all-items xs (restored-good .all-good))) ∙ recalled-calm o il xs)
 
-  pub handover-back : handover now (calm o il (h .next-message-id) (restored-streams o now h)) ≡ h
+  pub handover-back : (c : Option ℕ) → handover now (calm o il c (h .next-message-id) (restored-streams o now h)) ≡ h
   unfolding handover calm
-  handover-back =
+  handover-back c =
       let f : ℕ → List StreamRecord → List MessageRecord → Handover = λ d a b. record { next-message-id = h .next-message-id; default-priority = d; streams = a; messages = b } in
       ap₂ (f (o .default-priority)) (placed .placed-streams ∙ base .bases-streams) (placed .placed-messages ∙ ap (λ (l : List MessageRecord). l ++ h .messages) (base .bases-messages))
       ∙ ap (λ (d : ℕ). f d (h .streams) (h .messages)) (sym default)

@@ -23,7 +23,7 @@ use Rattle.queue_model.proofs.Image.ReadWrite.{image-canonical, Sound, 
 use Rattle.queue_model.proofs.Invariant.Well.{room}
 use Rattle.queue_model.proofs.Calm.Calm.{calm}
 use Rattle.queue_model.proofs.Calm.Empty.{shown}
-use Rattle.queue_model.proofs.Demand3.Restored.{blank, restored-streams, restored-good, restored-calm, handover-back}
+use Rattle.queue_model.proofs.Demand3.Restored.{blank, recalled, restored-streams, restored-good, restored-calm, handover-back}
 use Rattle.queue_model.proofs.Demand3.Records.{same-stream-records, same-message-records}
 use Rattle.queue_model.proofs.Demand3.Peel.{Alike, State, peel}
 use Rattle.queue_model.proofs.Demand3.New.{reachable-new, new-blank}
@@ -76,31 +76,31 @@ restores now image q r h = go (read-image image) refl
 
 -- ---- the priorities
 
-ask : (o : Options) (il : Bool) (n : ℕ) (ss : List Stream) (k : ℕ) → (step (ask-priority k) (calm o il n ss)) .outcome .answer ≡ number ((at o ss k) .priority)
+ask : (o : Options) (il : Bool) (c : Option ℕ) (n : ℕ) (ss : List Stream) (k : ℕ) → (step (ask-priority k) (calm o il c n ss)) .outcome .answer ≡ number ((at o ss k) .priority)
 unfolding step priority-of calm
-ask o il n ss k = refl
+ask o il c n ss k = refl
 
-priorities-same : (o : Options) (il : Bool) (n₁ n₂ : ℕ) (ss₁ ss₂ : List Stream) → Indistinguishable (calm o il n₁ ss₁) (calm o il n₂ ss₂) → (k : ℕ) → k < 2 ^ 16 → (at o ss₁ k) .priority ≡ (at o ss₂ k) .priority
-priorities-same o il n₁ n₂ ss₁ ss₂ ind k h =
+priorities-same : (o : Options) (il : Bool) (c₁ c₂ : Option ℕ) (n₁ n₂ : ℕ) (ss₁ ss₂ : List Stream) → Indistinguishable (calm o il c₁ n₁ ss₁) (calm o il c₂ n₂ ss₂) → (k : ℕ) → k < 2 ^ 16 → (at o ss₁ k) .priority ≡ (at o ss₂ k) .priority
+priorities-same o il c₁ c₂ n₁ n₂ ss₁ ss₂ ind k h =
     let e : number ((at o ss₁ k) .priority) ≡ number ((at o ss₂ k) .priority) =
-    sym (ask o il n₁ ss₁ k) ∙ ap (λ (x : Outcome). x .answer) (shown (calm o il n₁ ss₁) (calm o il n₂ ss₂) ind (ask-priority k) h) ∙ ask o il n₂ ss₂ k in
+    sym (ask o il c₁ n₁ ss₁ k) ∙ ap (λ (x : Outcome). x .answer) (shown (calm o il c₁ n₁ ss₁) (calm o il c₂ n₂ ss₂) ind (ask-priority k) h) ∙ ask o il c₂ n₂ ss₂ k in
     cc
 
 -- ---- handover records from calm queues
 
-handover-of : (now : ℕ) (o : Options) (il : Bool) (n : ℕ) (ss : List Stream) → handover now (calm o il n ss) ≡ record { next-message-id = n; default-priority = o .default-priority; streams = stream-records (o .default-priority) ss; messages = message-records now ss }
+handover-of : (now : ℕ) (o : Options) (il : Bool) (c : Option ℕ) (n : ℕ) (ss : List Stream) → handover now (calm o il c n ss) ≡ record { next-message-id = n; default-priority = o .default-priority; streams = stream-records (o .default-priority) ss; messages = message-records now ss }
 unfolding handover calm
-handover-of now o il n ss = refl
+handover-of now o il c n ss = refl
 
-calm-handovers : (now : ℕ) (o : Options) (il : Bool) → 1 ≤ o .store-length → o .store-length ≤ 2000000 → (n₁ n₂ : ℕ) (ss₁ ss₂ : List Stream) → State n₁ ss₁ → State n₂ ss₂
-    → Indistinguishable (calm o il n₁ ss₁) (calm o il n₂ ss₂) → handover now (calm o il n₁ ss₁) ≡ handover now (calm o il n₂ ss₂)
-calm-handovers now o il room store n₁ n₂ ss₁ ss₂ t₁ t₂ ind =
-    let a : Alike o n₁ n₂ ss₁ ss₂ = peel o il room store (waiting ss₁) n₁ n₂ ss₁ ss₂ t₁ t₂ (omega arith) ind in
-    let p : (k : ℕ) → k < 2 ^ 16 → (at o ss₁ k) .priority ≡ (at o ss₂ k) .priority = priorities-same o il n₁ n₂ ss₁ ss₂ ind in
+calm-handovers : (now : ℕ) (o : Options) (il : Bool) → 1 ≤ o .store-length → o .store-length ≤ 2000000 → (c₁ c₂ : Option ℕ) (n₁ n₂ : ℕ) (ss₁ ss₂ : List Stream) → State n₁ ss₁ → State n₂ ss₂
+    → Indistinguishable (calm o il c₁ n₁ ss₁) (calm o il c₂ n₂ ss₂) → handover now (calm o il c₁ n₁ ss₁) ≡ handover now (calm o il c₂ n₂ ss₂)
+calm-handovers now o il room store c₁ c₂ n₁ n₂ ss₁ ss₂ t₁ t₂ ind =
+    let a : Alike o n₁ n₂ ss₁ ss₂ = peel o il room store (waiting ss₁) c₁ c₂ n₁ n₂ ss₁ ss₂ t₁ t₂ (omega arith) ind in
+    let p : (k : ℕ) → k < 2 ^ 16 → (at o ss₁ k) .priority ≡ (at o ss₂ k) .priority = priorities-same o il c₁ c₂ n₁ n₂ ss₁ ss₂ ind in
     let x = same-stream-records o now ss₁ ss₂ (t₁ .good) (t₂ .good) (a .counters-same) (a .items-same) p in
     let y = same-message-records o now ss₁ ss₂ (t₁ .good) (t₂ .good) (a .counters-same) (a .items-same) p in
     let f : ℕ → List StreamRecord → List MessageRecord → Handover = λ n b c. record { next-message-id = n; default-priority = o .default-priority; streams = b; messages = c } in
-    handover-of now o il n₁ ss₁ ∙ ap₂ (λ (b : List StreamRecord) (c : List MessageRecord). f n₁ b c) x y ∙ ap (λ (n : ℕ). f n (stream-records (o .default-priority) ss₂) (message-records now ss₂)) (a .next-same) ∙ sym (handover-of now o il n₂ ss₂)
+    handover-of now o il c₁ n₁ ss₁ ∙ ap₂ (λ (b : List StreamRecord) (c : List MessageRecord). f n₁ b c) x y ∙ ap (λ (n : ℕ). f n (stream-records (o .default-priority) ss₂) (message-records now ss₂)) (a .next-same) ∙ sym (handover-of now o il c₂ n₂ ss₂)
 
 -- ---- the theorem, on new queues
 
@@ -108,15 +108,15 @@ blank-options : (o : Options) (il : Bool) → (blank o il) .options ≡ o
 unfolding blank
 blank-options o il = refl
 
-calm-streams : (o : Options) (il : Bool) (n : ℕ) (ss : List Stream) → (calm o il n ss) .streams ≡ ss
+calm-streams : (o : Options) (il : Bool) (c : Option ℕ) (n : ℕ) (ss : List Stream) → (calm o il c n ss) .streams ≡ ss
 unfolding calm
-calm-streams o il n ss = refl
+calm-streams o il c n ss = refl
 
 -- What an accepted image restores: a calm state, and the image's own record at that time.
 record Comes (o : Options) (il : Bool) (now : ℕ) (image : List ℕ) (r : Queue) : Type 0 where
   comes-record : Handover
   comes-streams : List Stream
-  comes-calm : r ≡ calm o il (comes-record .next-message-id) comes-streams
+  comes-calm : r ≡ calm o il (recalled il comes-streams) (comes-record .next-message-id) comes-streams
   comes-state : State (comes-record .next-message-id) comes-streams
   comes-handover : handover now r ≡ comes-record
   comes-image : image-bytes comes-record ≡ image
@@ -128,15 +128,15 @@ comes o il now image r store late h =
     let s : Sound d = image-sound image d (h .bytes) (w .is-read) in
     let df : d .default-priority ≡ o .default-priority = w .default-same ∙ ap (λ (x : Options). x .default-priority) (blank-options o il) in
     let xs : List Stream = restored-streams o now d in
-    let e : r ≡ calm o il (d .next-message-id) xs = sym (w .is-restored) ∙ restored-calm o il now late d (s .sound-right) (s .sound-streams) (s .sound-messages) df in
+    let e : r ≡ calm o il (recalled il xs) (d .next-message-id) xs = sym (w .is-restored) ∙ restored-calm o il now late d (s .sound-right) (s .sound-streams) (s .sound-messages) df in
     let oc : occupied xs ≤ o .store-length = subst (λ (x : Options). occupied xs ≤ x .store-length) (blank-options o il)
-    (subst (λ (y : List Stream). occupied y ≤ (blank o il) .options .store-length) (ap (λ (q : Queue). q .streams) e ∙ calm-streams o il (d .next-message-id) xs) (w .store-fits)) in
+    (subst (λ (y : List Stream). occupied y ≤ (blank o il) .options .store-length) (ap (λ (q : Queue). q .streams) e ∙ calm-streams o il (recalled il xs) (d .next-message-id) xs) (w .store-fits)) in
     record {
       comes-record = d;
       comes-streams = xs;
       comes-calm = e;
       comes-state = record { good = restored-good o il now late d (s .sound-right) (s .sound-streams) (s .sound-messages) df; next-fits = s .sound-next; fits = omega arith };
-      comes-handover = ap (handover now) e ∙ handover-back o il now late d (s .sound-right) (s .sound-streams) (s .sound-messages) df;
+      comes-handover = ap (handover now) e ∙ handover-back o il now late d (s .sound-right) (s .sound-streams) (s .sound-messages) df (recalled il xs);
       comes-image = image-canonical image d (h .bytes) (w .is-read);
     }
 
@@ -153,9 +153,9 @@ third-blank o il now i₁ i₂ r₁ r₂ room store late h₁ h₂ = (forward, b
     backward ind =
         let c₁ = comes o il now i₁ r₁ store late h₁ in
         let c₂ = comes o il now i₂ r₂ store late h₂ in
-        let ind′ : Indistinguishable (calm o il (c₁ .comes-record .next-message-id) (c₁ .comes-streams)) (calm o il (c₂ .comes-record .next-message-id) (c₂ .comes-streams)) =
-        subst (λ (q : Queue). Indistinguishable q (calm o il (c₂ .comes-record .next-message-id) (c₂ .comes-streams))) (c₁ .comes-calm) (subst (Indistinguishable r₁) (c₂ .comes-calm) ind) in
-        let e = calm-handovers now o il room store (c₁ .comes-record .next-message-id) (c₂ .comes-record .next-message-id) (c₁ .comes-streams) (c₂ .comes-streams) (c₁ .comes-state) (c₂ .comes-state) ind′ in
+        let ind′ : Indistinguishable (calm o il (recalled il (c₁ .comes-streams)) (c₁ .comes-record .next-message-id) (c₁ .comes-streams)) (calm o il (recalled il (c₂ .comes-streams)) (c₂ .comes-record .next-message-id) (c₂ .comes-streams)) =
+        subst (λ (q : Queue). Indistinguishable q (calm o il (recalled il (c₂ .comes-streams)) (c₂ .comes-record .next-message-id) (c₂ .comes-streams))) (c₁ .comes-calm) (subst (Indistinguishable r₁) (c₂ .comes-calm) ind) in
+        let e = calm-handovers now o il room store (recalled il (c₁ .comes-streams)) (recalled il (c₂ .comes-streams)) (c₁ .comes-record .next-message-id) (c₂ .comes-record .next-message-id) (c₁ .comes-streams) (c₂ .comes-streams) (c₁ .comes-state) (c₂ .comes-state) ind′ in
         sym (c₁ .comes-image) ∙ ap image-bytes (sym (c₁ .comes-handover) ∙ ap (handover now) (c₁ .comes-calm) ∙ e ∙ sym (ap (handover now) (c₂ .comes-calm)) ∙ c₂ .comes-handover) ∙ c₂ .comes-image
 
 -- ---- reachable queues that can be restored to are new

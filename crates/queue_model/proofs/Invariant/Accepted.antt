@@ -27,6 +27,7 @@ use Rattle.queue_model.proofs.Invariant.Messages.{WellItem}
 use Rattle.queue_model.proofs.Invariant.Waits.{Listed, waits-weaken, due, each-kept}
 use Rattle.queue_model.proofs.Invariant.Well.{Kept, kept-new, Well, well-snoc}
 use Rattle.queue_model.proofs.Invariant.Fine.{Fine, fine-checked, all-ready}
+use Rattle.queue_model.proofs.Invariant.Recalls.{recall-kept}
 use Rattle.queue_model.proofs.Demand3.Restored.{Rules, rules, first-mid, give-none, Quiet, quiet-up, quiet-put, bases}
 use Rattle.queue_model.specs.Restore
 
@@ -194,9 +195,10 @@ restored-is-well now h q w early e s b d l m f =
       streams-few = l;
       messages-few = m;
       store-fits = f;
-      waits = each-kept (q .options .payload-limit) (q .interleaving) has-items xs xs (q .scheduler) (all-ready xs (g .in-order) (g .all-kept))
+      waits = recall-kept (q .options .payload-limit) (Listed (q .interleaving) xs) (q .interleaving) xs (q .scheduler) (g .all-kept)
+          (each-kept (q .options .payload-limit) (q .interleaving) has-items xs xs (q .scheduler) (all-ready xs (g .in-order) (g .all-kept))
           (waits-weaken (q .options .payload-limit) (Listed (q .interleaving) (q .streams)) (λ a. due has-items (a .stream-id) xs ≡ false → Listed (q .interleaving) xs a) (q .scheduler)
-          (λ a x y. let p = x .positive in let z = x .sized in let n : size-at (a .stream-id) (q .streams) ≡ 0 = ap (size-at (a .stream-id)) e ∙ size-unknown (a .stream-id) [] (find-nil stream-key (a .stream-id)) in absurd (omega arith)) (w .waits));
+          (λ a x y. let p = x .positive in let z = x .sized in let n : size-at (a .stream-id) (q .streams) ≡ 0 = ap (size-at (a .stream-id)) e ∙ size-unknown (a .stream-id) [] (find-nil stream-key (a .stream-id)) in absurd (omega arith)) (w .waits)));
     }
 
 -- ---- the call

@@ -161,7 +161,7 @@ nothing-waits-then k store places buffer now size q w a = go (next-fragment stor
 
     ends : (r : Queue) → Ends r s → is-waiting k (s .next) ≡ false
     ends r (none-waits e f g) = ap (is-waiting k) g ∙ none-active k r e
-    ends r (hands-out b t x is n c l m f g) = let z : _≡_ {A = ℕ} 0 1 = cc (f, a) in absurd (omega arith)
+    ends r (hands-out b t x is n e c l m f g) = let z : _≡_ {A = ℕ} 0 1 = cc (f, a) in absurd (omega arith)
 
     go : Next now q s → is-waiting k (s .next) ≡ false
     go (refuses n e) = let f : s .outcome .answer ≡ refused n = ap (λ (x : Step). x .outcome .answer) e in let z : _≡_ {A = ℕ} 0 1 = cc (f, a) in absurd (omega arith)
@@ -212,7 +212,7 @@ produce-falls store places buffer now size q w = go (next-fragment store places 
 
     ends : (r : Queue) → Well r → r .total ≤ q .total → Ends r s → Falls q s
     ends r v l (none-waits e f g) = nothing-left f
-    ends r v l (hands-out a t x is n c m z f g) =
+    ends r v l (hands-out a t x is n e c m z f g) =
         let b : s .next .total ≡ r .total - n = ap (λ (y : Queue). y .total) g ∙ handed-total r a t x is n in let d = chosen-total r a t x is v c in falls (omega arith)
 
     go : Next now q s → Falls q s

@@ -325,7 +325,7 @@ pub data Sends (k : ℕ) (i : Item) (now : ℕ) (s : Step) : Type 0 where
 module _ (k now : ℕ) (r : Queue) (s : Step) where
   ends-paused : Ends r s → Paused k r → Paused k (s .next)
   ends-paused (none-waits e f g) p = subst (Paused k) (sym g) p
-  ends-paused (hands-out a t x is n c l m f g) p = subst (Paused k) (sym g) (handed-paused r a t x is n k (a .stream-id) (c .choice-head) p)
+  ends-paused (hands-out a t x is n e c l m f g) p = subst (Paused k) (sym g) (handed-paused r a t x is n k (a .stream-id) (c .choice-head) p)
 
   handed-sends : (i : Item) (f : Fragment) (q : Queue) → s .outcome .answer ≡ fragment f → s .next ≡ q → Hands k i f q → Sends k i now s
   handed-sends i f q e g (elsewhere n p) = send-stays (λ x y z. n (same-stream f x (sym e ∙ y) ∙ z)) (subst (Pending k i) (sym g) p)
@@ -337,7 +337,7 @@ module _ (k now : ℕ) (r : Queue) (s : Step) where
 
   ends-pending : (i : Item) → Ends r s → Pending k i r → Sends k i now s
   ends-pending i (none-waits e f g) p = send-stays (λ x y z. let u : _≡_ {A = ℕ} 0 1 = cc in omega arith) (subst (Pending k i) (sym g) p)
-  ends-pending i (hands-out a t x is n c l m f g) p = handed-sends i (make-fragment t ((numbered (t .counters) x) .item) n) (handed-out r a t x is n) f g (hands r a t x is n k (a .stream-id) i (c .choice-head) p)
+  ends-pending i (hands-out a t x is n e c l m f g) p = handed-sends i (make-fragment t ((numbered (t .counters) x) .item) n) (handed-out r a t x is n) f g (hands r a t x is n k (a .stream-id) i (c .choice-head) p)
 
 pub produce-pending : (k : ℕ) (i : Item) (store places buffer now size : ℕ) (q : Queue) → Well q → Pending k i q → Sends k i now ((step (produce store places buffer now size) q))
 unfolding step

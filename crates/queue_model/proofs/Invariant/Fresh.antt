@@ -136,7 +136,7 @@ module _ (k : ℕ) where
 
   follows-ends : (r : Queue) (s : Step) → Well r → Ends r s → Fresh k r → Follows k s
   follows-ends r s w (none-waits e f g) a = no-fragment (ap (fragment-in k) f) (subst (Fresh k) (sym g) a)
-  follows-ends r s w (hands-out c t i is n d l m f g) a = elim (is-own stream-key t k) [
+  follows-ends r s w (hands-out c t i is n p d l m f g) a = elim (is-own stream-key t k) [
     | own e ↦ one-afresh x (ap (fragment-in k) f ∙ ap (λ (b : Bool). if b then x ∷ [] else []) (eqb-true (same-id ∙ e)))
         (afresh t i n (head-zeroed r (c .stream-id) t i is (d .choice-head) a e) (head-no-mids r (c .stream-id) t i is (d .choice-head) a e .0) (head-well r (c .stream-id) t i is w (d .choice-head) .0))
     | other e ↦ no-fragment (ap (fragment-in k) f ∙ ap (λ (b : Bool). if b then x ∷ [] else []) (eqb-false (λ y. e (sym same-id ∙ y)))) (subst (Fresh k) (sym g) (fresh-handed r (c .stream-id) t i is (d .choice-head) a c n e))

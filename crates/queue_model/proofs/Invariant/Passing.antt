@@ -26,7 +26,7 @@ pub data Past (now : ℕ) (r : Queue) : Queue → Type 0 where
 -- From there nothing waits, or some bytes of the chosen message are handed out.
 pub data Ends (r : Queue) (s : Step) : Type 0 where
   none-waits : peek (r .scheduler) ≡ none → s .outcome .answer ≡ nothing-waits → s .next ≡ r → Ends r s
-  hands-out : (a : Active) (t : Stream) (i : Item) (is : List Item) (n : ℕ) → Chosen r a t i is → 1 ≤ n → n ≤ remaining i → s .outcome .answer ≡ fragment (make-fragment t ((numbered (t .counters) i) .item) n) → s .next ≡ handed-out r a t i is n → Ends r s
+  hands-out : (a : Active) (t : Stream) (i : Item) (is : List Item) (n : ℕ) → peek (r .scheduler) ≡ some a → Chosen r a t i is → 1 ≤ n → n ≤ remaining i → s .outcome .answer ≡ fragment (make-fragment t ((numbered (t .counters) i) .item) n) → s .next ≡ handed-out r a t i is n → Ends r s
 
 pub record Passes (now : ℕ) (q : Queue) (s : Step) : Type 0 where
   pub past : Queue
@@ -46,27 +46,27 @@ abbrev Looks : ℕ → Queue → Look → Type 0
 Looks now q nothing = peek (q .scheduler) ≡ none
 Looks now q broken = Unit {0}
 Looks now q (dropped r ds) = Well r × ((t : Queue) → Past now t r → Past now t q)
-Looks now q (chosen a s i is) = Unit {0}
+Looks now q (chosen a s i is) = peek (q .scheduler) ≡ some a
 
 looks : (now : ℕ) (q : Queue) → Well q → Looks now q (look now q)
 unfolding look look-for look-at look-expired
 looks now q w = go (peek (q .scheduler)) refl
   where
-    drops : (a : Active) (s : Stream) (i : Item) (is : List Item) → HeadAt (q .streams) (a .stream-id) s i is → (x y : Bool) → expired now (i .expires-at) ≡ x
+    drops : (a : Active) → peek (q .scheduler) ≡ some a → (s : Stream) (i : Item) (is : List Item) → HeadAt (q .streams) (a .stream-id) s i is → (x y : Bool) → expired now (i .expires-at) ≡ x
         → Looks now q (if x then (if y then broken else dropped (drop-in (s .pause-state) q s i is) (drop-head-events q s i)) else chosen a s i is)
-    drops a s i is h true true e = tt
-    drops a s i is h true false e = (drop-in-well q (a .stream-id) s i is w h (s .pause-state), λ t p. over (a .stream-id) s i is h e p)
-    drops a s i is h false y e = tt
+    drops a p s i is h true true e = tt
+    drops a p s i is h true false e = (drop-in-well q (a .stream-id) s i is w h (s .pause-state), λ t u. over (a .stream-id) s i is h e u)
+    drops a p s i is h false y e = p
 
-    at-one : (a : Active) → Looks now q (look-at now q a (head-of (find-stream (a .stream-id) (q .streams))))
-    at-one a = elim (heads (q .streams) (a .stream-id)) [
+    at-one : (a : Active) → peek (q .scheduler) ≡ some a → Looks now q (look-at now q a (head-of (find-stream (a .stream-id) (q .streams))))
+    at-one a p = elim (heads (q .streams) (a .stream-id)) [
       | headless e n ↦ subst (λ (x : Head). Looks now q (look-at now q a x)) (sym e) tt
-      | headed s i is h ↦ subst (λ (x : Head). Looks now q (look-at now q a x)) (sym (head-of-at (q .streams) (a .stream-id) s i is h)) (drops a s i is h (expired now (i .expires-at)) (short-of q s (remaining i)) refl)
+      | headed s i is h ↦ subst (λ (x : Head). Looks now q (look-at now q a x)) (sym (head-of-at (q .streams) (a .stream-id) s i is h)) (drops a p s i is h (expired now (i .expires-at)) (short-of q s (remaining i)) refl)
     ]
 
     go : (x : Option Active) → peek (q .scheduler) ≡ x → Looks now q (look-for now q x)
     go none e = e
-    go (some a) e = at-one a
+    go (some a) e = at-one a e
 
 -- ---- the turns
 
@@ -74,9 +74,9 @@ abbrev MaybePasses : ℕ → Queue → Option Step → Type 0
 MaybePasses now q none = Unit {0}
 MaybePasses now q (some s) = Passes now q s
 
-passes-hand-out : (now size : ℕ) (q : Queue) (es : List Event) (a : Active) (s : Stream) (i : Item) (is : List Item) → 1 ≤ size → Well q → Chosen q a s i is → MaybePasses now q (hand-out size q es a s i is)
+passes-hand-out : (now size : ℕ) (q : Queue) (es : List Event) (a : Active) (s : Stream) (i : Item) (is : List Item) → 1 ≤ size → Well q → peek (q .scheduler) ≡ some a → Chosen q a s i is → MaybePasses now q (hand-out size q es a s i is)
 unfolding hand-out
-passes-hand-out now size q es a s i is z w c = go (short-of-head q s i n)
+passes-hand-out now size q es a s i is z w p c = go (short-of-head q s i n)
   where
     n : ℕ
     n = min (a .bytes-remaining) size
@@ -89,7 +89,7 @@ passes-hand-out now size q es a s i is z w c = go (short-of-head q s i n)
 
     go : (b : Bool) → MaybePasses now q (if b then none else some (reply (fragment (make-fragment s ((numbered (s .counters) i) .item) n)) (es ++ sent-events q s n) (handed-out q a s i is n)))
     go true = tt
-    go false = record { past = q; well = w; passed = here; ends = hands-out a s i is n c positive few refl refl }
+    go false = record { past = q; well = w; passed = here; ends = hands-out a s i is n p c positive few refl refl }
 
 passes-before : (now : ℕ) (q r : Queue) (x : Option Step) → ((t : Queue) → Past now t r → Past now t q) → MaybePasses now r x → MaybePasses now q x
 passes-before now q r none f p = tt
@@ -101,7 +101,7 @@ unfolding after-look
 passes-after again now size q es nothing z w f l h = record { past = q; well = w; passed = here; ends = none-waits l refl refl }
 passes-after again now size q es broken z w f l h = tt
 passes-after again now size q es (dropped r ds) z w f l h = passes-before now q r (again r (es ++ ds)) (l .1) (h r (es ++ ds) (l .0))
-passes-after again now size q es (chosen a s i is) z w f l h = passes-hand-out now size q es a s i is z w f
+passes-after again now size q es (chosen a s i is) z w f l h = passes-hand-out now size q es a s i is z w l f
 
 passes-turns : (turns now size : ℕ) (q : Queue) (es : List Event) → 1 ≤ size → Well q → MaybePasses now q (pass-over turns now size q es)
 unfolding pass-over

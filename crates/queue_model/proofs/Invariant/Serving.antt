@@ -23,7 +23,7 @@ use Rattle.queue_model.specs.Settings.{threshold-checks, priority-checks
 use Rattle.queue_model.specs.Questions.{amount-of}
 use Rattle.queue_model.specs.Image.{Handover}
 use Rattle.queue_model.specs.Reader.{read-image}
-use Rattle.queue_model.specs.Restore.{restored, record-checks, restore-read, restore-checks}
+use Rattle.queue_model.specs.Restore.{remember-half-sent, restored, record-checks, restore-read, restore-checks}
 use Rattle.queue_model.specs.Run.{Call, add, produce, discard, close, ready-ids, commit, rollback, reset, set-threshold, set-priority, set-interleaving, restore, ask-priority, ask-amount, ask-threshold, ask-total, ask-empty, ask-has-data, ask-streams-ready, ask-readiness, step}
 use Rattle.queue_model.specs.Demands.{Typed, Reachable, created, called}
 use Rattle.queue_model.specs.Waiting.{is-waiting, WaitsBy, Waiting-seen}
@@ -519,13 +519,21 @@ serves-set-interleaving b q w a = go (same-bool b (q .interleaving))
 
 -- ---- restoring
 
+-- What restoring remembers changes no entry.
+recalled-active : (il : Bool) (ss : List Stream) (sc : Scheduler) → (remember-half-sent il ss sc) .active ≡ sc .active
+unfolding remember-half-sent
+recalled-active true ss sc = refl
+recalled-active false ss sc = refl
+
 serves-read : (now : ℕ) (q : Queue) (x : Option Handover) → Well ((restore-read now q x) .next) → AtEase q → AtEase ((restore-read now q x) .next)
 unfolding restore-read restored
 serves-read now q none w a = a
 serves-read now q (some h) w a =
     serves-checked (record-checks now q h) q (reply done [] (restored now h q)) a (λ p.
     let v = subst (λ (x : Step). Well (x .next)) (checked-past (record-checks now q h) q (reply done [] (restored now h q)) p) w in
-    each-items (q .interleaving) ((restored now h q) .streams) (q .scheduler) (v .rising) (v .kept))
+    let ss : List Stream = (restored now h q) .streams in
+    let e = recalled-active (q .interleaving) ss (reschedule-each (q .interleaving) has-items ss (q .scheduler)) in
+    λ k s f. subst (λ (x : List Active). Served x k (s .pause-state) (s .items)) (sym e) (each-items (q .interleaving) ss (q .scheduler) (v .rising) (v .kept) k s f))
 
 serves-restore : (store now : ℕ) (image : List ℕ) (q : Queue) → Well ((Restore.restore store now image q) .next) → AtEase q → AtEase ((Restore.restore store now image q) .next)
 unfolding Restore.restore
