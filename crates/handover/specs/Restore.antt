@@ -1,5 +1,6 @@
 -- Restoring an image, on the words and the store. Assumes nothing.
 use Prim.Native.Nat.{ℕ, _-_}
+use mathlib.Core.Bool.{Bool}
 use mathlib.Core.List.{List}
 use lib.Dec.{ltb, eqb}
 use lib.ListN.{length}
@@ -12,6 +13,7 @@ use Rattle.handover_records.specs.declared.records.Trailer.{Trailer}
 use Rattle.image_rules.specs.Code.{imageCode}
 use Rattle.restoring.specs.Streams.{emptied, streamsRestored}
 use Rattle.restoring.specs.Messages.{Restored, messagesRestored, waitsAll}
+use Rattle.restoring.specs.Recall.{recalled}
 
 -- 2: "not of its creation length later". 4: "A time or lifetime is above 4,611,686,018,427,387,903." 12: "Restoring finds a queue that knows a stream, or whose
 -- next message id is not 0." Then 13, 14 and 15, judged on the image.
@@ -24,9 +26,14 @@ restoreCode ws len time bs =
     (imageCode (optionsAt ws .«strict_restart») bs (optionsAt ws .«default_priority») len))))
     2
 
+-- Document 02, 10/13: "Restoring without interleaving shall remember the stream whose first message is half-sent": of n known ones
+abbrev pub recalledBy : Bool → List ℕ → ℕ → List ℕ
+recalledBy il ws n = pick il ws (recalled ws n)
+
 -- every stream with messages then waits; more than 256 of them, which cannot be, are passed over
 unfoldable pub allWaiting : List ℕ → List ℕ
-allWaiting ws = pick (ltb 256 (totalsAt ws .known)) ws (waitsAll (totalsAt ws .interleaving) ws (totalsAt ws .known))
+allWaiting ws =
+    pick (ltb 256 (totalsAt ws .known)) ws (recalledBy (totalsAt ws .interleaving) (waitsAll (totalsAt ws .interleaving) ws (totalsAt ws .known)) (totalsAt ws .known))
 
 abbrev pub waitingFrom : Restored → Stored
 waitingFrom x = stored (allWaiting (x .words)) (x .store)

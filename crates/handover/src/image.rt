@@ -11,6 +11,7 @@ use queue_words::QUEUE_WORDS;
 use queue_words::header::load_options;
 use queue_words::header::load_totals;
 use restoring::empty_queue;
+use restoring::remember_half_sent;
 use restoring::restore_messages;
 use restoring::restore_streams;
 use restoring::wait_all;
@@ -36,7 +37,7 @@ fn restore_code(queue: &[u64; QUEUE_WORDS], len: u64, time: u64, image: &[u8]) -
     2
 }
 
-// Every stream with messages then waits.
+// Every stream with messages then waits; without interleaving the first with a half-sent message is remembered.
 fn let_wait(queue: &mut [u64; QUEUE_WORDS])
     ensures { λ _. ⌜ now (queue .exit) ≡ allWaiting (now (queue .entry)) ⌝ }
 {
@@ -45,6 +46,10 @@ fn let_wait(queue: &mut [u64; QUEUE_WORDS])
         return;
     }
     wait_all(queue, t.interleaving, t.known as usize);
+    if t.interleaving {
+        return;
+    }
+    remember_half_sent(queue, t.known as usize);
 }
 
 // An accepted image with this trailer.

@@ -1,16 +1,18 @@
 -- The loops: the first records or streams are done. Assumes nothing.
 use mathlib.Core.Path.{_≡_, refl, ap, _∙_, subst, sym}
-use mathlib.Core.Bool.{Bool}
+use mathlib.Core.Bool.{Bool, true, false}
 use mathlib.Core.List.{List}
-use Prim.Native.Nat.{ℕ, suc, _+_, _*_, _-_, _≤_}
+use Prim.Native.Nat.{ℕ, suc, _+_, _*_, _-_, _≤_, _<_}
 use lib.ListN.{take, drop}
 use Rattle.queue_words.specs.declared.items.Item.{Item}
+use native.Mathlib.Nat.{sub-zero}
 use native.Mathlib.Numerals.{add-one}
 use native.Mathlib.Omega.{arith}
 use Rattle.queue_words.specs.Known.{knownAt}
 use Rattle.queue_words.specs.declared.known.Known.{Known}
 use Rattle.restoring.specs.Streams.{streamRestored, streamsRestored}
 use Rattle.restoring.specs.Messages.{Restored, restored, hungWith, messageRestored, messagesRestored, waitsAt, waitsAll}
+use Rattle.restoring.specs.Recall.{halfSentAt, firstHalfSent}
 
 same-count : {A : Type 0} (f : ℕ → A) (n i : ℕ) → i ≤ n → n ≤ i → f i ≡ f n
 same-count f n i h k = let e : i ≡ n = omega arith in ap f e
@@ -56,6 +58,32 @@ module _ (il : Bool) (ws : List ℕ) where
 
   pub waits-end : (n i : ℕ) (us : List ℕ) → us ≡ waitsAll il ws i → i ≤ n → n ≤ i → us ≡ waitsAll il ws n
   waits-end n i us a h k = a ∙ same-count (waitsAll il ws) n i h k
+
+-- ---- the first half-sent head
+
+module _ (ws : List ℕ) (n : ℕ) where
+  pub half-start : firstHalfSent ws 0 n ≡ firstHalfSent ws 0 (n - 0)
+  half-start = rw sub-zero
+
+  module _ (i : ℕ) (inv : firstHalfSent ws 0 n ≡ firstHalfSent ws i (n - i)) where
+    module _ (h : i < n) (k : Known) (ek : k ≡ knownAt ws i) (b : Bool) (eb : b ≡ halfSentAt ws k) where
+      pub half-here : b ≡ true → k .id .0 ≡ firstHalfSent ws 0 n
+      unfolding firstHalfSent
+      half-here g =
+          let s : n - i ≡ suc (n - (i + 1)) = omega arith in
+          sym (inv ∙ rw (s, ← ek, ← eb, g))
+
+      pub half-next : b ≡ false → firstHalfSent ws 0 n ≡ firstHalfSent ws (i + 1) (n - (i + 1))
+      unfolding firstHalfSent
+      half-next g =
+          let s : n - i ≡ suc (n - (i + 1)) = omega arith in
+          inv ∙ rw (s, ← ek, ← eb, g, add-one)
+
+    pub half-end : n ≤ i → 65536 ≡ firstHalfSent ws 0 n
+    unfolding firstHalfSent
+    half-end g =
+        let s : n - i ≡ 0 = omega arith in
+        sym (inv ∙ rw s)
 
 -- A slice of the image is the payload.
 pub record-done : (ws st : List ℕ) (id : ℕ) (m : Item) (bs : List ℕ) (at n left : ℕ) (x : Restored)

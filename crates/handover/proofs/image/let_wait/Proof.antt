@@ -17,9 +17,21 @@ returns-2 : tie.Need-returns-2
 unfolding allWaiting
 returns-2 c =
     rw (
-      ← (c .before .before .before .before .load-totals .ensures),
-      le-ltb _ _ (c .before .before .if1 .left),
-      ← (c .wait-all .ensures),
+      ← (c .before .before .before .before .before .load-totals .ensures),
+      le-ltb _ _ (c .before .before .before .if1 .left),
+      ← (c .before .wait-all .ensures),
+      (c .if2 .taken),
+    )
+
+returns-3 : tie.Need-returns-3
+unfolding allWaiting
+returns-3 c =
+    rw (
+      ← (c .before .before .before .before .before .before .before .load-totals .ensures),
+      le-ltb _ _ (c .before .before .before .before .before .if1 .left),
+      ← (c .before .before .before .wait-all .ensures),
+      (c .before .before .if2 .left),
+      ← (c .remember-half-sent .ensures),
     )
 
 pub let-wait-spec : {M : Type 1} → statement M
@@ -29,4 +41,6 @@ let-wait-spec =
     (λ c. search needs)
     returns
     (λ c. search needs)
-    returns-2)
+    returns-2
+    (λ c. search needs)
+    returns-3)

@@ -1,0 +1,57 @@
+// Restoring, last. Document 02, 10/13: "Restoring without interleaving shall remember the stream whose first message is half-sent, the smallest id if several are, and send its rest first."
+ghost use mathlib.Core.Path.{_≡_};
+ghost use Prim.Native.Nat.{_≤_};
+ghost use Rattle.restoring.specs.Recall.{halfSentAt, firstHalfSent, recalled};
+use queue_words::QUEUE_WORDS;
+use queue_words::header::load_scheduler_state;
+use queue_words::header::store_scheduler_state;
+use queue_words::items::load_item;
+use queue_words::known::Known;
+use queue_words::known::load_known;
+use queue_words::streams::load_stream;
+
+// No stream.
+const NONE: u64 = 65536;
+
+// Whether the first message of a known stream is half-sent.
+fn is_half_sent(queue: &[u64; QUEUE_WORDS], k: Known) -> bool
+    ensures { λ r. ⌜ r ≡ halfSentAt (now (queue .entry)) k ⌝ }
+{
+    if k.place > 255 {
+        return false;
+    }
+    let s = load_stream(queue, k.place as usize);
+    if s.first < 1024 {
+        let m = load_item(queue, s.first as usize);
+        return 0 < m.offset;
+    }
+    false
+}
+
+// Of n known streams the first whose first message is half-sent; the known streams stand by rising id.
+fn first_half_sent(queue: &[u64; QUEUE_WORDS], n: usize) -> u64
+    requires { ⌜ n ≤ 256 ⌝ }
+    ensures { λ r. ⌜ r ≡ firstHalfSent (now (queue .entry)) 0 n ⌝ }
+{
+    let mut i = 0;
+    while i < n {
+        let k = load_known(queue, i);
+        let half = is_half_sent(queue, k);
+        if half {
+            return k.id.0 as u64;
+        }
+        i += 1;
+    }
+    NONE
+}
+
+// The stream is remembered.
+pub fn remember_half_sent(queue: &mut [u64; QUEUE_WORDS], n: usize)
+    requires { ⌜ n ≤ 256 ⌝ }
+    ensures { λ _. ⌜ now (queue .exit) ≡ recalled (now (queue .entry)) n ⌝ }
+{
+    let id = first_half_sent(&*queue, n);
+    let mut s = load_scheduler_state(&*queue);
+    s.current = id;
+    store_scheduler_state(queue, s);
+}
