@@ -7,6 +7,7 @@ pub mod Hangs
 pub mod OneRecord
 pub mod AllRecords
 pub mod Waits
+pub mod Recalls
 pub mod Unused
 pub mod Parts
 pub mod Accepts

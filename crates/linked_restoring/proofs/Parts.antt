@@ -13,7 +13,7 @@ use Rattle.queue_model.specs.Types as plain
 use Rattle.queue_model.specs.Scheduler.{new-scheduler}
 use Rattle.queue_model.specs.Streams.{has-items, reschedule-each, amounts}
 use Rattle.queue_model.specs.Image.{StreamRecord, Handover}
-use Rattle.queue_model.specs.Restore.{restored-stream, restore-streams, restore-messages}
+use Rattle.queue_model.specs.Restore.{restored-stream, restore-streams, restore-messages, remember-half-sent}
 use Rattle.queue_model.specs.Restore as restore
 use Rattle.stream_scheduler.specs.Link.{modelScheduler}
 use Rattle.queue_streams.specs.Known.{withKnown}
@@ -27,7 +27,9 @@ use Rattle.restoring.specs.Messages.{Restored, messagesRestored, waitsAll}
 use Rattle.linked_restoring.proofs.Emptied.{empty-options, empty-totals, empty-shape, empty-scheduler}
 use Rattle.linked_restoring.proofs.Behind.{IdsRise, Behind, behind, behind-model}
 use Rattle.linked_restoring.proofs.AllRecords.{Within, Limits, restoredTo, AllRecords, all-records}
+use Rattle.handover.specs.Restore.{recalledBy}
 use Rattle.linked_restoring.proofs.Waits.{AllWait, all-wait}
+use Rattle.linked_restoring.proofs.Recalls.{Recalled, all-recalled}
 use Rattle.linked_restoring.proofs.Unused.{unused-scheduler}
 
 -- What an image is known to hold: ns stream records from its start, nm message records from sz on, and the next message id.
@@ -45,8 +47,12 @@ pub record Holds (bs : List ℕ) (ns sz nm next : ℕ) (h : Handover) : Type 0 w
 abbrev pub partsOf : List ℕ → List ℕ → ℕ → List ℕ → ℕ → ℕ → ℕ → ℕ → Restored
 partsOf ws st time bs ns sz nm next = messagesRestored (streamsRestored (emptied ws next) bs ns) st sz bs time nm
 
+-- Every stream with messages waits; and one is remembered.
+abbrev waitingIn : List ℕ → List ℕ
+waitingIn ws = waitsAll (totalsAt ws .interleaving) ws (totalsAt ws .known)
+
 abbrev pub waitingOf : List ℕ → List ℕ
-waitingOf ws = waitsAll (totalsAt ws .interleaving) ws (totalsAt ws .known)
+waitingOf ws = recalledBy (totalsAt ws .interleaving) (waitingIn ws) (totalsAt ws .known)
 
 no-amount : (o : plain.Options) (f : ℕ → StreamRecord) (n : ℕ) → amounts (tab (λ k. restored-stream o (f k)) n) ≡ 0
 unfolding tab restored-stream
@@ -136,8 +142,13 @@ module _ (ws st : List ℕ) (g : Good ws st) (none-known : totalsAt ws .known �
   scheduler-ws : (model ws st) .scheduler ≡ new-scheduler (optionsAt ws .«payload_limit»)
   scheduler-ws = unused-scheduler (model ws st) (g .well) no-streams ∙ ap (λ (p : plain.Options). new-scheduler (p .payload-limit)) (model-options ws st)
 
-  waits-in : AllWait (totalsAt (x .words) .interleaving) (x .words) (x .store) (waitingOf (x .words))
+  waits-in : AllWait (totalsAt (x .words) .interleaving) (x .words) (x .store) (waitingIn (x .words))
   waits-in = all-wait (totalsAt (x .words) .interleaving) (x .words) (x .store) (messages-in .shape) (none-listed (x .words) (x .store) (optionsAt ws .«payload_limit») scheduler-x)
+
+  recalls-in : Recalled (totalsAt (x .words) .interleaving) (waitingIn (x .words)) (x .store) (waitingOf (x .words))
+  recalls-in =
+      subst (λ n. Recalled (totalsAt (x .words) .interleaving) (waitingIn (x .words)) (x .store) (recalledBy (totalsAt (x .words) .interleaving) (waitingIn (x .words)) n)) (ap (λ (t : Totals). t .known) (waits-in .totals))
+      (all-recalled (totalsAt (x .words) .interleaving) (waitingIn (x .words)) (x .store) (waits-in .shape))
 
   -- ---- the queue
 
@@ -155,13 +166,14 @@ module _ (ws st : List ℕ) (g : Good ws st) (none-known : totalsAt ws .known �
   model-restored =
       let q : Queue = model ws st in
       let ss : List Stream = restore-messages (q .options) time (h .messages) (restore-streams (q .options) (h .streams)) in
-      model-is us (x .store) (q .options) (q .interleaving) (amounts ss) (h .next-message-id) ss (reschedule-each (q .interleaving) has-items ss (q .scheduler))
-      (ap optionsOf (waits-in .options ∙ options-x) ∙ sym (model-options ws st))
-      (ap (λ (t : Totals). t .interleaving) (waits-in .totals) ∙ interleaving-x)
-      (ap (λ (t : Totals). t .total) (waits-in .totals) ∙ messages-in .counted ∙ ap amounts streams-x)
-      (ap (λ (t : Totals). t .«next_message_id» .0) (waits-in .totals) ∙ next-x)
-      (waits-in .streams ∙ streams-x)
-      (waits-in .scheduler ∙ rw (interleaving-x, streams-x, scheduler-x, scheduler-ws))
+      let t : totalsAt us ≡ totalsAt (x .words) = recalls-in .same-totals ∙ waits-in .totals in
+      model-is us (x .store) (q .options) (q .interleaving) (amounts ss) (h .next-message-id) ss (remember-half-sent (q .interleaving) ss (reschedule-each (q .interleaving) has-items ss (q .scheduler)))
+      (ap optionsOf (recalls-in .same-options ∙ waits-in .options ∙ options-x) ∙ sym (model-options ws st))
+      (ap (λ (t : Totals). t .interleaving) t ∙ interleaving-x)
+      (ap (λ (t : Totals). t .total) t ∙ messages-in .counted ∙ ap amounts streams-x)
+      (ap (λ (t : Totals). t .«next_message_id» .0) t ∙ next-x)
+      (recalls-in .same-streams ∙ waits-in .streams ∙ streams-x)
+      (recalls-in .remembers ∙ rw (waits-in .streams, waits-in .scheduler, interleaving-x, streams-x, scheduler-x, scheduler-ws))
 
   pub all-parts : Parts ws st time h us (x .store)
-  all-parts = record { shape = waits-in .shape; store = messages-in .store; options = waits-in .options ∙ options-x; next = model-restored }
+  all-parts = record { shape = recalls-in .shape; store = messages-in .store; options = recalls-in .same-options ∙ waits-in .options ∙ options-x; next = model-restored }

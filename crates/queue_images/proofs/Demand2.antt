@@ -1,12 +1,12 @@
 -- Every saved image is accepted by a new queue created alike, and restores what the Rust restores: demand 2 on images, on the code's definitions. Assumes nothing.
 use mathlib.Core.Path.{_≡_, refl, sym, ap, _∙_, subst}
-use mathlib.Core.Bool.{Bool, true, false}
+use mathlib.Core.Bool.{Bool}
 use mathlib.Core.List.{List, [], _∷_, _++_}
 use mathlib.Core.Option.{Option, none, some}
-use Prim.Native.Nat.{ℕ, _+_, _-_, _≤_, _<_, _^_}
+use Prim.Native.Nat.{ℕ, _≤_, _<_, _^_}
 use native.Mathlib.Omega.{arith}
 use lib.Dec.{T}
-use lib.ListN.{length, take, drop, length-append}
+use lib.ListN.{length, take, drop}
 use lib.Pow.{areBytes}
 use Rattle.queue_model.specs.Types as plain
 use Rattle.queue_model.specs.Types.{Queue, done, reply, Step}
@@ -14,28 +14,26 @@ use Rattle.queue_model.specs.Demands as demands
 use Rattle.queue_model.specs.Demands.{Reachable, fresh, forget-plain}
 use Rattle.queue_model.specs.Image.{Saving, not-saved, saved-as, saving-or, save, save-checks, save-refusal, write-image}
 use Rattle.queue_model.specs.Refusals.{first-refusal}
-use Rattle.queue_model.specs.RustHandover.{handover-state, restore-from-state}
+use Rattle.queue_model.specs.RustHandover.{HandoverState, handover-state, restore-from-state, restore-remembering}
 use Rattle.queue_model.specs.Restore as image
 use Rattle.queue_model.specs.Run as run
 use Rattle.queue_model.specs.Streams.{new-queue}
 use Rattle.queue_model.proofs.Checks.{all-passed, not-less}
 use Rattle.queue_model.proofs.Demand2.Bytes.{image-is-bytes}
-use Rattle.queue_model.proofs.Demand2.Images.{demand2-images}
-use Rattle.queue_streams.specs.declared.answers.Call.the-variants.{Accepted}
-use Rattle.saving.specs.Save.{SavedAs, savedAs, saveImage}
-use Rattle.saving.specs.declared.image.Saved.{Saved}
+use Rattle.queue_model.proofs.Demand2.Images.{demand2-images, demand2-rust}
+use Rattle.saving.specs.Save.{SavedAs, savedAs}
 use Rattle.saving.specs.declared.image.Saved.the-variants as saved
 use Rattle.linked_saving.specs.Meaning.{savedOf}
 use Rattle.linked_saving.proofs.Saves.{save-is}
-use Rattle.queue_runs.specs.Calls.{restore, set-interleaving, called, Typed, Shown}
+use Rattle.queue_runs.specs.Calls.{restore, set-interleaving, Shown}
 use Rattle.queue_runs.specs.Creation.{Arguments, optionsWith, newState, Creates}
 use Rattle.queue_runs.specs.Demand3.{Reached}
 use Rattle.queue_runs.specs.Meaning.{queueOf, Good, quietOf}
 use Rattle.queue_runs.specs.Run.{State, step, after}
 use Rattle.queue_runs.proofs.Steps.{Stepped, step-link, meant}
 use Rattle.queue_runs.proofs.Runs.{run-link}
-use Rattle.queue_runs.proofs.News.{New, new-link, reached}
-use Rattle.queue_images.specs.Demand2.{Saves, freshState, Restores, Demand2-images}
+use Rattle.queue_runs.proofs.News.{new-link, reached}
+use Rattle.queue_images.specs.Demand2.{Saves, freshState, Restores, Demand2-images, Demand2-rust}
 
 -- ---- the saved image
 
@@ -70,7 +68,7 @@ image-in b after size (saved-as bs) img f h e =
     let c : after ≡ bs ++ drop (length bs) b = ap (λ (x : SavedAs). x .image) e in
     (a ∙ ap length k, c ∙ ap (λ l. l ++ drop (length l) b) k, h bs refl)
 
-the-image : (s : State) (saved size : ℕ) (buffer after : List ℕ) → Good s → Saves s saved buffer after size
+pub the-image : (s : State) (saved size : ℕ) (buffer after : List ℕ) → Good s → Saves s saved buffer after size
     → (take size after ≡ write-image saved (queueOf s)) × (length (write-image saved (queueOf s)) ≤ length buffer)
 the-image s at size buffer after g h =
     let x : Saving = save (length (s .store)) (length buffer) at (queueOf s) in
@@ -102,12 +100,12 @@ stands a len s r =
     subst (λ (k : ℕ). Stands (optionsWith a k) s) (r .store-is) (subst (Stands (optionsWith a (length (r .before .store)))) (sym (r .state-is)) x)
 
 -- A new queue with an interleaving choice.
-record Begins (a : Arguments) (len : ℕ) (new : State) (b : Bool) : Type 0 where
-  good : Good (freshState a new b)
-  queue-is : queueOf (freshState a new b) ≡ fresh (optionsWith a len) b
-  store-is : length (freshState a new b .store) ≡ len
+pub record Begins (a : Arguments) (len : ℕ) (b : Bool) (t : State) : Type 0 where
+  pub good : Good t
+  pub queue-is : queueOf t ≡ fresh (optionsWith a len) b
+  pub store-is : length (t .store) ≡ len
 
-begins : (a : Arguments) (len : ℕ) (new : State) (b : Bool) → Creates a new → length (new .store) ≡ len → Begins a len new b
+pub begins : (a : Arguments) (len : ℕ) (new : State) (b : Bool) → Creates a new → length (new .store) ≡ len → Begins a len b (freshState a new b)
 begins a len new b c e =
     let n = new-link a new c in
     let f = step-link (set-interleaving b) (newState a new) (n .good) tt in
@@ -115,37 +113,51 @@ begins a len new b c e =
     let q : queueOf (freshState a new b) ≡ fresh o b = f .next-is ∙ ap (λ (x : Queue). (run.step (run.set-interleaving b) x) .next) (n .queue-is) ∙ fresh-is o b in
     record { good = f .good; queue-is = q ∙ ap (λ (k : ℕ). fresh (optionsWith a k) b) e; store-is = f .same-store ∙ e }
 
-module _ (a : Arguments) (len : ℕ) (s new : State) (at time : ℕ) (b : Bool) (i : List ℕ) (g : Good s) (r : Reachable (optionsWith a len) (queueOf s)) (n : Begins a len new b)
-    (ht : time ≤ 4611686018427387903) (ei : i ≡ write-image at (queueOf s)) (short : length i < 2 ^ 64) where
-  abbrev left : Queue
-  left = forget-plain (restore-from-state time (handover-state at (queueOf s)) (fresh (optionsWith a len) b))
-
+-- Restoring the image into it is the model's restoring of the model's image.
+module _ (a : Arguments) (len : ℕ) (s t : State) (at time : ℕ) (b : Bool) (i : List ℕ) (g : Good s) (n : Begins a len b t) (ht : time ≤ 4611686018427387903) (ei : i ≡ write-image at (queueOf s)) (short : length i < 2 ^ 64) where
   bytes : T (areBytes i)
   bytes = subst (λ l. T (areBytes l)) (sym ei) (image-is-bytes at (queueOf s) (g .well))
 
-  stepped : Stepped (restore time i) (freshState a new b)
-  stepped = step-link (restore time i) (freshState a new b) (n .good) (omega arith, (short, bytes))
+  pub stepped : Stepped (restore time i) t
+  stepped = step-link (restore time i) t (n .good) (omega arith, (short, bytes))
 
-  meant-is : meant (restore time i) (freshState a new b) ≡ reply done [] left
-  unfolding demands.Demand2-images
-  meant-is =
-      restore-is (length (freshState a new b .store)) time i (queueOf (freshState a new b))
-      ∙ ap (λ (k : ℕ). image.restore k time i (queueOf (freshState a new b))) (n .store-is)
-      ∙ ap (λ (x : Queue). image.restore len time i x) (n .queue-is)
-      ∙ ap (λ (l : List ℕ). image.restore len time l (fresh (optionsWith a len) b)) ei
-      ∙ demand2-images (optionsWith a len) (queueOf s) at time b r ht
+  pub meant-image : meant (restore time i) t ≡ run.step (run.restore len time (write-image at (queueOf s))) (fresh (optionsWith a len) b)
+  meant-image =
+      ap (λ (k : ℕ). run.step (run.restore k time i) (queueOf t)) (n .store-is)
+      ∙ ap (λ (x : Queue). run.step (run.restore len time i) x) (n .queue-is)
+      ∙ ap (λ (l : List ℕ). run.step (run.restore len time l) (fresh (optionsWith a len) b)) ei
 
-  restored : Restores a len s new at time b i
-  restored = record {
-    accepted = ap (λ (x : Shown). x .answer) (stepped .shows-are) ∙ ap (λ (x : Step). quietOf (x .outcome) .answer) meant-is;
-    good = stepped .good;
-    stands-for = stepped .next-is ∙ ap (λ (x : Step). x .next) meant-is;
-  }
+-- What the model restores from the record, it restores.
+module _ (by : ℕ → HandoverState → Queue → Queue) (a : Arguments) (len : ℕ) (s new : State) (at time : ℕ) (b : Bool) (i : List ℕ) (g : Good s) (n : Begins a len b (freshState a new b))
+    (ht : time ≤ 4611686018427387903) (ei : i ≡ write-image at (queueOf s)) (short : length i < 2 ^ 64)
+    (model : image.restore len time (write-image at (queueOf s)) (fresh (optionsWith a len) b) ≡ reply done [] (forget-plain (by time (handover-state at (queueOf s)) (fresh (optionsWith a len) b)))) where
+  abbrev left : Queue
+  left = forget-plain (by time (handover-state at (queueOf s)) (fresh (optionsWith a len) b))
+
+  restored : Restores by a len s new at time b i
+  restored =
+      let k = stepped a len s (freshState a new b) at time b i g n ht ei short in
+      let e : meant (restore time i) (freshState a new b) ≡ reply done [] left = meant-image a len s (freshState a new b) at time b i g n ht ei short ∙ restore-is len time (write-image at (queueOf s)) (fresh (optionsWith a len) b) ∙ model in
+      record {
+        accepted = ap (λ (x : Shown). x .answer) (k .shows-are) ∙ ap (λ (x : Step). quietOf (x .outcome) .answer) e;
+        good = k .good;
+        stands-for = k .next-is ∙ ap (λ (x : Step). x .next) e;
+      }
 
 -- DEMAND 2 on images, on the code's definitions.
 pub demand2 : Demand2-images
-unfolding Demand2-images
+unfolding Demand2-images demands.Demand2-images
 demand2 a len s new at time size buffer after b r h c e ht =
     let x = stands a len s r in
     let i = the-image s at size buffer after (x .good) h in
-    restored a len s new at time b (take size after) (x .good) (x .reachable) (begins a len new b c e) ht (i .0) (omega (arith, ap length (i .0), i .1, h .short))
+    restored restore-remembering a len s new at time b (take size after) (x .good) (begins a len new b c e) ht (i .0) (omega (arith, ap length (i .0), i .1, h .short))
+    (demand2-images (optionsWith a len) (queueOf s) at time b (x .reachable) ht)
+
+-- And where the Rust is matched.
+pub matched : Demand2-rust
+unfolding Demand2-rust demands.Demand2-rust
+matched a len s new at time size buffer after b r h c e ht m =
+    let x = stands a len s r in
+    let i = the-image s at size buffer after (x .good) h in
+    restored restore-from-state a len s new at time b (take size after) (x .good) (begins a len new b c e) ht (i .0) (omega (arith, ap length (i .0), i .1, h .short))
+    (demand2-rust (optionsWith a len) (queueOf s) at time b (x .reachable) ht m)

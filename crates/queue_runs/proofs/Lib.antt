@@ -19,3 +19,4 @@ pub mod FairTurns
 pub mod CloseSteps
 pub mod Closing
 pub mod Restart
+pub mod MidMessage

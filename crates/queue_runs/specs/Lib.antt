@@ -11,3 +11,4 @@ pub mod Waiting
 pub mod FairTurns
 pub mod Closing
 pub mod Restart
+pub mod MidMessage

@@ -70,7 +70,7 @@ untouched-then ws us vs a b = record {
   same-items = λ i h. b .same-items i h ∙ a .same-items i h;
 }
 
-untouched-state : (ws : List ℕ) (s : SchedulerState) → Untouched ws (putScheduler ws s)
+pub untouched-state : (ws : List ℕ) (s : SchedulerState) → Untouched ws (putScheduler ws s)
 untouched-state ws s = record {
   same-options = options-put-scheduler ws s;
   same-totals = totals-put-scheduler ws s;

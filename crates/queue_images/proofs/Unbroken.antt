@@ -1,0 +1,216 @@
+-- What the code's queues show over calls and changeovers is what the model's show: document 02's 10/13 on fragments. Assumes nothing.
+use mathlib.Core.Path.{_≡_, refl, sym, ap, ap₂, _∙_, subst}
+use mathlib.Core.Bool.{Bool, false}
+use mathlib.Core.List.{List, [], _∷_, _++_, map}
+use mathlib.Core.Option.{Option, none, some}
+use Prim.Native.Nat.{ℕ, _≤_, _<_, _^_}
+use native.Mathlib.Omega.{arith}
+use lib.ListN.{length, take}
+use Rattle.types.specs.Keys.{key-of}
+use Rattle.queue_model.specs.Types as plain
+use Rattle.queue_model.specs.Types.{Queue, Fragment, Outcome}
+use Rattle.queue_model.specs.Logic.{same-bool}
+use Rattle.queue_model.specs.Streams.{new-queue}
+use Rattle.queue_model.specs.Calls as calls
+use Rattle.queue_model.specs.Demands.{Created, fresh}
+use Rattle.queue_model.specs.Image.{write-image}
+use Rattle.queue_model.specs.Run as run
+use Rattle.queue_model.specs.Unbroken as model
+use Rattle.queue_model.specs.Unbroken.{Behind, UnbrokenBehind, fragments-in}
+use Rattle.queue_model.proofs.Invariant.Unbroken as unbroken
+use Rattle.queue_sending.specs.declared.data.DataToSend.{DataToSend}
+use Rattle.linked_sending.specs.Meaning.{dataOf, producedOf}
+use Rattle.queue_runs.specs.Calls.{Call, add, produce, discard, close, ready-ids, commit, rollback, reset, set-threshold, set-priority, set-interleaving, restore, ask-priority, ask-amount, ask-threshold, ask-total, ask-empty, ask-has-data, ask-streams-ready, ask-readiness, callOf, Typed, Shown}
+use Rattle.queue_runs.specs.Run.{State, step}
+use Rattle.queue_runs.specs.Creation.{Arguments, optionsWith, newState}
+use Rattle.queue_runs.specs.Meaning.{queueOf, Good, shownOf}
+use Rattle.queue_runs.proofs.Steps.{step-link, typed-call, store-small, meant}
+use Rattle.queue_runs.proofs.News.{new-link}
+use Rattle.queue_runs.proofs.Forms.{Quiet, quiet-refused, quiet-done, Loud, loud-refused, loud-done, Ids, ids-told, Number, number-told, Flag, flag-told, Form, form-of}
+use Rattle.queue_runs.proofs.MidMessage.{done-accepted}
+use Rattle.queue_images.specs.Demand2.{Saves, freshState}
+use Rattle.queue_images.specs.Unbroken.{Continues, starts, dataSent, dataIn, Onward, New, as-created, as-chosen, Sends, begins, goes-on, changes-over, Request10-unbroken, Request10-together}
+use Rattle.queue_images.proofs.Demand2 as images
+
+-- ---- the fragments that calls show
+
+quiet-none : (o : Outcome) → Quiet o → fragments-in (o .answer) ≡ []
+quiet-none o (quiet-refused n) = refl
+quiet-none o quiet-done = refl
+
+loud-none : (o : Outcome) → Loud o → fragments-in (o .answer) ≡ []
+loud-none o (loud-refused n) = refl
+loud-none o (loud-done es) = refl
+
+ids-none : (o : Outcome) → Ids o → fragments-in (o .answer) ≡ []
+ids-none o (ids-told l) = refl
+
+number-none : (o : Outcome) → Number o → fragments-in (o .answer) ≡ []
+number-none o (number-told n) = refl
+
+flag-none : (o : Outcome) → Flag o → fragments-in (o .answer) ≡ []
+flag-none o (flag-told b) = refl
+
+data-sent : (x : plain.Answer) (n : ℕ) → dataSent (producedOf x n) ≡ map dataOf (fragments-in x)
+data-sent (plain.refused r) n = refl
+data-sent plain.done n = refl
+data-sent (plain.number m) n = refl
+data-sent (plain.flag b) n = refl
+data-sent (plain.ids l) n = refl
+data-sent (plain.fragment f) n = refl
+data-sent plain.nothing-waits n = refl
+
+none-shown : (fs : List Fragment) → fs ≡ [] → [] ≡ map dataOf fs
+none-shown fs e = ap (map dataOf) (sym e)
+
+-- A call shows the fragment that the model's call shows.
+data-shown : (len : ℕ) (c : Call) (o : Outcome) → Form (callOf len c) o → dataIn (shownOf c o .answer) ≡ map dataOf (fragments-in (o .answer))
+data-shown len (add time m payload) o f = none-shown (fragments-in (o .answer)) (quiet-none o f)
+data-shown len (produce es bs time size) o f = data-sent (o .answer) (length (o .events))
+data-shown len (discard es id k) o f = none-shown (fragments-in (o .answer)) (loud-none o f)
+data-shown len (close es id) o f = none-shown (fragments-in (o .answer)) (loud-none o f)
+data-shown len ready-ids o f = none-shown (fragments-in (o .answer)) (ids-none o f)
+data-shown len commit o f = none-shown (fragments-in (o .answer)) (quiet-none o f)
+data-shown len rollback o f = none-shown (fragments-in (o .answer)) (quiet-none o f)
+data-shown len reset o f = none-shown (fragments-in (o .answer)) (quiet-none o f)
+data-shown len (set-threshold es id t) o f = none-shown (fragments-in (o .answer)) (loud-none o f)
+data-shown len (set-priority id p) o f = none-shown (fragments-in (o .answer)) (quiet-none o f)
+data-shown len (set-interleaving b) o f = none-shown (fragments-in (o .answer)) (quiet-none o f)
+data-shown len (restore time image) o f = none-shown (fragments-in (o .answer)) (quiet-none o f)
+data-shown len (ask-priority id) o f = none-shown (fragments-in (o .answer)) (number-none o f)
+data-shown len (ask-amount id) o f = none-shown (fragments-in (o .answer)) (number-none o f)
+data-shown len (ask-threshold id) o f = none-shown (fragments-in (o .answer)) (number-none o f)
+data-shown len ask-total o f = none-shown (fragments-in (o .answer)) (number-none o f)
+data-shown len ask-empty o f = none-shown (fragments-in (o .answer)) (flag-none o f)
+data-shown len ask-has-data o f = none-shown (fragments-in (o .answer)) (flag-none o f)
+data-shown len ask-streams-ready o f = none-shown (fragments-in (o .answer)) (flag-none o f)
+data-shown len ask-readiness o f = none-shown (fragments-in (o .answer)) (number-none o f)
+
+data-append : (fs gs : List Fragment) → map dataOf (fs ++ gs) ≡ map dataOf fs ++ map dataOf gs
+data-append [] gs = refl
+data-append (f ∷ fs) gs = ap (λ (l : List DataToSend). dataOf f ∷ l) (data-append fs gs)
+
+-- ---- what a queue has sent
+
+-- The queue is good, and stands for one of the model that has sent the same.
+record Stands (a : Arguments) (len : ℕ) (s : State) (ds : List DataToSend) : Type 0 where
+  good : Good s
+  store-is : length (s .store) ≡ len
+  fragments : List Fragment
+  sends : model.Sends (optionsWith a len) (queueOf s) fragments
+  shown-as : ds ≡ map dataOf fragments
+
+onward : (c : Call) (s : State) → Good s → Typed c → Onward c s → model.Onward (callOf (length (s .store)) c) (queueOf s)
+onward (add time m payload) s g t u = u
+onward (produce es bs time size) s g t u = u
+onward (discard es id k) s g t u = u
+onward (close es id) s g t u = u
+onward ready-ids s g t u = u
+onward commit s g t u = u
+onward rollback s g t u = u
+onward reset s g t u = u
+onward (set-threshold es id n) s g t u = u
+onward (set-priority id p) s g t u = u
+onward (set-interleaving b) s g t u = u
+onward (restore time image) s g t u = λ e. let x = done-accepted time image s g t e in let z : _≡_ {A = ℕ} 0 1 = cc in omega arith
+onward (ask-priority id) s g t u = u
+onward (ask-amount id) s g t u = u
+onward (ask-threshold id) s g t u = u
+onward ask-total s g t u = u
+onward ask-empty s g t u = u
+onward ask-has-data s g t u = u
+onward ask-streams-ready s g t u = u
+onward ask-readiness s g t u = u
+
+-- A new queue without interleaving stands for the model's, whether or not that choice was made.
+fresh-new : (o : plain.Options) → new-queue o ≡ fresh o false
+unfolding fresh new-queue run.step calls.set-interleaving same-bool
+fresh-new o = refl
+
+as-new : {a : Arguments} {len : ℕ} {s : State} → New a len s → images.Begins a len false s
+as-new {a} {len} (as-created {before = b} c e) =
+    let n = new-link a b c in
+    subst (λ (k : ℕ). images.Begins a k false (newState a b)) e (record { good = n .good; queue-is = n .queue-is ∙ fresh-new (optionsWith a (length (b .store))); store-is = refl })
+as-new {a} {len} (as-chosen {before = b} c e) = images.begins a len b false c e
+
+new-created : {a : Arguments} {len : ℕ} {s : State} → New a len s → Created (optionsWith a len)
+new-created {a} (as-created {before = b} c e) = subst (λ (k : ℕ). Created (optionsWith a k)) e (new-link a b c .created)
+new-created {a} (as-chosen {before = b} c e) = subst (λ (k : ℕ). Created (optionsWith a k)) e (new-link a b c .created)
+
+begun : (a : Arguments) (len : ℕ) (s : State) → New a len s → Stands a len s []
+begun a len s c =
+    let n = as-new c in
+    let o : plain.Options = optionsWith a len in
+    record { good = n .good; store-is = n .store-is; fragments = []; sends = subst (λ (q : Queue). model.Sends o q []) (sym (n .queue-is ∙ sym (fresh-new o))) (model.begins (new-created c)); shown-as = refl }
+
+gone-on : (a : Arguments) (len : ℕ) (s : State) (ds : List DataToSend) → Stands a len s ds → (c : Call) → Typed c → Onward c s → Stands a len (step c s .next) (ds ++ dataIn (step c s .shows .answer))
+gone-on a len s ds h c t u =
+    let k = step-link c s (h .good) t in
+    let o = meant c s .outcome in
+    let gs : List Fragment = fragments-in (o .answer) in
+    let m : model.Sends (optionsWith a len) (meant c s .next) (h .fragments ++ gs) = model.goes-on (h .sends) (callOf (length (s .store)) c) (typed-call (length (s .store)) c (store-small s (h .good)) t) (onward c s (h .good) t u) in
+    record {
+      good = k .good;
+      store-is = k .same-store ∙ h .store-is;
+      fragments = h .fragments ++ gs;
+      sends = subst (λ (q : Queue). model.Sends (optionsWith a len) q (h .fragments ++ gs)) (sym (k .next-is)) m;
+      shown-as = ap₂ (λ (xs ys : List DataToSend). xs ++ ys) (h .shown-as) (ap (λ (x : Shown). dataIn (x .answer)) (k .shows-are) ∙ data-shown (length (s .store)) c o (form-of (callOf (length (s .store)) c) (queueOf s))) ∙ sym (data-append (h .fragments) gs);
+    }
+
+changed-over : (a : Arguments) (len : ℕ) (s t : State) (ds : List DataToSend) → Stands a len s ds → (saved time size : ℕ) (buffer after : List ℕ)
+    → Saves s saved buffer after size → New a len t → time ≤ 4611686018427387903 → Stands a len (step (restore time (take size after)) t .next) ds
+changed-over a len s t ds h at time size buffer after v c ht =
+    let i = images.the-image s at size buffer after (h .good) v in
+    let n = as-new c in
+    let o : plain.Options = optionsWith a len in
+    let short : length (take size after) < 2 ^ 64 = omega (arith, ap length (i .0), i .1, v .short) in
+    let k = images.stepped a len s t at time false (take size after) (h .good) n ht (i .0) short in
+    let next : Queue = (run.step (run.restore len time (write-image at (queueOf s))) (fresh o false)) .next in
+    let x : queueOf (step (restore time (take size after)) t .next) ≡ next = k .next-is ∙ ap (λ (y : plain.Step). y .next) (images.meant-image a len s t at time false (take size after) (h .good) n ht (i .0) short) in
+    record {
+      good = k .good;
+      store-is = k .same-store ∙ n .store-is;
+      fragments = h .fragments;
+      sends = subst (λ (q : Queue). model.Sends o q (h .fragments)) (sym x) (model.changes-over (h .sends) at time ht);
+      shown-as = h .shown-as;
+    }
+
+stands : {a : Arguments} {len : ℕ} {s : State} {ds : List DataToSend} → Sends a len s ds → Stands a len s ds
+stands {a} {len} {s} (begins c) = begun a len s c
+stands {a} {len} (goes-on {s = s} {ds = ds} x c t u) = gone-on a len s ds (stands x) c t u
+stands {a} {len} (changes-over {s = s} {t = t} {ds = ds} x at time size buffer after v c ht) = changed-over a len s t ds (stands x) at time size buffer after v c ht
+
+-- ---- THE THEOREM
+
+continues : (f g : Fragment) → model.Continues f g → Continues (dataOf f) (dataOf g)
+continues f g c = record {
+  same-message = c .same-message;
+  same-stream = ap₂ (λ (u : Bool) (k : ℕ). key-of u (record { 0 = k })) (c .same-order) (c .same-stream);
+  same-mid = c .same-mid;
+  same-ssn = c .same-ssn;
+  next-fsn = c .next-fsn;
+  not-end = c .not-last;
+}
+
+shown-before : Option Fragment → Option DataToSend
+shown-before none = none
+shown-before (some f) = some (dataOf f)
+
+unbroken-shown : (p : Option Fragment) (fs : List Fragment) → UnbrokenBehind model.starts model.Continues p fs → UnbrokenBehind starts Continues (shown-before p) (map dataOf fs)
+unfolding shown-before
+unbroken-shown p [] u = tt
+unbroken-shown p (g ∷ fs) u = ((λ e. behind p (u .0 e)), unbroken-shown (some g) fs (u .1))
+  where
+    behind : (p : Option Fragment) → Behind model.starts model.Continues p g → Behind starts Continues (shown-before p) (dataOf g)
+    behind none b = b
+    behind (some f) b = continues f g b
+
+pub request10-unbroken : Request10-unbroken
+unfolding Request10-unbroken model.Request10-unbroken shown-before
+request10-unbroken a len s ds x =
+    let h = stands x in
+    subst (UnbrokenBehind starts Continues none) (sym (h .shown-as)) (unbroken-shown none (h .fragments) (unbroken.request10-unbroken (optionsWith a len) (queueOf s) (h .fragments) (h .sends)))
+
+pub request10-together : Request10-together
+unfolding Request10-together Request10-unbroken
+request10-together a len s ds x = unbroken.together starts Continues (λ (d : DataToSend). d .«message_id» .0) (λ d e c. c .same-message) ds (request10-unbroken a len s ds x)

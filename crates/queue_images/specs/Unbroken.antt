@@ -1,0 +1,100 @@
+-- The fragments of a message stand together in what queues without interleaving show, changeovers included (document 02, 10/13: "RFC 9260 gives the fragments of a DATA message consecutive
+-- TSNs"), on the words and stores that the calls leave. Assumes nothing.
+use Prim.Native.Nat.{ℕ, _≤_}
+use mathlib.Core.Path.{_≡_}
+use mathlib.Core.Bool.{Bool, true, false}
+use mathlib.Core.List.{List, [], _∷_, _++_}
+use mathlib.Core.Option.{none}
+use lib.ListN.{length, take}
+use Rattle.types.specs.Wrap.{wrap-suc}
+use Rattle.queue_model.specs.Unbroken.{UnbrokenBehind, Together}
+use Rattle.queue_sending.specs.declared.data.DataToSend.{DataToSend}
+use Rattle.queue_sending.specs.declared.data.Produced.{Produced}
+use Rattle.queue_sending.specs.declared.data.Produced.the-variants as produced
+use Rattle.queue_runs.specs.Calls.{Call, add, produce, discard, close, ready-ids, commit, rollback, reset, set-threshold, set-priority, set-interleaving, restore, ask-priority, ask-amount, ask-threshold, ask-total, ask-empty, ask-has-data, ask-streams-ready, ask-readiness, Typed, Answer, called, sent, readied, number, flag, count, truth}
+use Rattle.queue_runs.specs.Run.{State, step}
+use Rattle.queue_runs.specs.Creation.{Arguments, newState, Creates}
+use Rattle.queue_runs.specs.Refusals.{refusal}
+use Rattle.queue_images.specs.Demand2.{Saves, freshState}
+
+-- ------------------------------------------------------------------ lists of fragments
+
+-- e goes on with d's message, as in the model (queue_model: specs/Unbroken): the key has the stream and whether the message is unordered.
+pub record Continues (d e : DataToSend) : Type 0 where
+  pub same-message : e .«message_id» .0 ≡ d .«message_id» .0
+  pub same-stream : e .«data» .«stream_key» ≡ d .«data» .«stream_key»
+  pub same-mid : e .«data» .mid .0 ≡ d .«data» .mid .0
+  pub same-ssn : e .«data» .ssn .0 ≡ d .«data» .ssn .0
+  pub next-fsn : e .«data» .fsn .0 ≡ wrap-suc 32 (d .«data» .fsn .0)
+  pub not-end : d .«data» .«is_end» ≡ false
+
+abbrev pub starts : DataToSend → Bool
+starts d = d .«data» .«is_beginning»
+
+-- Every fragment that is not a first one stands directly behind one that it goes on with.
+abbrev pub Unbroken : List DataToSend → Type 0
+Unbroken ds = UnbrokenBehind starts Continues none ds
+
+-- The fragment in an answer, if it is one.
+abbrev pub dataSent : Produced → List DataToSend
+dataSent (produced.Nothing n) = []
+dataSent (produced.Fragment n d) = d ∷ []
+dataSent (produced.Refused n) = []
+
+abbrev pub dataIn : Answer → List DataToSend
+dataIn (called a) = []
+dataIn (sent a) = dataSent a
+dataIn (readied r) = []
+dataIn (number a) = []
+dataIn (flag a) = []
+dataIn (count n) = []
+dataIn (truth b) = []
+
+-- ------------------------------------------------------------------ what a queue has sent
+
+-- A call that neither switches interleaving on nor restores. (A refused restoring restores nothing.)
+abbrev pub Onward : Call → State → Type 0
+Onward (add time m payload) s = Unit {0}
+Onward (produce es bs time size) s = Unit {0}
+Onward (discard es id k) s = Unit {0}
+Onward (close es id) s = Unit {0}
+Onward ready-ids s = Unit {0}
+Onward commit s = Unit {0}
+Onward rollback s = Unit {0}
+Onward reset s = Unit {0}
+Onward (set-threshold es id t) s = Unit {0}
+Onward (set-priority id p) s = Unit {0}
+Onward (set-interleaving b) s = b ≡ false
+Onward (restore time image) s = refusal (step (restore time image) s .shows .answer) ≡ true
+Onward (ask-priority id) s = Unit {0}
+Onward (ask-amount id) s = Unit {0}
+Onward (ask-threshold id) s = Unit {0}
+Onward ask-total s = Unit {0}
+Onward ask-empty s = Unit {0}
+Onward ask-has-data s = Unit {0}
+Onward ask-streams-ready s = Unit {0}
+Onward ask-readiness s = Unit {0}
+
+-- A new queue without interleaving, in any words and with any bytes in the store: as it is created, or with that choice made.
+pub data New (a : Arguments) (len : ℕ) : State → Type 0 where
+  as-created : {before : State} → Creates a before → length (before .store) ≡ len → New a len (newState a before)
+  as-chosen : {before : State} → Creates a before → length (before .store) ≡ len → New a len (freshState a before false)
+
+-- The queue and all fragments sent until it. A new queue has sent none; then come those that the calls show; and over any number of changeovers, at any points, the list goes on: this queue
+-- is saved into a lent buffer, and a new queue, created alike, restores the image at an allowed time (it is accepted: `Demand2-images`). An image of unknown origin has no place here: the
+-- fragments of its half-sent message are in no list.
+pub data Sends (a : Arguments) (len : ℕ) : State → List DataToSend → Type 0 where
+  begins : {s : State} → New a len s → Sends a len s []
+  goes-on : {s : State} {ds : List DataToSend} → Sends a len s ds → (c : Call) → Typed c → Onward c s → Sends a len (step c s .next) (ds ++ dataIn (step c s .shows .answer))
+  changes-over : {s t : State} {ds : List DataToSend} → Sends a len s ds → (saved time size : ℕ) (buffer after : List ℕ)
+      → Saves s saved buffer after size → New a len t → time ≤ 4611686018427387903
+      → Sends a len (step (restore time (take size after)) t .next) ds
+
+-- The fragments before saving and after restoring, put together: once a message's first fragment is out, the next fragments are the rest of it. It may stop short, where it expires or is
+-- discarded; a head that the whole-queue reset puts back whole is sent again from its first fragment on.
+unfoldable pub Request10-unbroken : Type 0
+Request10-unbroken = (a : Arguments) (len : ℕ) (s : State) (ds : List DataToSend) → Sends a len s ds → Unbroken ds
+
+-- So there is never another message between two fragments of one.
+unfoldable pub Request10-together : Type 0
+Request10-together = (a : Arguments) (len : ℕ) (s : State) (ds : List DataToSend) → Sends a len s ds → Together starts (λ (d : DataToSend). d .«message_id» .0) ds
