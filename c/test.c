@@ -730,6 +730,64 @@ static void restarts(void)
     give_back(g);
 }
 
+/* ---------------------------------------------------------------- a changeover in mid-message (document 02, 10/13) */
+
+/* A queue whose given streams have begun a message of 2,500 bytes each, one alone without interleaving; stream 3 has one that is not
+ * begun. */
+static struct host *begun(const uint16_t *streams, size_t count)
+{
+    struct host *h = new_queue(SMALL_STORE);
+    size_t i;
+    CHECK(dsq_enable_message_interleaving(h->queue, count > 1) == DSQ_ACCEPTED);
+    for (i = 0; i < count; i++)
+        CHECK(plain(h, streams[i], 2500) == DSQ_ACCEPTED && sends(h, 1000, streams[i], 1000, 0, 1, 0));
+    CHECK(plain(h, 3, 2500) == DSQ_ACCEPTED && save(h) == DSQ_ACCEPTED);
+    return h;
+}
+
+/* Its image in a new queue. */
+static struct host *gone_over(struct host *h, uint8_t interleaved)
+{
+    struct host *g = new_queue(SMALL_STORE);
+    CHECK(dsq_enable_message_interleaving(g->queue, interleaved) == DSQ_ACCEPTED);
+    CHECK(restore(g, h->image, (size_t)h->out[DSQ_OUT_VALUE]) == DSQ_ACCEPTED);
+    return g;
+}
+
+/* The rest of such a message, and a whole one, in fragments one behind the other. */
+static int sends_rest(struct host *h, uint16_t stream)
+{
+    return sends(h, 1000, stream, 1000, 1000, 0, 0) && sends(h, 1000, stream, 500, 2000, 0, 1);
+}
+
+static int sends_whole(struct host *h, uint16_t stream)
+{
+    return sends(h, 1000, stream, 1000, 0, 1, 0) && sends_rest(h, stream);
+}
+
+/* "Restoring without interleaving shall remember the stream whose first message is half-sent, the smallest id if several are, and send its
+ * rest first." */
+static void mid_message(void)
+{
+    static const uint16_t streams[] = {7, 5};
+    struct host *h = begun(streams + 1, 1), *g = gone_over(h, 0), *f;
+    CHECK(save(g) == DSQ_ACCEPTED && memcmp(g->image, h->image, (size_t)h->out[DSQ_OUT_VALUE]) == 0);
+    f = gone_over(g, 0);
+    CHECK(sends_rest(g, 5) && sends_whole(g, 3) && sends_nothing(g));
+    CHECK(plain(f, 1, 2500) == DSQ_ACCEPTED && sends_rest(f, 5) && sends_whole(f, 1) && sends_whole(f, 3) && sends_nothing(f));
+    give_back(f);
+    give_back(g);
+    g = gone_over(h, 1);
+    CHECK(sends(g, 1000, 3, 1000, 0, 1, 0) && sends(g, 1000, 5, 1000, 1000, 0, 0));
+    give_back(g);
+    give_back(h);
+    h = begun(streams, 2);
+    g = gone_over(h, 0);
+    CHECK(sends_rest(g, 5) && sends_whole(g, 3) && sends_rest(g, 7) && sends_nothing(g));
+    give_back(g);
+    give_back(h);
+}
+
 /* ---------------------------------------------------------------- the ends of the domain */
 
 static void limits(void)
@@ -1215,6 +1273,7 @@ int main(void)
     amounts();
     closing_expires();
     restarts();
+    mid_message();
     limits();
     refusals();
     planning();

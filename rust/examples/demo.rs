@@ -1,8 +1,9 @@
 //! A small job of a card feeder: profiles go to eight writing heads, one stream a head, through the send queue.
 //!
-//! First the heads get their first packets in a wanted order, and a closed head whose half-sent profile runs out of time is ready at once. Then comes the job: the heads' backlogs run low and are topped up, a head's job is
-//! closed in the middle of a profile, and half-way the queue is carried to a second host as an image. At the end every profile is compared byte
-//! for byte with what was queued.
+//! First the heads get their first packets in a wanted order, a closed head whose half-sent profile runs out of time is ready at once, and a
+//! queue without interleaving is carried to a second host in the middle of a profile. Then comes the job: the heads' backlogs run low and
+//! are topped up, a head's job is closed in the middle of a profile, and half-way the queue is carried to a second host as an image. At the
+//! end every profile is compared byte for byte with what was queued.
 
 use desqariy::*;
 use std::collections::BTreeMap;
@@ -199,9 +200,35 @@ fn closing_expires() -> Outcome<()> {
     Ok(())
 }
 
+/// Without interleaving a changeover in the middle of a profile: the second host sends its rest before it begins another one.
+fn mid_profile() -> Outcome<()> {
+    let (begun, other, now) = (StreamId(5), StreamId(3), SocketTime::zero());
+    let mut first = SendQueue::new(PACKET, &options())?;
+    let mut link = Receiver::default();
+    first.add(now, Message::new(begun, PpId(53), &profile(501)), &SendOptions::default())?;
+    link.take(&first.produce(now, PACKET)?.ok_or("nothing was sent")?)?;
+    first.add(now, Message::new(other, PpId(53), &profile(301)), &SendOptions::default())?;
+    let mut second = SendQueue::new(PACKET, &options())?;
+    second.restore(now, &first.save(now)?)?;
+    let mut seen = Vec::new();
+    while let Some(d) = second.produce(now, PACKET)? {
+        link.take(&d)?;
+        seen.push(d.data.stream_key.id());
+    }
+    println!(
+        "changeover in mid-profile: head {begun} has begun, head {other} waits; the second host's packets go to the heads {seen:?}"
+    );
+    seen.dedup();
+    if seen != [begun, other] || link.whole != [(begun, profile(501)), (other, profile(301))] {
+        return Err("the begun profile was interrupted".into());
+    }
+    Ok(())
+}
+
 fn main() -> Outcome<()> {
     wanted_order()?;
     closing_expires()?;
+    mid_profile()?;
     println!("first host: profiles for eight heads, interleaved; head 1 has double weight; the mark is {MARK} bytes");
     let mut feeder = Feeder {
         queue: new_queue()?,

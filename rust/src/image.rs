@@ -8,8 +8,8 @@ use crate::refusal::Refusal;
 use crate::time::SocketTime;
 
 impl SendQueue {
-    /// The queue's image: counters, priorities and waiting messages, with the time that each has left. dcSCTP's `add_to_handover_state` has
-    /// the same in a record.
+    /// The queue's image: counters, priorities and waiting messages, with the time that each has left and how much of it was sent. dcSCTP's
+    /// `add_to_handover_state` has the same in a record. Saving may come in the middle of a message, and changes nothing.
     ///
     /// Refused: [`Refusal::TimeLate`].
     pub fn save(&self, now: SocketTime) -> Result<Vec<u8>, Refusal> {
@@ -31,6 +31,10 @@ impl SendQueue {
 
     /// Makes a new queue the one of the image. Its streams are open, with the default thresholds. dcSCTP's `restore_from_state` does it from
     /// a record. The image does not tell the saved queue's [`RestartRule`](crate::RestartRule); one of the two has a rule more for images.
+    ///
+    /// Without interleaving the rest of a half-sent message comes first, before any other message is begun, also one that is added
+    /// meanwhile; of several half-sent messages (the saved queue had interleaving) the rest of the one with the smallest stream id. dcSCTP
+    /// may begin another message first. With interleaving, which is to be chosen before restoring, the streams take turns as ever.
     ///
     /// Refused: [`Refusal::TimeLate`], [`Refusal::QueueUsed`], [`Refusal::ImageWrong`], [`Refusal::PriorityOther`],
     /// [`Refusal::ImageLarge`].

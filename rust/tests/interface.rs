@@ -302,6 +302,62 @@ fn a_strict_queue_refuses_a_message_put_back_with_its_numbers() {
     }
 }
 
+/// Stream, first mark and last mark of all fragments.
+fn fragments(q: &mut SendQueue) -> Vec<(u16, bool, bool)> {
+    let mut all = Vec::new();
+    while let Some(d) = q.produce(NOW, 1_000).unwrap() {
+        all.push((d.data.stream_key.id().0, d.data.is_beginning, d.data.is_end));
+    }
+    all
+}
+
+fn restored(image: &[u8], interleaved: bool) -> SendQueue {
+    let mut q = queue();
+    q.enable_message_interleaving(interleaved);
+    q.restore(NOW, image).unwrap();
+    q
+}
+
+/// "Restoring without interleaving shall remember the stream whose first message is half-sent, .. and send its rest first."
+#[test]
+fn the_rest_of_a_half_sent_message_comes_first_after_a_changeover() {
+    let mut q = queue();
+    q.add(NOW, message(5, &[5; 2_500]), &SendOptions::default()).unwrap();
+    q.produce(NOW, 1_000).unwrap();
+    q.add(NOW, message(3, &[3; 1_500]), &SendOptions::default()).unwrap();
+    let image = q.save(NOW).unwrap();
+    let rest_first = [(5, false, false), (5, false, true), (3, true, false), (3, false, true)];
+
+    let mut second = restored(&image, false);
+    assert_eq!(second.save(NOW).unwrap(), image);
+    let mut third = restored(&second.save(NOW).unwrap(), false);
+    assert_eq!(fragments(&mut second), rest_first);
+    third.add(NOW, message(1, b"m"), &SendOptions::default()).unwrap();
+    let ones = [(1, true, true)];
+    assert_eq!(fragments(&mut third), [&rest_first[..2], &ones, &rest_first[2..]].concat());
+    let by_turns = [(3, true, false), (5, false, false), (3, false, true), (5, false, true)];
+    assert_eq!(fragments(&mut restored(&image, true)), by_turns);
+}
+
+/// ".. the smallest id if several are .."
+#[test]
+fn of_several_half_sent_messages_the_smallest_stream_goes_on() {
+    let mut q = queue();
+    q.enable_message_interleaving(true);
+    for stream in [7, 5] {
+        q.add(NOW, message(stream, &[1; 2_500]), &SendOptions::default()).unwrap();
+        q.produce(NOW, 1_000).unwrap();
+    }
+    q.add(NOW, message(3, b"m"), &SendOptions::default()).unwrap();
+    let image = q.save(NOW).unwrap();
+    let seen = fragments(&mut restored(&image, false));
+    assert_eq!(
+        seen,
+        [(5, false, false), (5, false, true), (3, true, true), (7, false, false), (7, false, true)],
+        "the rest of 7 comes in its turn"
+    );
+}
+
 #[test]
 fn readiness_is_the_choice_at_creation() {
     for (choice, ready) in [(false, HandoverReadiness::SEND_QUEUE_NOT_EMPTY), (true, HandoverReadiness::READY)] {

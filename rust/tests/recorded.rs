@@ -1,6 +1,6 @@
 //! The repository's recorded traces, with the answers of dcSCTP's own code and the amounts that document 02 adds to its events (after an
-//! expiry as in request 3/13, and on queues of the strict rule of 6/13, the reference's), played on a `SendQueue`: every answer must be the
-//! same.
+//! expiry as in request 3/13 or a restoring as in 10/13, and on queues of the strict rule of 6/13, the reference's), played on a
+//! `SendQueue`: every answer must be the same.
 
 mod player;
 

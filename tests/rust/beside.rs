@@ -4,8 +4,9 @@
 //!
 //! Compared are refusals, fragments with all that goes with them, events, ready ids, images byte for byte, and after each call the answers
 //! to all questions. Of events kind and number are compared; the original's have no amount, so that of ours is held to the original's state.
-//! At the expiry of a closing stream's half-sent message (document 02, 3/13) a start ends. At the first difference the calls since the last
-//! start are shown, in the format of the reference's trace tool.
+//! A start ends at the expiry of a closing stream's half-sent message (document 02, 3/13), and after the restoring without interleaving of
+//! an image with a half-sent message (10/13). At the first difference the calls since the last start are shown, in the format of the
+//! reference's trace tool.
 
 #![allow(dead_code, unused_imports)]
 

@@ -16,7 +16,9 @@ pub struct Tally {
     pub calls: u64,
     fragments: u64,
     bytes: u64,
-    restored: u64,
+    /// Images restored without interleaving, with no half-sent message, with one and with several; and those restored with interleaving.
+    restored: [u64; 3],
+    interleaved: u64,
     events: [u64; 5],
     /// Low marks that told the amount after the call, and those that told a step before it.
     amounts: [u64; 2],
@@ -41,7 +43,6 @@ impl Tally {
                 self.fragments += 1;
                 self.bytes += answer.bytes.len() as u64;
             }
-            Call::Over { .. } | Call::Restore { .. } if answer.refusal == 0 => self.restored += 1,
             _ => {}
         }
     }
@@ -49,12 +50,13 @@ impl Tally {
 
 impl fmt::Display for Tally {
     fn fmt(&self, f: &mut fmt::Formatter<'_>) -> fmt::Result {
+        write!(f, "{} fragments with {} bytes", thousands(self.fragments), thousands(self.bytes))?;
+        let [none, one, several] = self.restored.map(thousands);
         write!(
             f,
-            "{} fragments with {} bytes, {} images restored",
-            thousands(self.fragments),
-            thousands(self.bytes),
-            thousands(self.restored)
+            "\nimages restored without interleaving: {none} without a half-sent message, {one} with one, {several} with several (both end \
+             a start); with interleaving: {}",
+            thousands(self.interleaved)
         )?;
         let list = |counts: &[u64]| -> String {
             let seen = counts.iter().enumerate().skip(1).filter(|(_, n)| **n > 0);
@@ -127,7 +129,24 @@ impl Pair {
             self.image.clone_from(&want.bytes);
         }
         self.ask_after(&call);
+        if let Call::Over { .. } | Call::Restore { .. } = call
+            && want.refusal == 0
+        {
+            self.over = self.restored_otherwise();
+        }
         want
+    }
+
+    /// Counts a restored image; whether the original goes on otherwise. "The Rust is matched on images without a half-sent message and on
+    /// those restored with interleaving" (document 02, 10/13).
+    fn restored_otherwise(&mut self) -> bool {
+        if self.interleaving {
+            self.tally.interleaved += 1;
+            return false;
+        }
+        let half_sent = self.theirs().half_sent();
+        self.tally.restored[half_sent.min(2)] += 1;
+        half_sent > 0
     }
 
     /// Writes the call down. A lent image buffer has its own line, before and after.

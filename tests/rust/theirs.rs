@@ -76,6 +76,11 @@ impl Theirs {
         record
     }
 
+    /// How many messages are half-sent.
+    pub fn half_sent(&self) -> usize {
+        self.record(0).tx.queued_messages.iter().filter(|m| m.remaining_offset > 0).count()
+    }
+
     fn too_many(&self, stream: u16) -> bool {
         self.known.len() >= 256 && !self.known.contains(&stream)
     }
