@@ -77,8 +77,8 @@ fn drop_expired(
     drop_in_state(queue, events, k, id, row, s, m)
 }
 
-// Passes over the expired heads, so that the choice is one to send from or none: "a function that calls itself with one waiting
-// message fewer". Its frame is small. What it leaves where it is refused is not kept.
+// Passes over the expired heads, so that the choice is one to send from or none: a loop, "with the same answer, events, fragment and
+// next state on every input" as calls with one waiting message fewer. What it leaves where it is refused is not kept.
 fn pass_over(
     queue: &mut [u64; QUEUE_WORDS],
     events: &mut [u64],
@@ -88,19 +88,34 @@ fn pass_over(
 ) -> Call
     ensures { λ r. ⌜ calledWith r (now (queue .exit)) (now (events .exit)) ≡ passed waiting (now (queue .entry)) (now (events .entry)) time k ⌝ }
 {
-    let found = look_ahead(&*queue, time);
-    match found {
-        Look::Nothing => Call::Accepted(k),
-        Look::Broken => Call::Refused(16),
-        Look::Chosen(_, _, _) => Call::Accepted(k),
-        Look::Expired(id, row) => {
-            if waiting == 0 {
+    let mut left = waiting;
+    let mut count = k;
+    loop {
+        let found = look_ahead(&*queue, time);
+        match found {
+            Look::Nothing => {
+                return Call::Accepted(count);
+            }
+            Look::Broken => {
                 return Call::Refused(16);
             }
-            let dropped = drop_expired(queue, events, k, id, row);
-            match dropped {
-                Call::Accepted(k1) => pass_over(queue, events, time, waiting - 1, k1),
-                Call::Refused(code) => Call::Refused(code),
+            Look::Chosen(_, _, _) => {
+                return Call::Accepted(count);
+            }
+            Look::Expired(id, row) => {
+                if left == 0 {
+                    return Call::Refused(16);
+                }
+                let dropped = drop_expired(queue, events, count, id, row);
+                match dropped {
+                    Call::Accepted(k1) => {
+                        count = k1;
+                        left -= 1;
+                    }
+                    Call::Refused(code) => {
+                        return Call::Refused(code);
+                    }
+                }
             }
         }
     }
