@@ -3,7 +3,8 @@
  *
  * usage: hard [CALLS] [SEED]
  *
- * It ends when so many calls were on damaged words or with an image; those on the words of a queue come on top. Each answer must be one of
+ * It ends when so many calls were on damaged words or with an image; those on the words of a queue come on top. Then, for each 400 of these
+ * calls, one next fragment where up to 1,024 messages have expired and some of the words in use were damaged. Each answer must be one of
  * those that the header lists behind the function, and each event of a kind that there is, without an amount where its kind has none; at
  * one refusal in eight, and at every refused restoring, all that was lent is compared with what it was before the call. */
 #include "send_queue.h"
@@ -269,6 +270,32 @@ static void damage(void) {
     }
 }
 
+/* One to three of the words that so many messages on so many streams use become others: of the header, of the streams, a message's length
+ * or next place, the scheduler's rows. */
+static void damage_used(uint64_t messages, uint64_t streams) {
+    uint64_t i;
+    for (i = 1 + below(3); i > 0; i--) {
+        uint64_t at = below(3) == 0 ? 6 + below(12) : below(3) == 0 ? 32 + below(2 * streams) : below(3) == 0 ? 544 + below(10 * streams)
+                    : below(2) ? 3104 + 16 * below(messages) + 12 + below(3) : 19488 + below(5 * streams);
+        now.queue[at] = below(2) ? odd_number() : now.queue[below(DSQ_QUEUE_WORDS)];
+    }
+}
+
+/* A next fragment past expired messages on such words: what it refuses it leaves as it was. Tells the answer, or 99. */
+static uint8_t past_expired(void) {
+    uint64_t messages = below(3) ? 1 + below(40) : 1 + below(DSQ_MAX_MESSAGES), streams = 1 + below(below(2) ? 4 : DSQ_MAX_STREAMS), i;
+    uint8_t payload[5] = {0}, r;
+    if (dsq_create(now.queue, now.store, STORE, 1200, 256, 100, 500, 1) != 0 || dsq_enable_message_interleaving(now.queue, (uint8_t)below(2)) != 0)
+        return 99;
+    for (i = 0; i < messages; i++)
+        if (dsq_add(now.queue, now.store, STORE, payload, 1 + below(5), 0, (uint16_t)below(streams), 53, 0, below(64) != 0, 0, 0, 0, below(2)) != 0)
+            return 99;
+    damage_used(messages, streams);
+    keep();
+    r = dsq_produce(now.queue, now.store, STORE, now.events, DSQ_EVENT_WORDS, now.buffer, BUFFER, now.out, 10000000, BUFFER);
+    return r != 0 && (r > 16 || !(listed[PRODUCE] >> r & 1) || changed()) ? 99 : r;
+}
+
 int main(int argc, char **argv) {
     long wanted = argc > 1 ? atol(argv[1]) : 1000000, n, calls, left = 0, on_damaged = 0, images = 0, accepted = 0, refused[17] = {0};
     uint64_t *good = block(QUEUE_BYTES);
@@ -328,5 +355,17 @@ int main(int argc, char **argv) {
     for (n = 1; n <= 16; n++)
         printf(" %ld:%ld", n, refused[n]);
     printf("; every answer is listed, a refused call changed nothing\n");
+    for (n = calls = accepted = 0; calls < wanted / 400; calls++) {
+        uint8_t r = past_expired();
+        if (r == 99) {
+            printf("hard: next fragment %ld past expired messages has a wrong answer, or is refused and something has changed\n", calls);
+            return 1;
+        }
+        if (r == 0)
+            accepted++;
+        else
+            n++;
+    }
+    printf("hard: %ld next fragments past expired messages on damaged words; %ld accepted, %ld refused, which changed nothing\n", calls, accepted, n);
     return 0;
 }

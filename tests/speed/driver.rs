@@ -11,6 +11,7 @@ include!("original.rs");
 
 mod clock;
 mod dropping;
+mod expired;
 mod images;
 mod planning;
 mod sending;
@@ -18,7 +19,7 @@ mod sides;
 mod stack;
 
 fn main() {
-    let stack = std::env::args().nth(1).map_or(512, |a| a.parse().expect("usage: driver [KB OF STACK]"));
+    let stack = std::env::args().nth(1).map_or(256, |a| a.parse().expect("usage: driver [KB OF STACK]"));
     stack::pass_over(stack);
     println!("\n| what (size asked for: 1,200) | ours, ns a call | the Rust, ns a call | ratio |\n|---|---|---|---|");
     sending::profiles();
@@ -27,5 +28,6 @@ fn main() {
     images::saving_and_restoring();
     sending::growth();
     planning::planning();
+    expired::passing();
     println!("\nProfile 3 has 600 messages: 1,024 of 3,000 bytes do not fit into the largest store, 2,000,000 bytes.");
 }

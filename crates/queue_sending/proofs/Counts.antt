@@ -1,5 +1,6 @@
 -- What passing over leaves of the list of events: how many are counted, how long the list stays, and what is behind its places. Assumes nothing.
 use mathlib.Core.Path.{_≡_, refl, _∙_}
+use mathlib.Core.Logic.{_⊎_, inl, inr, ⊎-elim}
 use mathlib.Core.Bool.{Bool, true, false}
 use mathlib.Core.List.{List, [], _∷_}
 use Prim.Native.Nat.{ℕ, zero, suc, _+_, _-_, _*_, _≤_, _<_}
@@ -211,41 +212,87 @@ drop-set (suc n) [] i v h = refl
 drop-set (suc n) (x ∷ xs) zero v h = refl
 drop-set (suc n) (x ∷ xs) (suc i) v h = drop-set n xs i v (omega arith)
 
-put-behind : (es : List ℕ) (k kind number amount : ℕ) → k ≤ 2304 → behind (putEvent es k kind number amount) ≡ behind es
+put-far : (m : ℕ) (es : List ℕ) (k kind number amount : ℕ) → (k + 1) * placeWords ≤ m → drop m (putEvent es k kind number amount) ≡ drop m es
 unfolding putEvent
-put-behind es k kind number amount h = drop-set eventWords (set (set es (k * placeWords) kind) (k * placeWords + 1) number) (k * placeWords + 2) amount (omega arith) ∙ drop-set eventWords (set es (k * placeWords) kind) (k * placeWords + 1) number (omega arith) ∙ drop-set eventWords es (k * placeWords) kind (omega arith)
+put-far m es k kind number amount h = drop-set m (set (set es (k * placeWords) kind) (k * placeWords + 1) number) (k * placeWords + 2) amount (omega arith) ∙ drop-set m (set es (k * placeWords) kind) (k * placeWords + 1) number (omega arith) ∙ drop-set m es (k * placeWords) kind (omega arith)
 
-pick-behind : (b : Bool) (x y : Notes) (l : List ℕ) → (b ≡ true → behind (x .events) ≡ l) → (b ≡ false → behind (y .events) ≡ l) → behind (pick b x y .events) ≡ l
-pick-behind true x y l e g = e refl
-pick-behind false x y l e g = g refl
+-- of the most places from k on, those that the list has are in its first m words
+abbrev pub Fits : ℕ → ℕ → ℕ → Type 0
+Fits m k most = (j : ℕ) → j ≤ 2304 → j < k + most → (j + 1) * placeWords ≤ m
 
-noted-behind : (es : List ℕ) (k kind number amount : ℕ) → behind (noted es k kind number amount .events) ≡ behind es
-unfolding noted
-noted-behind es k kind number amount =
-    pick-behind (ltb 2304 k) (notes es 2306) _ (behind es) (λ e. refl)
-    (λ f. pick-behind (ltb (length es) eventWords) (notes es 2306) (notes (putEvent es k kind number amount) (k + 1)) (behind es) (λ e. refl) (λ e. put-behind es k kind number amount (ltb-false 2304 k f)))
+-- x is es with at most n events in the places from k on, all in the first m words; its count fits them or says that the list is full
+pub record Wrote (m k n : ℕ) (es : List ℕ) (x : Notes) : Type 0 where
+  pub count : (x .count ≤ k + n) ⊎ (2304 < x .count)
+  pub far : drop m (x .events) ≡ drop m es
 
-low-behind : (es : List ℕ) (k kind number threshold old new : ℕ) → behind (lowNoted es k kind number threshold old new .events) ≡ behind es
-unfolding lowNoted
-low-behind es k kind number threshold old new =
-    pick-behind (leb old threshold) (notes es k) _ (behind es) (λ e. refl)
-    (λ f. pick-behind (ltb threshold new) (notes es k) (noted es k kind number new) (behind es) (λ e. refl) (λ e. noted-behind es k kind number new))
+module _ (m k most : ℕ) (fits : Fits m k most) (es : List ℕ) where
+  wrote-full : (n : ℕ) (x : Notes) → Wrote m k n es x → Wrote m k (suc n) es (notes (x .events) 2306)
+  wrote-full n x w = record { count = inr (omega arith); far = w .far }
 
-lifecycle-behind : (es : List ℕ) (k id : ℕ) → behind (lifecycleNoted es k id .events) ≡ behind es
-unfolding lifecycleNoted
-lifecycle-behind es k id =
-    pick-behind (eqb id 0) (notes es k) (noted (noted es k 3 id 0 .events) (noted es k 3 id 0 .count) 4 id 0) (behind es) (λ e. refl)
-    (λ e. noted-behind (noted es k 3 id 0 .events) (noted es k 3 id 0 .count) 4 id 0 ∙ noted-behind es k 3 id 0)
+  wrote-more : (n : ℕ) (x : Notes) → Wrote m k n es x → Wrote m k (suc n) es x
+  wrote-more n x w = record { count = ⊎-elim (λ c. inl (omega arith)) (λ l. inr l) (w .count); far = w .far }
+
+  wrote-put : (n : ℕ) (x : Notes) (kind number amount : ℕ) → n < most → Wrote m k n es x → x .count ≤ 2304
+      → Wrote m k (suc n) es (notes (putEvent (x .events) (x .count) kind number amount) (x .count + 1))
+  wrote-put n x kind number amount l w h = by (w .count)
+    where
+      by : (x .count ≤ k + n) ⊎ (2304 < x .count) → Wrote m k (suc n) es (notes (putEvent (x .events) (x .count) kind number amount) (x .count + 1))
+      by (inr g) = absurd (omega arith)
+      by (inl g) = record { count = inl (omega arith); far = put-far m (x .events) (x .count) kind number amount (fits (x .count) h (omega arith)) ∙ w .far }
+
+  wrote-noted : (n : ℕ) (x : Notes) (kind number amount : ℕ) → n < most → Wrote m k n es x → Wrote m k (suc n) es (noted (x .events) (x .count) kind number amount)
+  unfolding noted
+  wrote-noted n x kind number amount l w = by (ltb 2304 (x .count)) (ltb (length (x .events)) eventWords) refl
+    where
+      by : (a b : Bool) → ltb 2304 (x .count) ≡ a
+          → Wrote m k (suc n) es (pick a (notes (x .events) 2306) (pick b (notes (x .events) 2306) (notes (putEvent (x .events) (x .count) kind number amount) (x .count + 1))))
+      by true b e = wrote-full n x w
+      by false true e = wrote-full n x w
+      by false false e = wrote-put n x kind number amount l w (ltb-false 2304 (x .count) e)
+
+  wrote-low : (n : ℕ) (x : Notes) (kind number threshold old new : ℕ) → n < most → Wrote m k n es x → Wrote m k (suc n) es (lowNoted (x .events) (x .count) kind number threshold old new)
+  unfolding lowNoted
+  wrote-low n x kind number threshold old new l w = by (leb old threshold) (ltb threshold new)
+    where
+      by : (a b : Bool) → Wrote m k (suc n) es (pick a (notes (x .events) (x .count)) (pick b (notes (x .events) (x .count)) (noted (x .events) (x .count) kind number new)))
+      by true b = wrote-more n x w
+      by false true = wrote-more n x w
+      by false false = wrote-noted n x kind number new l w
+
+  wrote-lifecycle : (n : ℕ) (x : Notes) (id : ℕ) → suc n < most → Wrote m k n es x → Wrote m k (suc (suc n)) es (lifecycleNoted (x .events) (x .count) id)
+  unfolding lifecycleNoted
+  wrote-lifecycle n x id l w = by (eqb id 0)
+    where
+      by : (a : Bool) → Wrote m k (suc (suc n)) es (pick a (notes (x .events) (x .count)) (noted (noted (x .events) (x .count) 3 id 0 .events) (noted (x .events) (x .count) 3 id 0 .count) 4 id 0))
+      by true = wrote-more (suc n) x (wrote-more n x w)
+      by false = wrote-noted (suc n) _ 4 id 0 l (wrote-noted n x 3 id 0 (omega arith) w)
+
+  wrote-sent : (n : ℕ) (x : Notes) (ws : List ℕ) (id : ℕ) (s : OutgoingStream) (bytes : ℕ) → suc n < most → Wrote m k n es x
+      → Wrote m k (suc (suc n)) es (sentNotes ws (x .events) (x .count) id s bytes)
+  unfolding sentNotes streamNotes totalNotes
+  wrote-sent n x ws id s bytes l w =
+      wrote-low (suc n) (totalNotes ws (x .events) (x .count) bytes) 1 id (s .«low_threshold») (s .«buffered_amount») (s .«buffered_amount» - bytes) l
+      (wrote-low n x 2 0 (optionsAt ws .«total_threshold») (totalsAt ws .total) (totalsAt ws .total - bytes) (omega arith) w)
+
+  -- the events of one drop, at most four
+  pub wrote-dropped : (n : ℕ) (x : Notes) (ws : List ℕ) (id : ℕ) (s : OutgoingStream) (bytes lifecycle : ℕ) → suc (suc (suc n)) < most → Wrote m k n es x
+      → Wrote m k (suc (suc (suc (suc n)))) es (dropNotes ws (x .events) (x .count) id s bytes lifecycle)
+  unfolding dropNotes
+  wrote-dropped n x ws id s bytes lifecycle l w =
+      wrote-lifecycle (suc (suc n)) (sentNotes ws (x .events) (x .count) id s bytes) lifecycle l (wrote-sent n x ws id s bytes (omega arith) w)
+
+pub wrote-none : (m k : ℕ) (es : List ℕ) → Wrote m k 0 es (notes es k)
+wrote-none m k es = record { count = inl (omega arith); far = refl }
+
+-- all places of the list are in its words
+all-fit : (k most : ℕ) → Fits eventWords k most
+all-fit k most j h l = omega arith
 
 sent-behind : (ws es : List ℕ) (k id : ℕ) (s : OutgoingStream) (n : ℕ) → behind (sentNotes ws es k id s n .events) ≡ behind es
-unfolding sentNotes streamNotes totalNotes
-sent-behind ws es k id s n =
-    low-behind (totalNotes ws es k n .events) (totalNotes ws es k n .count) 1 id (s .«low_threshold») (s .«buffered_amount») (s .«buffered_amount» - n)
-    ∙ low-behind es k 2 0 (optionsAt ws .«total_threshold») (totalsAt ws .total) (totalsAt ws .total - n)
+sent-behind ws es k id s n = wrote-sent eventWords k 2 (all-fit k 2) es 0 (notes es k) ws id s n (omega arith) (wrote-none eventWords k es) .far
 
 drop-behind : (ws es : List ℕ) (k id : ℕ) (s : OutgoingStream) (n lifecycle : ℕ) → behind (dropNotes ws es k id s n lifecycle .events) ≡ behind es
-unfolding dropNotes
-drop-behind ws es k id s n lifecycle = lifecycle-behind (sentNotes ws es k id s n .events) (sentNotes ws es k id s n .count) lifecycle ∙ sent-behind ws es k id s n
+drop-behind ws es k id s n lifecycle = wrote-dropped eventWords k 4 (all-fit k 4) es 0 (notes es k) ws id s n lifecycle (omega arith) (wrote-none eventWords k es) .far
 
 call-behind : (b : Bool) (x y : CalledWith) (l : List ℕ) → behind (x .events) ≡ l → behind (y .events) ≡ l → behind (pick b x y .events) ≡ l
 call-behind true x y l e g = e

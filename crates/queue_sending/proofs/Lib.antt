@@ -1,3 +1,4 @@
 -- What the proofs of several functions use, and what holds of the call: a refused one changes nothing. Assumes nothing.
 pub mod Counts
 pub mod Passes
+pub mod Logged

@@ -2,10 +2,10 @@
 use mathlib.Core.Path.{_≡_, refl, sym, ap, subst, _∙_}
 use mathlib.Core.Bool.{Bool, true, false}
 use mathlib.Core.List.{List, [], _∷_, _++_}
-use Prim.Native.Nat.{ℕ, zero, suc, _+_, _-_, _≤_, _<_}
+use Prim.Native.Nat.{ℕ, zero, suc, _+_, _-_, _*_, _≤_, _<_}
 use native.Mathlib.Numerals.{add-one, sub-one}
 use native.Mathlib.Omega.{arith}
-use borrow.Author.Tests.{lt-ltb, le-ltb, ltb-false}
+use borrow.Author.Tests.{lt-ltb, le-ltb, ltb-true, ltb-false}
 use lib.Dec.{ltb, eqb}
 use lib.ListN.{length, take, drop, getD, set, take-append-drop}
 use Rattle.queue_words.specs.Flags.{pick}
@@ -18,15 +18,17 @@ use Rattle.queue_words.specs.Header.{optionsAt, totalsAt}
 use Rattle.queue_words.specs.declared.header.Totals.{Totals}
 use Rattle.queue_words.specs.declared.items.Item.{Item}
 use Rattle.queue_words.specs.declared.streams.OutgoingStream.{OutgoingStream}
-use Rattle.queue_streams.specs.Events.{eventWords}
+use Rattle.queue_streams.specs.Events.{placeWords, eventWords}
 use Rattle.queue_streams.specs.Settings.{CalledWith, calledWith}
 use Rattle.queue_streams.specs.declared.answers.Call.{Call}
 use Rattle.queue_streams.specs.declared.answers.Call.the-variants as call
+use Rattle.undo_log.specs.Log.{header, undone}
 use Rattle.queue_sending.specs.Choice.{lookAhead}
+use Rattle.queue_sending.specs.Passing.{Kept}
 use Rattle.queue_sending.specs.Data.{dataToSend, ProducedWith, producedWith, refusedWith}
 use Rattle.queue_sending.specs.Fragment.{leastOf, sendCode, writtenSent, sent, handedOut}
 use Rattle.queue_sending.specs.Numbers.{numberedItem, numberedStream}
-use Rattle.queue_sending.specs.Produce.{produceCode, expiredDropped, afterLook, afterDrop, afterCall, passOver, afterChoice, afterTurn, afterDropped, passed, sentChosen, sentAfter, refusal, copied, settledAs, settled, pastOf, producedPast, produceNext}
+use Rattle.queue_sending.specs.Produce.{produceCode, expiredDropped, afterLook, afterDrop, afterCall, passOver, afterChoice, afterTurn, afterDropped, passed, sentFound, sentChosen, sentAfter, expiredFound, refusal, copied, settledAs, settled, pastFrom, pastOf, producedPast, produceNext}
 use Rattle.queue_sending.proofs.Counts.{behind, pass-behind}
 use Rattle.queue_sending.specs.declared.choice.Look.{Look}
 use Rattle.queue_sending.specs.declared.choice.Look.the-variants as look
@@ -285,31 +287,148 @@ put-back : (n : ℕ) (zs es v : List ℕ) → n ≤ length es → drop n v ≡ d
 unfolding copied
 put-back n zs es v h e = rw (take-again n es (drop n zs) h, e) (take-append-drop n es)
 
-module _ (ws st es bs : List ℕ) (time size n : ℕ) (r : Produced) (l v u : List ℕ) (ep : producedWith r l v u ≡ passOver n ws st es bs time size 0) (q : Bool) (eq : q ≡ refusal r) where
-  past-is : settled ws es bs (producedWith r l v u) ≡ pastOf ws st es bs time size n
-  unfolding pastOf
+-- what leaves all as it was where it is refused is settled
+settled-is : (ws es bs : List ℕ) (p : ProducedWith) → Stays ws es bs p → p ≡ settled ws es bs p
+settled-is ws es bs p x = by (p .answer) refl
+  where
+    same : (code : ℕ) (a : Produced) (l v u : List ℕ) → a ≡ produced.Refused code → l ≡ ws → v ≡ es → u ≡ bs → producedWith a l v u ≡ refusedWith code ws es bs
+    same code a l v u e el ev eu = rw (e, el, ev, eu)
+
+    by : (r : Produced) → p .answer ≡ r → p ≡ settledAs ws es bs p r
+    by (produced.Nothing k) e = refl
+    by (produced.Fragment k d) e = refl
+    by (produced.Refused code) e = same code (p .answer) (p .words) (p .events) (p .buffer) e (x .stays code e .0) (x .stays code e .1) (x .stays code e .2)
+
+-- what is settled leaves all as it was where it is refused
+settled-stays : (ws es bs : List ℕ) (p : ProducedWith) → Stays ws es bs (settled ws es bs p)
+settled-stays ws es bs p = by (p .answer) refl
+  where
+    by : (r : Produced) → p .answer ≡ r → Stays ws es bs (settledAs ws es bs p r)
+    by (produced.Nothing k) e = record { stays = λ c h. stay-nothing k ws es bs (p .words) (p .events) (p .buffer) .stays c (sym e ∙ h) }
+    by (produced.Fragment k d) e = record { stays = λ c h. stay-fragment k d ws es bs (p .words) (p .events) (p .buffer) .stays c (sym e ∙ h) }
+    by (produced.Refused code) e = stay-refused code ws es bs
+
+-- refused when settled elsewhere, it is refused when settled here
+refused-settled : (ws es bs us vs : List ℕ) (p : ProducedWith) (code : ℕ) → settled us vs bs p .answer ≡ produced.Refused code → settled ws es bs p ≡ refusedWith code ws es bs
+refused-settled ws es bs us vs p code h = by (p .answer) refl
+  where
+    stay-none : (k : ℕ) → produced.Nothing k ≡ produced.Refused code → ⊥
+    stay-none k z = let y : _≡_ {A = ℕ} 0 1 = cc in omega arith
+
+    stay-some : (k : ℕ) (d : DataToSend) → produced.Fragment k d ≡ produced.Refused code → ⊥
+    stay-some k d z = let y : _≡_ {A = ℕ} 0 1 = cc in omega arith
+
+    by : (r : Produced) → p .answer ≡ r → settled ws es bs p ≡ refusedWith code ws es bs
+    by (produced.Nothing k) e =
+        let q : settled us vs bs p ≡ p = ap (λ (x : Produced). settledAs us vs bs p x) e in
+        absurd (stay-none k (sym e ∙ ap (λ (x : ProducedWith). x .answer) (sym q) ∙ h))
+    by (produced.Fragment k d) e =
+        let q : settled us vs bs p ≡ p = ap (λ (x : Produced). settledAs us vs bs p x) e in
+        absurd (stay-some k d (sym e ∙ ap (λ (x : ProducedWith). x .answer) (sym q) ∙ h))
+    by (produced.Refused c) e =
+        let q : settled us vs bs p ≡ refusedWith c us vs bs = ap (λ (x : Produced). settledAs us vs bs p x) e in
+        let same : produced.Refused c ≡ produced.Refused code = ap (λ (x : ProducedWith). x .answer) (sym q) ∙ h in
+        ap (λ (x : Produced). settledAs ws es bs p x) e ∙ ap (λ (x : Produced). producedWith x ws es bs) same
+
+-- an answer that is settled already: refused, all is as it was
+pub settled-twice : (ws es bs : List ℕ) (p : ProducedWith) (r : Produced) (l v u : List ℕ) → producedWith r l v u ≡ settled ws es bs p → Stays ws es bs (producedWith r l v u)
+settled-twice ws es bs p r l v u e = subst (λ (x : ProducedWith). Stays ws es bs x) (sym e) (settled-stays ws es bs p)
+
+-- what is settled, and not refused, is what it was before
+kept-settled : (ws es bs : List ℕ) (p : ProducedWith) (r : Produced) (l v u : List ℕ) → producedWith r l v u ≡ settled ws es bs p → refusal r ≡ false → producedWith r l v u ≡ p
+kept-settled ws es bs p r l v u e g = by (p .answer) refl
+  where
+    by : (a : Produced) → p .answer ≡ a → producedWith r l v u ≡ p
+    by (produced.Nothing k) h = e ∙ ap (λ (x : Produced). settledAs ws es bs p x) h
+    by (produced.Fragment k d) h = e ∙ ap (λ (x : Produced). settledAs ws es bs p x) h
+    by (produced.Refused code) h =
+        let q : r ≡ produced.Refused code = ap (λ (x : ProducedWith). x .answer) (e ∙ ap (λ (x : Produced). settledAs ws es bs p x) h) in
+        let z : true ≡ false = sym (ap refusal q) ∙ g in
+        absurd (true-false z)
+
+module _ (ws st es bs : List ℕ) (time size n k : ℕ) (r : Produced) (l v u : List ℕ) (ep : producedWith r l v u ≡ passOver n ws st es bs time size k) (q : Bool) (eq : q ≡ refusal r) where
+  past-is : settled ws es bs (producedWith r l v u) ≡ pastFrom ws st es bs time size n k
+  unfolding pastFrom
   past-is = ap (λ (p : ProducedWith). settled ws es bs p) ep
 
-  pub past-refused : q ≡ true → (zs saved w : List ℕ) → eventWords ≤ length es → saved ≡ copied zs es eventWords → w ≡ copied v saved eventWords → producedWith r ws w u ≡ pastOf ws st es bs time size n
+  pub past-refused : q ≡ true → (zs saved w : List ℕ) → eventWords ≤ length es → saved ≡ copied zs es eventWords → w ≡ copied v saved eventWords → producedWith r ws w u ≡ pastFrom ws st es bs time size n k
   past-refused g zs saved w long esaved ew = by r refl ∙ past-is
     where
       by : (r′ : Produced) → r ≡ r′ → producedWith r ws w u ≡ settled ws es bs (producedWith r l v u)
-      by (produced.Nothing k) e = let z : true ≡ false = sym g ∙ eq ∙ ap refusal e in absurd (true-false z)
-      by (produced.Fragment k d) e = let z : true ≡ false = sym g ∙ eq ∙ ap refusal e in absurd (true-false z)
+      by (produced.Nothing j) e = let z : true ≡ false = sym g ∙ eq ∙ ap refusal e in absurd (true-false z)
+      by (produced.Fragment j d) e = let z : true ≡ false = sym g ∙ eq ∙ ap refusal e in absurd (true-false z)
       by (produced.Refused code) e =
-          let a : passOver n ws st es bs time size 0 .answer ≡ produced.Refused code = sym (ap (λ (x : ProducedWith). x .answer) ep) ∙ e in
-          let b : u ≡ bs = ap (λ (x : ProducedWith). x .buffer) ep ∙ pass-keeps n ws st es bs time size 0 .keeps code a in
-          let d : behind v ≡ behind es = ap (λ (x : ProducedWith). behind (x .events)) ep ∙ pass-behind (behind es) n ws st es bs time size 0 refl in
+          let a : passOver n ws st es bs time size k .answer ≡ produced.Refused code = sym (ap (λ (x : ProducedWith). x .answer) ep) ∙ e in
+          let b : u ≡ bs = ap (λ (x : ProducedWith). x .buffer) ep ∙ pass-keeps n ws st es bs time size k .keeps code a in
+          let d : behind v ≡ behind es = ap (λ (x : ProducedWith). behind (x .events)) ep ∙ pass-behind (behind es) n ws st es bs time size k refl in
           let f : w ≡ es = ew ∙ ap (λ (x : List ℕ). copied v x eventWords) esaved ∙ put-back eventWords zs es v long d in
           rw (e, b, f)
 
-  pub past-kept : q ≡ false → producedWith r l v u ≡ pastOf ws st es bs time size n
+  pub past-kept : q ≡ false → producedWith r l v u ≡ pastFrom ws st es bs time size n k
   past-kept g = by r refl ∙ past-is
     where
       by : (r′ : Produced) → r ≡ r′ → producedWith r l v u ≡ settled ws es bs (producedWith r l v u)
       by (produced.Nothing j) e = rw e
       by (produced.Fragment j d) e = rw e
       by (produced.Refused code) e = let z : false ≡ true = sym g ∙ eq ∙ ap refusal e in absurd (true-false (sym z))
+
+-- ------------------------------------------------------------------ the call with a log
+
+-- Passing over goes on from us and vs, which it has come to from ws and es, and that was settled there.
+module _ (room : ℕ) (ws st es bs : List ℕ) (time size n k : ℕ) (log us vs : List ℕ) (left count drops : ℕ) (g : Kept room ws es time n k log us vs left count drops)
+    (r : Produced) (l v u : List ℕ) (ep : producedWith r l v u ≡ pastFrom us st vs bs time size left count) (q : Bool) (eq : q ≡ refusal r) where
+  same-way : passOver left us st vs bs time size count ≡ passOver n ws st es bs time size k
+  same-way = sym (in-two-parts left us st vs bs time size count) ∙ ap (λ (c : CalledWith). sentOf st bs time size c) (g .over) ∙ in-two-parts n ws st es bs time size k
+
+  there : producedWith r l v u ≡ settled us vs bs (passOver n ws st es bs time size k)
+  unfolding pastFrom
+  there = ep ∙ ap (λ (p : ProducedWith). settled us vs bs p) same-way
+
+  pub logged-kept : q ≡ false → producedWith r l v u ≡ pastFrom ws st es bs time size n k
+  unfolding pastFrom
+  logged-kept h =
+      let e : producedWith r l v u ≡ passOver n ws st es bs time size k = kept-settled us vs bs (passOver n ws st es bs time size k) r l v u there (sym eq ∙ h) in
+      past-kept ws st es bs time size n k r l v u e q eq h
+
+  pub logged-refused : q ≡ true → (zs xs saved head w x : List ℕ) (few : ℕ) → (k + room * 4) * placeWords ≤ few → few ≤ length es → header ≤ length ws
+      → head ≡ copied zs ws header → saved ≡ copied xs es few → w ≡ copied (undone log drops l) head header → length saved ≡ few → x ≡ copied v saved (length saved)
+      → producedWith r w x u ≡ pastFrom ws st es bs time size n k
+  unfolding pastFrom
+  logged-refused h zs xs saved head w x few fits le lw eh es′ ew ls ex = by r refl
+    where
+      by : (r′ : Produced) → r ≡ r′ → producedWith r w x u ≡ settled ws es bs (passOver n ws st es bs time size k)
+      by (produced.Nothing j) e = let z : true ≡ false = sym h ∙ eq ∙ ap refusal e in absurd (true-false z)
+      by (produced.Fragment j d) e = let z : true ≡ false = sym h ∙ eq ∙ ap refusal e in absurd (true-false z)
+      by (produced.Refused code) e =
+          let a = settled-twice us vs bs (passOver n ws st es bs time size k) r l v u there .stays code e in
+          let fw : w ≡ ws = ew ∙ rw (a .0, eh) (put-back header zs ws (undone log drops us) lw (g .back)) in
+          let fx : x ≡ es = ex ∙ rw (ls, a .1, es′) (put-back few xs es vs le (g .behind few fits)) in
+          rw (e, fw, fx, a .2) (sym (refused-settled ws es bs us vs (passOver n ws st es bs time size k) code (sym (ap (λ (y : ProducedWith). y .answer) there) ∙ e)))
+
+-- Where nothing has expired any more, sending from what was found is all that is left of passing over.
+pub found-past : (ws st es bs : List ℕ) (time size n k : ℕ) (f : Look) → f ≡ lookAhead ws time → expiredFound f ≡ false → sentFound ws st es bs size k f ≡ pastFrom ws st es bs time size n k
+unfolding pastFrom
+found-past ws st es bs time size n k f ef g = by f refl
+  where
+    full : f ≡ look.Nothing → (b : Bool) → ltb 2305 k ≡ b → sentFound ws st es bs size k f ≡ settled ws es bs (passOver n ws st es bs time size k)
+    full e true h = rw (e, h) (ap (λ (p : ProducedWith). settled ws es bs p) (pass-full ws st es bs time size n k f ef e (ltb-true 2305 k h)))
+    full e false h = rw (e, h) (ap (λ (p : ProducedWith). settled ws es bs p) (pass-nothing ws st es bs time size n k f ef e (ltb-false 2305 k h)))
+
+    by : (o : Look) → f ≡ o → sentFound ws st es bs size k f ≡ settled ws es bs (passOver n ws st es bs time size k)
+    by look.Nothing e = full e (ltb 2305 k) refl
+    by look.Broken e = rw e (ap (λ (p : ProducedWith). settled ws es bs p) (pass-broken ws st es bs time size n k f ef e))
+    by (look.Expired id row) e = let z : true ≡ false = sym (ap expiredFound e) ∙ g in absurd (true-false z)
+    by (look.Chosen at id row) e =
+        rw e
+        (settled-is ws es bs (handedOut ws st es bs size k at id row) (hand-stays ws st es bs size k at id row)
+        ∙ ap (λ (p : ProducedWith). settled ws es bs p) (pass-chosen ws st es bs time size n k f ef at id row (handedOut ws st es bs size k at id row) e refl))
+
+pub past-all : (ws st es bs : List ℕ) (time size n : ℕ) → pastFrom ws st es bs time size n 0 ≡ pastOf ws st es bs time size n
+unfolding pastFrom pastOf
+past-all ws st es bs time size n = refl
+
+pub then-copied : (a b w head : List ℕ) (n : ℕ) → b ≡ a → w ≡ copied b head n → w ≡ copied a head n
+then-copied a b w head n e f = f ∙ ap (λ (l : List ℕ). copied l head n) e
 
 -- where the arguments are not refused, the list of events has its places
 pub code-places : (ws : List ℕ) (len places room time size code : ℕ) → code ≡ produceCode ws len places room time size → code ≤ 0 → eventWords ≤ places
@@ -326,13 +445,7 @@ code-places ws len places room time size code ec h = by (eqb (optionsAt ws .«st
 past-stays : (ws st es bs : List ℕ) (time size : ℕ) → Stays ws es bs (producedPast ws st es bs time size)
 unfolding producedPast pastOf
 past-stays ws st es bs time size =
-    stay-pick ws es bs (ltb 1024 (totalsAt ws .waiting)) _ _ (stay-refused 16 ws es bs)
-    (by (passOver (totalsAt ws .waiting) ws st es bs time size 0) (passOver (totalsAt ws .waiting) ws st es bs time size 0 .answer) refl)
-  where
-    by : (p : ProducedWith) (r : Produced) → p .answer ≡ r → Stays ws es bs (settledAs ws es bs p r)
-    by p (produced.Nothing k) e = record { stays = λ c h. stay-nothing k ws es bs (p .words) (p .events) (p .buffer) .stays c (sym e ∙ h) }
-    by p (produced.Fragment k d) e = record { stays = λ c h. stay-fragment k d ws es bs (p .words) (p .events) (p .buffer) .stays c (sym e ∙ h) }
-    by p (produced.Refused code) e = stay-refused code ws es bs
+    stay-pick ws es bs (ltb 1024 (totalsAt ws .waiting)) _ _ (stay-refused 16 ws es bs) (settled-stays ws es bs (passOver (totalsAt ws .waiting) ws st es bs time size 0))
 
 -- Refused, the call leaves the queue, the list of events and the fragment buffer as they were.
 pub produce-refused : (ws st es bs : List ℕ) (time size : ℕ) → Stays ws es bs (produceNext ws st es bs time size)
@@ -348,18 +461,6 @@ produce-refused ws st es bs time size =
     by (look.Chosen at id row) = hand-stays ws st es bs size 0 at id row
 
 -- ------------------------------------------------------------------ the call is passing over
-
--- what leaves all as it was where it is refused is settled
-settled-is : (ws es bs : List ℕ) (p : ProducedWith) → Stays ws es bs p → p ≡ settled ws es bs p
-settled-is ws es bs p x = by (p .answer) refl
-  where
-    same : (code : ℕ) (a : Produced) (l v u : List ℕ) → a ≡ produced.Refused code → l ≡ ws → v ≡ es → u ≡ bs → producedWith a l v u ≡ refusedWith code ws es bs
-    same code a l v u e el ev eu = rw (e, el, ev, eu)
-
-    by : (r : Produced) → p .answer ≡ r → p ≡ settledAs ws es bs p r
-    by (produced.Nothing k) e = refl
-    by (produced.Fragment k d) e = refl
-    by (produced.Refused code) e = same code (p .answer) (p .words) (p .events) (p .buffer) e (x .stays code e .0) (x .stays code e .1) (x .stays code e .2)
 
 -- Also where no head has expired the call leaves what passing over as many messages as wait leaves.
 pub produce-passes : (ws st es bs : List ℕ) (time size : ℕ) → totalsAt ws .waiting ≤ 1024

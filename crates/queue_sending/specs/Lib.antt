@@ -4,3 +4,4 @@ pub mod Numbers
 pub mod Choice
 pub mod Fragment
 pub mod Produce
+pub mod Passing

@@ -82,14 +82,24 @@ passed zero ws es time k = afterChoice (λ (id row : ℕ). calledWith (call.Refu
 passed (suc n) ws es time k =
     afterChoice (λ (id row : ℕ). afterDropped (λ (l e : List ℕ) (j : ℕ). passed n l e time j) (expiredDropped ws es k id row)) ws es k (lookAhead ws time)
 
+abbrev pub sentFound : List ℕ → List ℕ → List ℕ → List ℕ → ℕ → ℕ → Look → ProducedWith
+sentFound ws st es bs size k found = afterLook (λ (id row : ℕ). refusedWith 16 ws es bs) ws st es bs size k found
+
 unfoldable pub sentChosen : List ℕ → List ℕ → List ℕ → List ℕ → ℕ → ℕ → ℕ → ProducedWith
-sentChosen ws st es bs time size k = afterLook (λ (id row : ℕ). refusedWith 16 ws es bs) ws st es bs size k (lookAhead ws time)
+sentChosen ws st es bs time size k = sentFound ws st es bs size k (lookAhead ws time)
 
 abbrev pub sentAfter : List ℕ → List ℕ → List ℕ → List ℕ → ℕ → ℕ → Call → ProducedWith
 sentAfter ws st es bs time size (call.Accepted k) = sentChosen ws st es bs time size k
 sentAfter ws st es bs time size (call.Refused code) = refusedWith code ws es bs
 
 -- ------------------------------------------------------------------ the call
+
+-- whether a look has found an expired head
+abbrev pub expiredFound : Look → Bool
+expiredFound look.Nothing = false
+expiredFound look.Broken = false
+expiredFound (look.Expired id row) = true
+expiredFound (look.Chosen at id row) = false
 
 -- whether an answer is a refusal
 abbrev pub refusal : Produced → Bool
@@ -110,7 +120,10 @@ settledAs ws es bs p (produced.Refused code) = refusedWith code ws es bs
 abbrev pub settled : List ℕ → List ℕ → List ℕ → ProducedWith → ProducedWith
 settled ws es bs p = settledAs ws es bs p (p .answer)
 
--- Passing over at most n messages; refused, all is as it was.
+-- Passing over at most n messages after k events; refused, all is as it was.
+unfoldable pub pastFrom : List ℕ → List ℕ → List ℕ → List ℕ → ℕ → ℕ → ℕ → ℕ → ProducedWith
+pastFrom ws st es bs time size n k = settled ws es bs (passOver n ws st es bs time size k)
+
 unfoldable pub pastOf : List ℕ → List ℕ → List ℕ → List ℕ → ℕ → ℕ → ℕ → ProducedWith
 pastOf ws st es bs time size n = settled ws es bs (passOver n ws st es bs time size 0)
 

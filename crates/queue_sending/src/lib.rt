@@ -5,6 +5,7 @@ pub mod data;
 pub mod fragment;
 pub mod next_fragment;
 pub mod numbers;
+pub mod passing;
 
 pub use data::Data;
 pub use data::DataToSend;

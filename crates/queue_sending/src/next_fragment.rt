@@ -1,27 +1,42 @@
 // The next fragment (Rust: produce, get_stream_to_produce_from).
 ghost use mathlib.Core.Path.{_≡_};
-ghost use Prim.Native.Nat.{_≤_};
+ghost use Prim.Native.Nat.{_*_, _≤_};
 ghost use lib.ListN.{length};
 ghost use Rattle.queue_streams.specs.Events.{eventWords};
 ghost use Rattle.queue_streams.specs.Settings.{calledWith};
+ghost use Rattle.undo_log.specs.Log.{undone};
+ghost use Rattle.queue_sending.specs.Choice.{lookAhead};
 ghost use Rattle.queue_sending.specs.Data.{producedWith};
-ghost use Rattle.queue_sending.specs.Produce.{produceCode, expiredDropped, passed, sentChosen, sentAfter, copied, refusal, pastOf, producedPast, produceNext};
+ghost use Rattle.queue_sending.specs.Produce.{produceCode, sentFound, sentChosen, sentAfter, copied, expiredFound, refusal, pastFrom, pastOf, producedPast, produceNext};
 use crate::choice::Look;
 use crate::choice::look_ahead;
 use crate::data::Produced;
 use crate::fragment::hand_out;
-use message_chains::dropping::drop_in_state;
+use crate::passing::Passing;
+use crate::passing::pass_over;
+use crate::passing::pass_some;
 use queue_streams::answers::Call;
 use queue_streams::events::EVENT_WORDS;
 use queue_words::QUEUE_WORDS;
 use queue_words::header::load_options;
 use queue_words::header::load_totals;
-use queue_words::items::load_item;
-use queue_words::streams::load_stream;
+use undo_log::ENTRY;
+use undo_log::HEADER;
+use undo_log::undo;
 
 const MAX_TIME: u64 = 4611686018427387903;
 
 const MAX_SIZE: u64 = 262144;
+
+// The words of the four events that one drop writes at most.
+const FIRST_EVENTS: usize = 12;
+
+// How many drops the longer log has room for, the words of it, and those of their events and of the first drop's.
+const MORE: usize = 16;
+
+const MORE_LOG: usize = 320;
+
+const MORE_EVENTS: usize = 204;
 
 // The refusals that the arguments decide: 2, 3, 4, 9, 10, or 0.
 fn produce_code(
@@ -56,72 +71,31 @@ fn produce_code(
     0
 }
 
-// "An expired head of the chosen stream is dropped, half-sent or not": the events so far, or 16.
-fn drop_expired(
+// Sends from the stream that was found, or says that nothing waits, after k events; a head that is still expired gets 16.
+fn send_found(
     queue: &mut [u64; QUEUE_WORDS],
+    store: &[u8],
     events: &mut [u64],
+    buffer: &mut [u8],
+    size: u64,
     k: usize,
-    id: u16,
-    row: usize,
-) -> Call
-    ensures { λ r. ⌜ calledWith r (now (queue .exit)) (now (events .exit)) ≡ expiredDropped (now (queue .entry)) (now (events .entry)) k id row ⌝ }
+    found: Look,
+) -> Produced
+    ensures { λ r. ⌜ producedWith r (now (queue .exit)) (now (events .exit)) (now (buffer .exit)) ≡ sentFound (now (queue .entry)) (now (store .entry)) (now (events .entry)) (now (buffer .entry)) size k found ⌝ }
 {
-    if row > 255 {
-        return Call::Refused(16);
-    }
-    let s = load_stream(&*queue, row);
-    if s.first > 1023 {
-        return Call::Refused(16);
-    }
-    let m = load_item(&*queue, s.first as usize);
-    drop_in_state(queue, events, k, id, row, s, m)
-}
-
-// Passes over the expired heads, so that the choice is one to send from or none: a loop, "with the same answer, events, fragment and
-// next state on every input" as calls with one waiting message fewer. What it leaves where it is refused is not kept.
-fn pass_over(
-    queue: &mut [u64; QUEUE_WORDS],
-    events: &mut [u64],
-    time: u64,
-    waiting: usize,
-    k: usize,
-) -> Call
-    ensures { λ r. ⌜ calledWith r (now (queue .exit)) (now (events .exit)) ≡ passed waiting (now (queue .entry)) (now (events .entry)) time k ⌝ }
-{
-    let mut left = waiting;
-    let mut count = k;
-    loop {
-        let found = look_ahead(&*queue, time);
-        match found {
-            Look::Nothing => {
-                return Call::Accepted(count);
+    match found {
+        Look::Nothing => {
+            if k > 2305 {
+                return Produced::Refused(16);
             }
-            Look::Broken => {
-                return Call::Refused(16);
-            }
-            Look::Chosen(_, _, _) => {
-                return Call::Accepted(count);
-            }
-            Look::Expired(id, row) => {
-                if left == 0 {
-                    return Call::Refused(16);
-                }
-                let dropped = drop_expired(queue, events, count, id, row);
-                match dropped {
-                    Call::Accepted(k1) => {
-                        count = k1;
-                        left -= 1;
-                    }
-                    Call::Refused(code) => {
-                        return Call::Refused(code);
-                    }
-                }
-            }
+            Produced::Nothing(k)
         }
+        Look::Broken => Produced::Refused(16),
+        Look::Chosen(at, id, row) => hand_out(queue, store, events, buffer, size, k, at, id, row),
+        Look::Expired(_, _) => Produced::Refused(16),
     }
 }
 
-// Sends from the chosen stream, or says that nothing waits, after k events; a head that is still expired gets 16.
 fn send_chosen(
     queue: &mut [u64; QUEUE_WORDS],
     store: &[u8],
@@ -134,17 +108,7 @@ fn send_chosen(
     ensures { λ r. ⌜ producedWith r (now (queue .exit)) (now (events .exit)) (now (buffer .exit)) ≡ sentChosen (now (queue .entry)) (now (store .entry)) (now (events .entry)) (now (buffer .entry)) time size k ⌝ }
 {
     let found = look_ahead(&*queue, time);
-    match found {
-        Look::Nothing => {
-            if k > 2305 {
-                return Produced::Refused(16);
-            }
-            Produced::Nothing(k)
-        }
-        Look::Broken => Produced::Refused(16),
-        Look::Chosen(at, id, row) => hand_out(queue, store, events, buffer, size, k, at, id, row),
-        Look::Expired(_, _) => Produced::Refused(16),
-    }
+    send_found(queue, store, events, buffer, size, k, found)
 }
 
 fn send_passed(
@@ -165,7 +129,7 @@ fn send_passed(
 }
 
 // The first n words of one list go to another.
-fn copy_events(to: &mut [u64], from: &[u64], n: usize)
+fn copy_words(to: &mut [u64], from: &[u64], n: usize)
     requires { ⌜ (n ≤ length (now from)) × (n ≤ length (now to)) ⌝ }
     ensures { λ _. ⌜ now (to .exit) ≡ copied (now (to .entry)) (now (from .entry)) n ⌝ }
 {
@@ -173,6 +137,17 @@ fn copy_events(to: &mut [u64], from: &[u64], n: usize)
     while i < n {
         to[i] = from[i];
         i += 1;
+    }
+}
+
+fn is_expired(found: Look) -> bool
+    ensures { λ r. ⌜ r ≡ expiredFound found ⌝ }
+{
+    match found {
+        Look::Nothing => false,
+        Look::Broken => false,
+        Look::Expired(_, _) => true,
+        Look::Chosen(_, _, _) => false,
     }
 }
 
@@ -186,8 +161,129 @@ fn is_refused(p: Produced) -> bool
     }
 }
 
-// Passes over expired heads. The words and the events' places are saved before, and put back where that is refused: what is
-// refused changes nothing.
+// Passes over expired heads after k events, however many. The words and the events' places are saved before, and put back where that
+// is refused: what is refused changes nothing. Called from two places: a compiler that sees but one call puts its large frame into the
+// path of few expired heads.
+fn produce_copied(
+    queue: &mut [u64; QUEUE_WORDS],
+    store: &[u8],
+    events: &mut [u64],
+    buffer: &mut [u8],
+    time: u64,
+    size: u64,
+    waiting: usize,
+    k: usize,
+) -> Produced
+    requires { ⌜ eventWords ≤ length (now events) ⌝ }
+    ensures { λ r. ⌜ producedWith r (now (queue .exit)) (now (events .exit)) (now (buffer .exit)) ≡ pastFrom (now (queue .entry)) (now (store .entry)) (now (events .entry)) (now (buffer .entry)) time size waiting k ⌝ }
+{
+    let words = *queue;
+    let mut saved = [0u64; EVENT_WORDS];
+    copy_words(&mut saved, &*events, EVENT_WORDS);
+    let passed = pass_over(queue, events, time, waiting, k);
+    let p = send_passed(queue, store, events, buffer, time, size, passed);
+    let refused = is_refused(p);
+    if refused {
+        *queue = words;
+        copy_words(events, &saved, EVENT_WORDS);
+        return p;
+    }
+    p
+}
+
+// Puts back what drops have changed: their rows from the log, then the header and the first events' places as they were saved.
+fn put_back(
+    queue: &mut [u64; QUEUE_WORDS],
+    events: &mut [u64],
+    log: &[u64],
+    drops: usize,
+    header: &[u64; HEADER],
+    saved: &[u64],
+)
+    requires { ⌜ (drops * 20 ≤ length (now log)) × (length (now saved) ≤ length (now events)) ⌝ }
+    ensures { λ _. ⌜ (now (queue .exit) ≡ copied (undone (now (log .entry)) drops (now (queue .entry))) (now (header .entry)) 32) × (now (events .exit) ≡ copied (now (events .entry)) (now (saved .entry)) (length (now (saved .entry)))) ⌝ }
+{
+    undo(queue, log, drops);
+    copy_words(queue, header, HEADER);
+    copy_words(events, saved, saved.len());
+}
+
+// Goes on where the log of more drops ended.
+fn send_more(
+    queue: &mut [u64; QUEUE_WORDS],
+    store: &[u8],
+    events: &mut [u64],
+    buffer: &mut [u8],
+    time: u64,
+    size: u64,
+    p: Passing,
+) -> Produced
+    requires { ⌜ (eventWords ≤ length (now events)) × (p .found ≡ lookAhead (now queue) time) ⌝ }
+    ensures { λ r. ⌜ producedWith r (now (queue .exit)) (now (events .exit)) (now (buffer .exit)) ≡ pastFrom (now (queue .entry)) (now (store .entry)) (now (events .entry)) (now (buffer .entry)) time size (p .left) (p .count) ⌝ }
+{
+    let found = p.found;
+    let expired = is_expired(found);
+    if expired {
+        return produce_copied(queue, store, events, buffer, time, size, p.left, p.count);
+    }
+    send_found(queue, store, events, buffer, size, p.count, found)
+}
+
+// Passes over up to 16 more expired heads, with what each changes in a log.
+fn produce_more(
+    queue: &mut [u64; QUEUE_WORDS],
+    store: &[u8],
+    events: &mut [u64],
+    buffer: &mut [u8],
+    time: u64,
+    size: u64,
+    waiting: usize,
+    k: usize,
+) -> Produced
+    requires { ⌜ (eventWords ≤ length (now events)) × (k ≤ 4) ⌝ }
+    ensures { λ r. ⌜ producedWith r (now (queue .exit)) (now (events .exit)) (now (buffer .exit)) ≡ pastFrom (now (queue .entry)) (now (store .entry)) (now (events .entry)) (now (buffer .entry)) time size waiting k ⌝ }
+{
+    let mut header = [0u64; HEADER];
+    copy_words(&mut header, &*queue, HEADER);
+    let mut saved = [0u64; MORE_EVENTS];
+    copy_words(&mut saved, &*events, MORE_EVENTS);
+    let mut log = [0u64; MORE_LOG];
+    let p = pass_some(queue, events, &mut log, MORE, time, waiting, k);
+    let r = send_more(queue, store, events, buffer, time, size, p);
+    let refused = is_refused(r);
+    if refused {
+        put_back(queue, events, &log, p.drops, &header, &saved);
+        return r;
+    }
+    r
+}
+
+// Goes on where the log of the first drop ended.
+fn send_past(
+    queue: &mut [u64; QUEUE_WORDS],
+    store: &[u8],
+    events: &mut [u64],
+    buffer: &mut [u8],
+    time: u64,
+    size: u64,
+    p: Passing,
+) -> Produced
+    requires { ⌜ (eventWords ≤ length (now events)) × (p .found ≡ lookAhead (now queue) time) ⌝ }
+    ensures { λ r. ⌜ producedWith r (now (queue .exit)) (now (events .exit)) (now (buffer .exit)) ≡ pastFrom (now (queue .entry)) (now (store .entry)) (now (events .entry)) (now (buffer .entry)) time size (p .left) (p .count) ⌝ }
+{
+    let found = p.found;
+    let expired = is_expired(found);
+    if expired {
+        if p.count > 4 {
+            return produce_copied(queue, store, events, buffer, time, size, p.left, p.count);
+        }
+        return produce_more(queue, store, events, buffer, time, size, p.left, p.count);
+    }
+    send_found(queue, store, events, buffer, size, p.count, found)
+}
+
+// Passes over expired heads. The first is in a log of its own, the next ones in a longer one: an array is cleared before its use, and
+// most often but one head has expired.
 fn produce_past(
     queue: &mut [u64; QUEUE_WORDS],
     store: &[u8],
@@ -200,22 +296,22 @@ fn produce_past(
     requires { ⌜ eventWords ≤ length (now events) ⌝ }
     ensures { λ r. ⌜ producedWith r (now (queue .exit)) (now (events .exit)) (now (buffer .exit)) ≡ pastOf (now (queue .entry)) (now (store .entry)) (now (events .entry)) (now (buffer .entry)) time size waiting ⌝ }
 {
-    let words = *queue;
-    let mut saved = [0u64; EVENT_WORDS];
-    copy_events(&mut saved, &*events, EVENT_WORDS);
-    let passed = pass_over(queue, events, time, waiting, 0);
-    let p = send_passed(queue, store, events, buffer, time, size, passed);
-    let refused = is_refused(p);
+    let mut header = [0u64; HEADER];
+    copy_words(&mut header, &*queue, HEADER);
+    let mut saved = [0u64; FIRST_EVENTS];
+    copy_words(&mut saved, &*events, FIRST_EVENTS);
+    let mut log = [0u64; ENTRY];
+    let p = pass_some(queue, events, &mut log, 1, time, waiting, 0);
+    let r = send_past(queue, store, events, buffer, time, size, p);
+    let refused = is_refused(r);
     if refused {
-        *queue = words;
-        copy_events(events, &saved, EVENT_WORDS);
-        return p;
+        put_back(queue, events, &log, p.drops, &header, &saved);
+        return r;
     }
-    p
+    r
 }
 
-// Passes over as many messages as wait. Two calls, one of them with a number that is known: a compiler that sees but one call puts
-// the large frame of `produce_past` into the path without expired heads.
+// Passes over as many messages as wait.
 fn produce_waiting(
     queue: &mut [u64; QUEUE_WORDS],
     store: &[u8],
@@ -230,9 +326,6 @@ fn produce_waiting(
     let t = load_totals(&*queue);
     if t.waiting > 1024 {
         return Produced::Refused(16);
-    }
-    if t.waiting == 1 {
-        return produce_past(queue, store, events, buffer, time, size, 1);
     }
     produce_past(queue, store, events, buffer, time, size, t.waiting as usize)
 }

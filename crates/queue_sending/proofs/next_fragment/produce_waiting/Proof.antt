@@ -17,19 +17,9 @@ returns-2 : tie.Need-returns-2
 unfolding producedPast
 returns-2 c =
     rw (
-      ← (c .before .before .before .before .before .before .before .before .before .before .before .before .load-totals .ensures),
-      le-ltb _ _ (c .before .before .before .before .before .before .before .before .before .before .if1 .left),
-      (c .before .before .before .before .before .before .before .before .if2 .taken),
+      ← (c .before .before .before .before .before .before .before .before .before .before .load-totals .ensures),
+      le-ltb _ _ (c .before .before .before .before .before .before .before .before .if1 .left),
       ← (c .before .before .before .before .produce-past .ensures),
-    )
-
-returns-3 : tie.Need-returns-3
-unfolding producedPast
-returns-3 c =
-    rw (
-      ← (c .before .before .before .before .before .before .before .before .before .before .before .before .load-totals .ensures),
-      le-ltb _ _ (c .before .before .before .before .before .before .before .before .before .before .if1 .left),
-      ← (c .before .before .before .before .produce-past2 .ensures),
     )
 
 pub produce-waiting-spec : {M : Type 1} → statement M
@@ -41,8 +31,4 @@ produce-waiting-spec =
     (λ c. search needs)
     (λ c. search needs)
     (λ c. search needs)
-    returns-2
-    (λ c. search needs)
-    (λ c. search needs)
-    (λ c. search needs)
-    returns-3)
+    returns-2)

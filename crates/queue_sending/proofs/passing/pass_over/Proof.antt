@@ -1,4 +1,4 @@
--- `queue_sending::next_fragment::pass_over` meets its contract: what passing over leaves from here on is what it leaves from the start on. The measure is how many messages
+-- `queue_sending::passing::pass_over` meets its contract: what passing over leaves from here on is what it leaves from the start on. The measure is how many messages
 -- may still be dropped. Assumes nothing.
 use mathlib.Core.Path.{_≡_, refl, _∙_}
 use native.Mathlib.Omega.{arith}
@@ -6,8 +6,8 @@ use borrow.Author.Needs.{needs}
 use lib.ListN.{length}
 use Rattle.queue_sending.specs.Produce.{passed}
 use Rattle.queue_sending.proofs.Passes.{over-nothing, over-broken, over-chosen, over-none, over-again, over-stopped}
-use Rattle.queue_sending.proofs.next_fragment.pass_over.Statement.{statement}
-use Rattle.queue_sending.proofs.next_fragment.pass_over.Tie as tie
+use Rattle.queue_sending.proofs.passing.pass_over.Statement.{statement}
+use Rattle.queue_sending.proofs.passing.pass_over.Tie as tie
 
 abbrev Inv-loop : tie.InvT-loop
 Inv-loop queue₀ events₀ time waiting k left₀ count₀ queue events left count = (length events ≡ length events₀) × (passed left queue events time count ≡ passed waiting queue₀ events₀ time k)

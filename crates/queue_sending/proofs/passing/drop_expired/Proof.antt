@@ -1,9 +1,9 @@
--- `queue_sending::next_fragment::drop_expired` meets its contract: each return is what its definition says, by what the calls ensure and the tests taken. Assumes nothing.
+-- `queue_sending::passing::drop_expired` meets its contract: each return is what its definition says, by what the calls ensure and the tests taken. Assumes nothing.
 use borrow.Author.Needs.{needs}
 use borrow.Author.Tests.{le-ltb, lt-ltb}
 use Rattle.queue_sending.specs.Produce.{expiredDropped}
-use Rattle.queue_sending.proofs.next_fragment.drop_expired.Statement.{statement}
-use Rattle.queue_sending.proofs.next_fragment.drop_expired.Tie as tie
+use Rattle.queue_sending.proofs.passing.drop_expired.Statement.{statement}
+use Rattle.queue_sending.proofs.passing.drop_expired.Tie as tie
 
 returns : tie.Need-returns
 unfolding expiredDropped

@@ -1,0 +1,2 @@
+-- Definitions that the contracts cite. Assumes nothing.
+pub mod Log
