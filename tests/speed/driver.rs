@@ -17,6 +17,7 @@ mod planning;
 mod sending;
 mod sides;
 mod stack;
+mod steady;
 
 fn main() {
     let stack = std::env::args().nth(1).map_or(256, |a| a.parse().expect("usage: driver [KB OF STACK]"));
@@ -29,5 +30,7 @@ fn main() {
     sending::growth();
     planning::planning();
     expired::passing();
+    steady::steady();
+    steady::longest_calls();
     println!("\nProfile 3 has 600 messages: 1,024 of 3,000 bytes do not fit into the largest store, 2,000,000 bytes.");
 }
