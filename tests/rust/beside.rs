@@ -1,6 +1,6 @@
 //! The original queue and the proved one in one process: the same random calls on both, every answer compared.
 //!
-//! usage: beside [CALLS] [SEED]
+//! usage: beside [CALLS] [SEED] [PROFILE]
 //!
 //! Compared are refusals, fragments with all that goes with them, events, ready ids, images byte for byte, and after each call the answers
 //! to all questions. Of events kind and number are compared; the original's have no amount, so that of ours is held to the original's state.
@@ -32,14 +32,18 @@ fn thousands(n: u64) -> String {
 }
 
 fn main() {
-    let arguments: Vec<u64> =
-        std::env::args().skip(1).map(|a| a.parse().expect("usage: beside [CALLS] [SEED]")).collect();
-    let calls = *arguments.first().unwrap_or(&1_000_000);
-    let seed = *arguments.get(1).unwrap_or(&1);
+    let arguments: Vec<String> = std::env::args().skip(1).collect();
+    let number = |place: usize, otherwise: u64| {
+        arguments.get(place).map_or(otherwise, |a| a.parse().expect("usage: beside [CALLS] [SEED] [PROFILE]"))
+    };
+    let (calls, seed) = (number(0, 1_000_000), number(1, 1));
+    let asked = |profile: &&profiles::Profile| arguments.get(2).is_none_or(|name| name == profile.name);
+    let played: Vec<&profiles::Profile> = profiles::PROFILES.iter().filter(asked).collect();
+    assert!(!played.is_empty(), "no such profile: tests/rust/profiles.rs has them");
     let mut pair = pair::Pair::default();
     let mut starts = 0;
     while pair.tally.calls < calls {
-        let profile = &profiles::PROFILES[starts as usize % profiles::PROFILES.len()];
+        let profile = played[starts as usize % played.len()];
         pair.start(format!("profile {}, seed {seed}, start {starts}", profile.name));
         makes::Maker::new(profile, seed, starts, &mut pair).run();
         starts += 1;

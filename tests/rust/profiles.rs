@@ -33,7 +33,7 @@ const USUAL: Profile = Profile {
     interleaved: 300,
 };
 
-pub const PROFILES: [Profile; 10] = [
+pub const PROFILES: [Profile; 11] = [
     USUAL,
     Profile { name: "expiry", lifetimes: 700, ends: 300, ..USUAL },
     Profile {
@@ -92,6 +92,18 @@ pub const PROFILES: [Profile; 10] = [
         limits: &[1, 2, 1_000, 65_534, 65_535],
         stores: &[1, 2, 300, 5_000, 262_144, 2_000_000],
         longest: 3_000,
+        ..USUAL
+    },
+    Profile {
+        name: "nearly full",
+        calls: 4_000,
+        weights: [500, 420, 60, 8, 4, 4, 4, 1, 10, 20, 6, 10, 2, 5, 0],
+        streams: (4, 40),
+        limits: &[100, 1_000, 1_200],
+        stores: &[3_000, 20_000, 60_000],
+        longest: 900,
+        lifetimes: 60,
+        interleaved: 500,
         ..USUAL
     },
     Profile {
