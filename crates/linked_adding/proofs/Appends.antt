@@ -46,7 +46,7 @@ pub record Counted (t : Totals) (free : ℕ) (u : Totals) : Type 0 where
   pub waiting : u .waiting ≡ sum (t .waiting) 1
   pub free-is : u .free ≡ free
   pub used : u .used ≡ t .used
-  pub end : u .end ≡ t .end
+  pub gaps : u .gaps ≡ t .gaps
 
 module _ (ws st : List ℕ) (g : Shape ws st) (i : ℕ) (hk : i < totalsAt ws .known) (p : ℕ) (fr : List ℕ) (efr : g .fr ≡ p ∷ fr) (hp : p < 1024) (behind : Linked (nextOf ws) (nextOf ws p) fr)
     (m : Item) (bs : List ℕ) (ends : m .next ≡ 1024) (some-bytes : 1 ≤ length bs)
@@ -89,7 +89,7 @@ module _ (ws st : List ℕ) (g : Shape ws st) (i : ℕ) (hk : i < totalsAt ws .k
     places = λ x h. b .place-kept x;
     sizes = λ x h. b .size-kept x;
     used = ap (λ (x : Totals). x .used) (b .totals) ∙ c .used;
-    end = ap (λ (x : Totals). x .end) (b .totals) ∙ c .end;
+    gaps = ap (λ (x : Totals). x .gaps) (b .totals) ∙ c .gaps;
   }
 
   item-same : (x : ℕ) → x < 1024 → itemIn us ut x ≡ itemIn vs ut x

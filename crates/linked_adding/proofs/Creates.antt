@@ -126,7 +126,7 @@ module _ (ws st : List ℕ) (o : words.Options) (len : length ws ≡ 20768) (sma
     bare = λ x h. places .sizes x (free-fits (λ j. []) (range 0 1024) x split-new h);
     waits = ap (λ (t : Totals). t .waiting) totals ∙ sym (total-zero length (λ j. []) (λ j. refl));
     used = ap (λ (t : Totals). t .used) totals ∙ sym (total-zero (sumOf _) (λ j. []) (λ j. refl));
-    lay = new-good (newWords ws o) st long (places .places) (places .sizes) (ap (λ (t : Totals). t .used) totals) (ap (λ (t : Totals). t .end) totals);
+    lay = new-good (newWords ws o) st long (places .places) (places .sizes) (ap (λ (t : Totals). t .used) totals) (ap (λ (t : Totals). t .gaps) totals);
     schedules = good-scheduler;
   }
 

@@ -150,7 +150,7 @@ module _ (ws st : List ℕ) (g : Shape ws st) (known : AllKnown ws st) (i : ℕ)
   ends = refl
 
   counts : Counted (totalsAt vs) (nextOf ws p) (withMessage (totalsAt vs) (nextOf ws p) (length bs))
-  counts = record { known = refl; waiting = refl; free-is = refl; used = refl; end = refl }
+  counts = record { known = refl; waiting = refl; free-is = refl; used = refl; gaps = refl }
 
   shape-us : Shape us vt
   shape-us = after ws st g i hk p fr efr hp behind new bs ends some-bytes vs vt put us (hung .0) (length bs) (withMessage (totalsAt vs) (nextOf ws p) (length bs)) counts (hung .1) (hung .2) .shape

@@ -12,7 +12,7 @@ use Rattle.queue_words.specs.Streams.{streamAt}
 use Rattle.queue_words.specs.declared.header.Totals.{Totals}
 use Rattle.queue_words.specs.declared.items.Item.{Item}
 use Rattle.queue_words.proofs.Laws
-use Rattle.payload_store.specs.Words.{placeOf, sizeOf, usedOf, endOf, withBytes}
+use Rattle.payload_store.specs.Words.{placeOf, sizeOf, usedOf, gapsOf, withBytes}
 use Rattle.payload_store.specs.Good.{payloadOf}
 use Rattle.payload_store.specs.Good as payload
 use Rattle.payload_store.specs.Promise.{Put, Frame}
@@ -28,7 +28,7 @@ use Rattle.queue_state.proofs.Splits.{by-index}
 pub record Placed (ws st : List ℕ) (p : ℕ) (m : Item) (bs us ut : List ℕ) : Type 0 where
   pub long : length us ≡ length ws
   pub options : optionsAt us ≡ optionsAt ws
-  pub totals : totalsAt us ≡ withBytes (totalsAt ws) (usedOf us) (endOf us)
+  pub totals : totalsAt us ≡ withBytes (totalsAt ws) (usedOf us) (gapsOf us)
   pub used : usedOf us ≡ usedOf ws + length bs
   pub scheduler : schedulerAt us ≡ schedulerAt ws
   pub active : (j : ℕ) → activeAt us j ≡ activeAt ws j
@@ -92,8 +92,8 @@ module _ (ws st : List ℕ) (p : ℕ) (m : Item) (l : length ws ≡ 20768) (h : 
   used-kept : usedOf us ≡ usedOf ws
   used-kept = ap (λ (t : Totals). t .used) totals
 
-  end-kept : endOf us ≡ endOf ws
-  end-kept = ap (λ (t : Totals). t .end) totals
+  gaps-kept : gapsOf us ≡ gapsOf ws
+  gaps-kept = ap (λ (t : Totals). t .gaps) totals
 
   row-inside : (x : ℕ) → x < 1024 → placeOf us x + sizeOf us x ≤ length st
   row-inside x b = by-index p x
@@ -101,14 +101,16 @@ module _ (ws st : List ℕ) (p : ℕ) (m : Item) (l : length ws ≡ 20768) (h : 
       (λ ne. omega (arith, ap (λ (k : Item). k .place) (other x ne), sizes x, lay .inside x b))
 
   lay-row : payload.Good us st
-  lay-row = record {
+  lay-row = rw gaps-kept (record {
     long = whole;
-    at-in = omega (arith, end-kept, lay .at-in);
+    limit-in = lay .limit-in;
+    end-in = lay .end-in;
+    front-in = lay .front-in;
     inside = row-inside;
-    below = λ x b s. omega (arith, place-kept x s, sizes x, end-kept, lay .below x b (omega (arith, sizes x)));
+    clear = λ x b s. rw (place-kept x s, sizes x) (lay .clear x b (omega (arith, sizes x)));
     apart = λ i j a b ne s t. rw (place-kept i s, place-kept j t, sizes i, sizes j) (lay .apart i j a b ne (omega (arith, sizes i)) (omega (arith, sizes j)));
     used-is = used-kept ∙ lay .used-is ∙ sym (sum-same (sizeOf ws) (sizeOf us) 1024 (λ j b. sizes j));
-  }
+  })
 
   module _ (bs : List ℕ) (room : usedOf ws + length bs ≤ length st) where
     vs : List ℕ
@@ -150,7 +152,7 @@ module _ (ws st : List ℕ) (p : ℕ) (m : Item) (l : length ws ≡ 20768) (h : 
     placed = record {
       long = frame .long ∙ Laws.whole-put-item ws p m;
       options = frame .options ∙ Laws.options-put-item ws p m;
-      totals = frame .totals ∙ ap (λ t. withBytes t (usedOf vs) (endOf vs)) totals;
+      totals = frame .totals ∙ ap (λ t. withBytes t (usedOf vs) (gapsOf vs)) totals;
       used = law .used ∙ ap (λ n. n + length bs) used-kept;
       scheduler = frame .scheduler ∙ Laws.scheduler-put-item ws p m;
       active = λ j. frame .active j ∙ Laws.active-put-item ws p m j h;

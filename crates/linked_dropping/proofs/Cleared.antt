@@ -225,7 +225,7 @@ module _ (us st : List ℕ) (x v : ℕ) (long : length us ≡ 20768) (hx : x < 1
     places = λ y h. Laws.place-put-next us x v y;
     sizes = λ y h. Laws.length-put-next us x v y;
     used = ap (λ (t : Totals). t .used) (Laws.totals-put-next us x v);
-    end = ap (λ (t : Totals). t .end) (Laws.totals-put-next us x v);
+    gaps = ap (λ (t : Totals). t .gaps) (Laws.totals-put-next us x v);
   }
 
   cut-item : (y : ℕ) → itemOf (itemAt vs y) (payloadOf us st y) ≡ itemOf (itemAt us y) (payloadOf us st y)

@@ -6,7 +6,7 @@ use Rattle.queue_words.specs.Header.{totalsAt, putTotals, FitsTotals}
 use Rattle.queue_words.specs.declared.header.Totals.{Totals}
 use Rattle.queue_words.proofs.Laws
 use Rattle.queue_model.specs.Types.{Stream, Scheduler}
-use Rattle.payload_store.specs.Words.{usedOf, endOf}
+use Rattle.payload_store.specs.Words.{usedOf, gapsOf}
 use Rattle.stream_scheduler.specs.Link.{modelScheduler}
 use Rattle.queue_state.specs.Model.{streamsIn}
 use Rattle.queue_state.specs.Good.{Shape}
@@ -20,11 +20,11 @@ pub record Counts (ws : List ℕ) (t : Totals) : Type 0 where
   pub waiting : t .waiting ≡ totalsAt ws .waiting
   pub free : t .free ≡ totalsAt ws .free
   pub used : t .used ≡ usedOf ws
-  pub end : t .end ≡ endOf ws
+  pub gaps : t .gaps ≡ gapsOf ws
 
 module _ (ws st : List ℕ) (g : Shape ws st) (t : Totals) (c : Counts ws t) where
   pub begun : Unmoved ws st g (putTotals ws t)
-  begun = shape-totals ws st t g (c .fits) (c .known) (c .waiting) (c .free) (c .used) (c .end)
+  begun = shape-totals ws st t g (c .fits) (c .known) (c .waiting) (c .free) (c .used) (c .gaps)
 
   pub begun-totals : totalsAt (putTotals ws t) ≡ t
   begun-totals = Laws.totals-at-put ws t (g .long) (c .fits)

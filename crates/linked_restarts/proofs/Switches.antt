@@ -106,7 +106,7 @@ module _ (b : Bool) (ws st : List ℕ) (g : Good ws st) where
   chosen = withInterleaving (totalsAt ws) b
 
   counts : Counts ws chosen
-  counts = record { fits = record { message-id-fits = Laws.totals-at-fits ws .message-id-fits }; known = refl; waiting = refl; free = refl; used = refl; end = refl }
+  counts = record { fits = record { message-id-fits = Laws.totals-at-fits ws .message-id-fits }; known = refl; waiting = refl; free = refl; used = refl; gaps = refl }
 
   abbrev start : List ℕ
   start = putTotals ws chosen

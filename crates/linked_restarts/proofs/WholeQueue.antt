@@ -91,7 +91,7 @@ module _ (ws st : List ℕ) (g : Good ws st) where
   risen = withTotal (totalsAt ws) (totalsAt ws .total + all-put-back (streamsIn ws st))
 
   counts : Counts ws risen
-  counts = record { fits = record { message-id-fits = Laws.totals-at-fits ws .message-id-fits }; known = refl; waiting = refl; free = refl; used = refl; end = refl }
+  counts = record { fits = record { message-id-fits = Laws.totals-at-fits ws .message-id-fits }; known = refl; waiting = refl; free = refl; used = refl; gaps = refl }
 
   abbrev start : List ℕ
   start = putTotals ws risen

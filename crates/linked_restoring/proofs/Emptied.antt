@@ -85,7 +85,7 @@ module _ (ws st : List ℕ) (id : ℕ) (len : length ws ≡ 20768) (small : id <
     bare = λ x h. places .sizes x (free-fits (λ j. []) (range 0 1024) x split-new h);
     waits = ap (λ (t : Totals). t .waiting) empty-totals ∙ sym (total-zero length (λ j. []) (λ j. refl));
     used = ap (λ (t : Totals). t .used) empty-totals ∙ sym (total-zero (sumOf _) (λ j. []) (λ j. refl));
-    lay = new-good (emptied ws id) st long (places .places) (places .sizes) (ap (λ (t : Totals). t .used) empty-totals) (ap (λ (t : Totals). t .end) empty-totals);
+    lay = new-good (emptied ws id) st long (places .places) (places .sizes) (ap (λ (t : Totals). t .used) empty-totals) (ap (λ (t : Totals). t .gaps) empty-totals);
     schedules = good-scheduler;
   }
 

@@ -74,7 +74,7 @@ module _ (ws st : List ℕ) (g : Shape ws st) (i : ℕ) (hk : i < totalsAt ws .k
   chained = hangs (λ t. withRestored t (nextOf ws p) n) (fits-restored (nextOf ws p) n) ws vs row p n (g .q i) (put .long ∙ g .long) (row-below ws st g i hk) (g .rows i hk)
 
   counts : Counted (totalsAt vs) (nextOf ws p) (withRestored (totalsAt vs) (nextOf ws p) n)
-  counts = record { known = refl; waiting = refl; free-is = refl; used = refl; end = refl }
+  counts = record { known = refl; waiting = refl; free-is = refl; used = refl; gaps = refl }
 
   old-is : streamIn ws st i ≡ streamOf (idAt ws i) s (each (itemIn ws st) (g .q i))
   old-is = stream-is ws st g i hk

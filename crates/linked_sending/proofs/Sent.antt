@@ -30,7 +30,7 @@ use Rattle.queue_model.proofs.Invariant.Well.{Well}
 use Rattle.queue_model.proofs.Invariant.Sends.{Chosen, handed-well}
 use Rattle.payload_store.specs.Good.{payloadOf}
 use Rattle.payload_store.specs.Reading.{readCode, readPart}
-use Rattle.payload_store.specs.Words.{sizeOf, endOf}
+use Rattle.payload_store.specs.Words.{sizeOf, gapsOf}
 use Rattle.payload_store.proofs.Cases.{by-lt}
 use Rattle.payload_store.proofs.Reading.{read-law}
 use Rattle.stream_scheduler.specs.Link.{entryAt, modelScheduler}
@@ -239,7 +239,7 @@ module _ (ws st : List ℕ) (g : Good ws st) (at : ℕ) (c : Choice ws st (g .sh
 
     read : (bs : List ℕ) → n ≤ length bs → (readCode ws (length st) (c .first) (m .offset) n (length bs) ≡ 0) × (readPart ws st (c .first) (m .offset) n bs ≡ f .bytes ++ drop (length (f .bytes)) bs)
     read bs h =
-        let r = read-law ws st bs (endOf ws) (c .first) (m .offset) n (sh .lay) (c .first-fits) part-fits h in
+        let r = read-law ws st bs (gapsOf ws) (c .first) (m .offset) n (sh .lay) (c .first-fits) part-fits h in
         let l : length (take n (drop (m .offset) (payloadOf ws st (c .first)))) ≡ n = part-length (payloadOf ws st (c .first)) (m .offset) n (omega (arith, part-fits, length-is)) in
         (r .0, rw (bytes-are, l) (r .1))
 

@@ -32,7 +32,7 @@ withoutMessage t place n = record {
   waiting = t .waiting - 1;
   free = place;
   used = t .used;
-  end = t .end;
+  gaps = t .gaps;
 }
 
 -- a message that is gone: its payload dropped, its place first among the free ones

@@ -9,15 +9,18 @@ use lib.Dec.{ltb, leb, eqb}
 use lib.ListN.{length}
 use Rattle.queue_words.specs.Flags.{pick}
 use Rattle.queue_words.specs.Header.{totalsAt}
+use Rattle.queue_words.specs.declared.header.Gaps.{Gaps}
 use Rattle.queue_words.specs.declared.header.Totals.{Totals}
 use Rattle.queue_words.specs.Items.{putLength}
-use Rattle.payload_store.specs.Words.{usedOf, endOf, placeOf, sizeOf, putBytes}
-use Rattle.payload_store.specs.Dropping.{dropCode, dropped, dropPayload}
+use Rattle.payload_store.specs.Words.{usedOf, gapsOf, placeOf, sizeOf, putBytes}
+use Rattle.payload_store.specs.Gaps.{gaps, past, gapsLeft}
+use Rattle.payload_store.specs.Dropping.{dropCode, gapsThen, dropped, dropPayload}
 use Rattle.payload_store.specs.Good.{payloadOf, sumTo, Good}
 use Rattle.payload_store.specs.Promise.{Dropped}
 use Rattle.payload_store.proofs.Cases.{by-index, pick-else}
-use Rattle.payload_store.proofs.Laws.{size-length, size-same, size-other, size-place, bytes-length, bytes-place, bytes-size, bytes-used, bytes-end}
-use Rattle.payload_store.proofs.Sums.{sum-one, sum-has}
+use Rattle.payload_store.proofs.Laws.{size-length, size-same, size-other, size-place, bytes-length, bytes-place, bytes-size, bytes-used, bytes-gaps}
+use Rattle.payload_store.proofs.Clear.{Ordered, past-cases}
+use Rattle.payload_store.proofs.Sums.{sum-one, sum-has, sum-both}
 
 pub record DropOk (ws : List ℕ) (i : ℕ) : Type 0 where
   pub row : i < 1024
@@ -37,22 +40,77 @@ pub drop-refused : (ws : List ℕ) (i code : ℕ) → code ≡ dropCode ws i →
 unfolding dropPayload
 drop-refused ws i code ec h = (ec, rw (ne-eqb (dropCode ws i) 0 (λ z. omega arith)))
 
-drop-done : (ws ws1 ws2 : List ℕ) (i code size : ℕ) (t : Totals) (u e : ℕ) → code ≡ dropCode ws i → code ≤ 0 → size ≡ sizeOf ws i → t ≡ totalsAt ws
-    → u ≡ t .used - size → e ≡ pick (eqb (t .used) size) 0 (t .end) → ws1 ≡ putLength ws i 0 → ws2 ≡ putBytes ws1 u e → (0 ≡ dropCode ws i) × (ws2 ≡ dropPayload ws i)
-unfolding dropPayload dropped
-drop-done ws ws1 ws2 i code size t u e ec h es et e1 e2 e3 e4 =
-    let z : dropCode ws i ≡ 0 = omega arith in
-    (sym z, rw (eq-eqb (dropCode ws i) 0 z) (rw (e4, e3, e2, e1, et, es)))
+-- the ways out of drop_payload
+module _ (ws ws1 ws2 : List ℕ) (i code size place : ℕ) (t : Totals) (g : Gaps) (ec : code ≡ dropCode ws i) (h : code ≤ 0) (es : size ≡ sizeOf ws i) (ep : place ≡ placeOf ws i)
+    (et : t ≡ totalsAt ws) (eg : g ≡ gapsLeft (t .gaps) place size) (e1 : ws1 ≡ putLength ws i 0) where
+  drop-done : (u : ℕ) (e : Gaps) → u ≡ t .used - size → e ≡ gapsThen ws i g → ws2 ≡ putBytes ws1 u e → (0 ≡ dropCode ws i) × (ws2 ≡ dropPayload ws i)
+  unfolding dropPayload dropped
+  drop-done u e eu ee e2 =
+      let z : dropCode ws i ≡ 0 = omega arith in
+      (sym z, rw (eq-eqb (dropCode ws i) 0 z) (rw (e2, e1, ee, eg, eu, et, es, ep)))
 
-pub drop-all : (ws ws1 ws2 : List ℕ) (i code size : ℕ) (t : Totals) → code ≡ dropCode ws i → code ≤ 0 → size ≡ sizeOf ws i → t ≡ totalsAt ws
-    → t .used ≡ size → ws1 ≡ putLength ws i 0 → ws2 ≡ putBytes ws1 0 0 → (0 ≡ dropCode ws i) × (ws2 ≡ dropPayload ws i)
-drop-all ws ws1 ws2 i code size t ec h es et q e1 e2 = drop-done ws ws1 ws2 i code size t 0 0 ec h es et (omega arith) (rw (eq-eqb (t .used) size q)) e1 e2
+  then-all : t .used ≡ size → gaps 0 (g .limit) 0 ≡ gapsThen ws i g
+  unfolding gapsThen
+  then-all q = let z : usedOf ws ≡ sizeOf ws i = rw (et, es) at q in rw (eq-eqb (usedOf ws) (sizeOf ws i) z)
 
-pub drop-some : (ws ws1 ws2 : List ℕ) (i code size : ℕ) (t : Totals) → code ≡ dropCode ws i → code ≤ 0 → size ≡ sizeOf ws i → t ≡ totalsAt ws
-    → (t .used ≡ size → ⊥) → ws1 ≡ putLength ws i 0 → ws2 ≡ putBytes ws1 (t .used - size) (t .end) → (0 ≡ dropCode ws i) × (ws2 ≡ dropPayload ws i)
-drop-some ws ws1 ws2 i code size t ec h es et q e1 e2 = drop-done ws ws1 ws2 i code size t (t .used - size) (t .end) ec h es et refl (rw (ne-eqb (t .used) size q)) e1 e2
+  then-some : (t .used ≡ size → ⊥) → g ≡ gapsThen ws i g
+  unfolding gapsThen
+  then-some q = rw (ne-eqb (usedOf ws) (sizeOf ws i) (λ z. q (ap (λ (x : Totals). x .used) et ∙ (z ∙ sym es))))
 
-module _ (ws st : List ℕ) (r e : ℕ) (g : Good ws st) (h : r < 1024) (eo : (e ≡ endOf ws) ⊎ ((e ≡ 0) × (usedOf ws ≡ sizeOf ws r))) where
+  pub drop-all : t .used ≡ size → ws2 ≡ putBytes ws1 0 (gaps 0 (g .limit) 0) → (0 ≡ dropCode ws i) × (ws2 ≡ dropPayload ws i)
+  drop-all q e2 = drop-done 0 (gaps 0 (g .limit) 0) (omega arith) (then-all q) e2
+
+  pub drop-some : (t .used ≡ size → ⊥) → ws2 ≡ putBytes ws1 (t .used - size) g → (0 ≡ dropCode ws i) × (ws2 ≡ dropPayload ws i)
+  drop-some q e2 = drop-done (t .used - size) g refl (then-some q) e2
+
+-- gaps that every payload but row r's is clear of
+record Clear (ws st : List ℕ) (r : ℕ) (g : Gaps) : Type 0 where
+  order : Ordered g (length st)
+  others : (i : ℕ) → i < 1024 → (r ≡ i → ⊥) → 1 ≤ sizeOf ws i → ((g .front ≤ placeOf ws i) × (placeOf ws i + sizeOf ws i ≤ g .end)) ⊎ (g .limit ≤ placeOf ws i)
+
+module _ (ws st : List ℕ) (r : ℕ) (l : Good ws st) (h : r < 1024) (live : 1 ≤ sizeOf ws r) where
+  abbrev g : Gaps
+  g = gapsOf ws
+
+  same-clear : Clear ws st r g
+  same-clear = record { order = record { limit-in = l .limit-in; end-in = l .end-in; front-in = l .front-in }; others = λ i hi ne s. l .clear i hi s }
+
+  -- row r's payload begins at the limit: the others there lie above it
+  limit-clear : (v : ℕ) → placeOf ws r ≡ g .limit → (v ≡ g .limit) ⊎ (v ≡ g .limit + sizeOf ws r) → Clear ws st r (gaps (g .end) v (g .front))
+  limit-clear v e c = ⊎-elim (λ z. rw z same-clear)
+      (λ z. record {
+        order = record { limit-in = omega (arith, l .inside r h); end-in = omega (arith, l .end-in); front-in = l .front-in };
+        others = λ i hi ne s. ⊎-elim (λ a. inl a)
+            (λ a. ⊎-elim (λ b. inr (omega arith)) (λ b. absurd (omega arith)) (l .apart r i h hi ne live s))
+            (l .clear i hi s);
+      })
+      c
+
+  -- or at the front
+  front-clear : (v : ℕ) → (placeOf ws r ≡ g .limit → ⊥) → placeOf ws r ≡ g .front → (v ≡ g .front) ⊎ (v ≡ g .front + sizeOf ws r) → Clear ws st r (gaps (g .end) (g .limit) v)
+  front-clear v ne e c = ⊎-elim (λ z. rw z same-clear)
+      (λ z. record {
+        order = record {
+          limit-in = l .limit-in;
+          end-in = l .end-in;
+          front-in = ⊎-elim (λ a. omega (arith, a .1)) (λ a. absurd (ne (omega (arith, l .end-in, l .front-in)))) (l .clear r h live);
+        };
+        others = λ i hi nr s. ⊎-elim
+            (λ a. ⊎-elim (λ b. inl (omega arith, a .1)) (λ b. absurd (omega (arith, a .0))) (l .apart r i h hi nr live s))
+            (λ a. inr a)
+            (l .clear i hi s);
+      })
+      c
+
+  left-clear : Clear ws st r (gapsLeft g (placeOf ws r) (sizeOf ws r))
+  unfolding gapsLeft
+  left-clear = by-index (placeOf ws r) (g .limit)
+      (λ e. rw (eq-eqb (placeOf ws r) (g .limit) e) (limit-clear (past (g .limit) (sizeOf ws r)) e (past-cases (g .limit) (sizeOf ws r))))
+      (λ ne. by-index (placeOf ws r) (g .front)
+      (λ e. rw (ne-eqb (placeOf ws r) (g .limit) ne, eq-eqb (placeOf ws r) (g .front) e) (front-clear (past (g .front) (sizeOf ws r)) ne e (past-cases (g .front) (sizeOf ws r))))
+      (λ nf. rw (ne-eqb (placeOf ws r) (g .limit) ne, ne-eqb (placeOf ws r) (g .front) nf) same-clear))
+
+module _ (ws st : List ℕ) (r : ℕ) (e : Gaps) (g : Good ws st) (h : r < 1024) (eo : Clear ws st r e) where
   abbrev ws′ : List ℕ
   ws′ = putBytes (putLength ws r 0) (usedOf ws - sizeOf ws r) e
 
@@ -80,15 +138,17 @@ module _ (ws st : List ℕ) (r e : ℕ) (g : Good ws st) (h : r < 1024) (eo : (e
 
   drop-lay : Dropped ws st r ws′
   drop-lay = record {
-    good = rw (bytes-end (putLength ws r 0) (usedOf ws - sizeOf ws r) e ll) (record {
+    good = rw (bytes-gaps (putLength ws r 0) (usedOf ws - sizeOf ws r) e ll) (record {
       long = bytes-length (putLength ws r 0) (usedOf ws - sizeOf ws r) e ∙ ll;
-      at-in = ⊎-elim (λ a. omega (arith, g .at-in)) (λ a. omega (arith, a .0)) eo;
+      limit-in = eo .order .limit-in;
+      end-in = eo .order .end-in;
+      front-in = eo .order .front-in;
       inside = λ i hi. by-index r i
           (λ q. omega (arith, ap (sizeOf ws′) q, sn, po i, g .inside i hi))
           (λ ne. omega (arith, po i, so i ne, g .inside i hi));
-      below = λ i hi s. let ne = not-row i s in
-          ⊎-elim (λ a. omega (arith, po i, so i ne, g .below i hi (omega (arith, so i ne))))
-          (λ a. absurd (omega (arith, a .1, sum′, sum-has (sizeOf ws′) i 1024 hi))) eo;
+      clear = λ i hi s. let ne = not-row i s in
+          ⊎-elim (λ a. inl (omega (arith, po i, a .0), omega (arith, po i, so i ne, a .1))) (λ a. inr (omega (arith, po i)))
+          (eo .others i hi ne (omega (arith, so i ne)));
       apart = λ i j hi hj ne si sj.
           let ni = not-row i si in let nj = not-row j sj in
           ⊎-elim (λ l. inl (omega (arith, po i, so i ni, po j, so j nj))) (λ l. inr (omega (arith, po i, so i ni, po j, so j nj)))
@@ -101,14 +161,23 @@ module _ (ws st : List ℕ) (r e : ℕ) (g : Good ws st) (h : r < 1024) (eo : (e
     others = other-bytes;
   }
 
+-- where nothing is used any more, any gaps in their order do
+none-clear : (ws st : List ℕ) (r : ℕ) (g : Gaps) → Good ws st → r < 1024 → usedOf ws ≡ sizeOf ws r → Ordered g (length st) → Clear ws st r (gaps 0 (g .limit) 0)
+none-clear ws st r g l h q o = record {
+  order = record { limit-in = o .limit-in; end-in = omega arith; front-in = omega arith };
+  others = λ i hi ne s. absurd (omega (arith, q, l .used-is, sum-both (sizeOf ws) r i 1024 h hi ne));
+}
+
 -- THE THEOREM of dropping
 pub drop-law : (ws st : List ℕ) (r : ℕ) → Good ws st → r < 1024 → 1 ≤ sizeOf ws r → (dropCode ws r ≡ 0) × Dropped ws st r (dropPayload ws r)
-unfolding dropPayload dropped dropCode
+unfolding dropPayload dropped dropCode gapsThen
 drop-law ws st r g h s =
     let b : sizeOf ws r ≤ usedOf ws = omega (arith, g .used-is, sum-has (sizeOf ws) r 1024 h) in
-    let z : dropCode ws r ≡ 0 = rw (lt-leb 1024 r h, ne-eqb (sizeOf ws r) 0 (λ q. omega arith), le-ltb (usedOf ws) (sizeOf ws r) b) in (
+    let z : dropCode ws r ≡ 0 = rw (lt-leb 1024 r h, ne-eqb (sizeOf ws r) 0 (λ q. omega arith), le-ltb (usedOf ws) (sizeOf ws r) b) in
+    let f = gapsLeft (gapsOf ws) (placeOf ws r) (sizeOf ws r) in
+    let c = left-clear ws st r g h s in (
       z,
       rw (eq-eqb (dropCode ws r) 0 z) (by-index (usedOf ws) (sizeOf ws r)
-          (λ q. rw (eq-eqb (usedOf ws) (sizeOf ws r) q) (drop-lay ws st r 0 g h (inr (refl, q))))
-          (λ q. rw (ne-eqb (usedOf ws) (sizeOf ws r) q) (drop-lay ws st r (endOf ws) g h (inl refl)))),
+          (λ q. rw (eq-eqb (usedOf ws) (sizeOf ws r) q) (drop-lay ws st r (gaps 0 (f .limit) 0) g h (none-clear ws st r f g h q (c .order))))
+          (λ q. rw (ne-eqb (usedOf ws) (sizeOf ws r) q) (drop-lay ws st r f g h c))),
     )

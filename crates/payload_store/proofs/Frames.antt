@@ -11,12 +11,15 @@ use Rattle.queue_words.specs.Flags.{pick}
 use Rattle.queue_words.specs.Header.{totalsAt}
 use Rattle.queue_words.specs.Items.{itemAt, putPlace, putLength, withPlace, withLength}
 use Rattle.queue_words.specs.declared.items.Item.{Item}
+use Rattle.queue_words.specs.declared.header.Gaps.{Gaps}
 use Rattle.queue_words.specs.declared.header.Totals.{Totals}
 use Rattle.queue_words.proofs.Laws.{item-put-place, item-put-place-other, options-put-place, scheduler-put-place, known-put-place, stream-put-place, active-put-place, item-put-length, item-put-length-other, totals-put-length, options-put-length, scheduler-put-length, known-put-length, stream-put-length, active-put-length, options-put-totals, scheduler-put-totals, known-put-totals, stream-put-totals, active-put-totals}
-use Rattle.payload_store.specs.Words.{usedOf, endOf, placeOf, sizeOf, withBytes, putBytes}
+use Rattle.payload_store.specs.Words.{usedOf, gapsOf, placeOf, sizeOf, withBytes, putBytes}
+use Rattle.payload_store.specs.Gaps.{gaps, room, gapFor, gapsLeft}
+use Rattle.payload_store.specs.Searching.{found}
 use Rattle.payload_store.specs.Moving.{Pack, pack, least, moved, turnAt, turn, turns, together}
-use Rattle.payload_store.specs.Putting.{Outcome, outcome, placed, putCode, putPayload}
-use Rattle.payload_store.specs.Dropping.{dropCode, dropped, dropPayload}
+use Rattle.payload_store.specs.Putting.{Outcome, outcome, placed, putCode, putElsewhere, putPayload}
+use Rattle.payload_store.specs.Dropping.{dropCode, gapsThen, dropped, dropPayload}
 use Rattle.payload_store.specs.Promise.{Frame}
 use Rattle.payload_store.proofs.Cases.{by-index}
 use Rattle.payload_store.proofs.Laws.{place-length, place-totals, size-length, bytes-length, bytes-item, bytes-totals}
@@ -39,7 +42,7 @@ pub frame-both : (a b c : List ℕ) → Frame a b → Frame b c → Frame a c
 frame-both a b c f g = record {
   long = g .long ∙ f .long;
   items = λ j. g .items j ∙ ap (λ (m : Item). withLength (withPlace m (placeOf c j)) (sizeOf c j)) (f .items j);
-  totals = g .totals ∙ ap (λ (t : Totals). withBytes t (usedOf c) (endOf c)) (f .totals);
+  totals = g .totals ∙ ap (λ (t : Totals). withBytes t (usedOf c) (gapsOf c)) (f .totals);
   options = g .options ∙ f .options;
   scheduler = g .scheduler ∙ f .scheduler;
   known = λ j h. g .known j h ∙ f .known j h;
@@ -57,10 +60,10 @@ same-but-length m m′ v e = e ∙ rw e
 same-item : (m m′ : Item) → m′ ≡ m → m′ ≡ withLength (withPlace m (m′ .place)) (m′ .length)
 same-item m m′ e = e ∙ rw e
 
-same-totals : (t t′ : Totals) → t′ ≡ t → t′ ≡ withBytes t (t′ .used) (t′ .end)
+same-totals : (t t′ : Totals) → t′ ≡ t → t′ ≡ withBytes t (t′ .used) (t′ .gaps)
 same-totals t t′ e = e ∙ rw e
 
-other-totals : (t t′ : Totals) (u e : ℕ) → t′ ≡ withBytes t u e → t′ ≡ withBytes t (t′ .used) (t′ .end)
+other-totals : (t t′ : Totals) (u : ℕ) (e : Gaps) → t′ ≡ withBytes t u e → t′ ≡ withBytes t (t′ .used) (t′ .gaps)
 other-totals t t′ u e q = q ∙ rw q
 
 module _ (ws : List ℕ) (l : length ws ≡ 20768) where
@@ -92,7 +95,7 @@ module _ (ws : List ℕ) (l : length ws ≡ 20768) where
     active = λ j. active-put-length ws i v j h;
   }
 
-  bytes-frame : (u e : ℕ) → Frame ws (putBytes ws u e)
+  bytes-frame : (u : ℕ) (e : Gaps) → Frame ws (putBytes ws u e)
   unfolding putBytes
   bytes-frame u e = record {
     long = bytes-length ws u e;
@@ -129,15 +132,36 @@ pub together-frame : (ws st : List ℕ) → length ws ≡ 20768 → Frame ws (to
 unfolding together
 together-frame ws st l = turns-frame (pack ws st 0) (length st) l
 
-placed-frame : (ws st : List ℕ) (at i : ℕ) (bs : List ℕ) → length ws ≡ 20768 → i < 1024 → Frame ws (placed ws st at i bs .words)
+placed-frame : (ws st : List ℕ) (g : Gaps) (i : ℕ) (bs : List ℕ) → length ws ≡ 20768 → i < 1024 → Frame ws (placed ws st g i bs .words)
 unfolding placed
-placed-frame ws st at i bs l h =
+placed-frame ws st g i bs l h =
     let n = length bs in
+    let at = g .end in
+    let f = gaps (at + n) (g .limit) (g .front) in
     let l1 : length (putPlace ws i at) ≡ 20768 = place-length ws i at ∙ l in
     let l2 : length (putLength (putPlace ws i at) i n) ≡ 20768 = size-length (putPlace ws i at) i n ∙ l1 in
-    frame-both ws (putLength (putPlace ws i at) i n) (putBytes (putLength (putPlace ws i at) i n) (usedOf ws + n) (at + n))
+    frame-both ws (putLength (putPlace ws i at) i n) (putBytes (putLength (putPlace ws i at) i n) (usedOf ws + n) f)
     (frame-both ws (putPlace ws i at) (putLength (putPlace ws i at) i n) (place-frame ws l i at h) (length-frame (putPlace ws i at) l1 i n h))
-    (bytes-frame (putLength (putPlace ws i at) i n) l2 (usedOf ws + n) (at + n))
+    (bytes-frame (putLength (putPlace ws i at) i n) l2 (usedOf ws + n) f)
+
+elsewhere-frame : (ws st : List ℕ) (g : Gaps) (i : ℕ) (bs : List ℕ) → length ws ≡ 20768 → i < 1024 → Frame ws (putElsewhere ws st g i bs .words)
+unfolding putElsewhere
+elsewhere-frame ws st g i bs l h = go (leb (length bs) (room f))
+  where
+    f : Gaps
+    f = found ws (length st) (length bs) g
+
+    t : Pack
+    t = together ws st
+
+    p : Gaps
+    p = gaps (usedOf (t .words)) (length st) 0
+
+    go : (a : Bool) → Frame ws (pick a (placed ws st f i bs) (placed (t .words) (t .store) p i bs) .words)
+    go true = placed-frame ws st f i bs l h
+    go false =
+        let k = together-frame ws st l in
+        frame-both ws (t .words) (placed (t .words) (t .store) p i bs .words) k (placed-frame (t .words) (t .store) p i bs (k .long ∙ l) h)
 
 -- THE THEOREMS: what a call leaves alone, on any words
 pub put-frame : (ws st : List ℕ) (i : ℕ) (bs : List ℕ) → length ws ≡ 20768 → Frame ws (putPayload ws st i bs .words)
@@ -147,16 +171,13 @@ put-frame ws st i bs l = go (eqb code 0) refl (eqb code 1) refl
     code : ℕ
     code = putCode ws (length st) i (length bs)
 
-    t : Pack
-    t = together ws st
+    f : Gaps
+    f = gapFor (gapsOf ws) (length bs)
 
     go : (a : Bool) → eqb code 0 ≡ a → (b : Bool) → eqb code 1 ≡ b
-        → Frame ws (pick a (placed ws st (endOf ws) i bs) (pick b (placed (t .words) (t .store) (usedOf (t .words)) i bs) (outcome code ws st)) .words)
-    go true ea b eb = placed-frame ws st (endOf ws) i bs l (put-zero ws (length st) i (length bs) (eqb-true code 0 ea) .0 .row)
-    go false ea true eb =
-        let f = together-frame ws st l in
-        frame-both ws (t .words) (placed (t .words) (t .store) (usedOf (t .words)) i bs .words) f
-        (placed-frame (t .words) (t .store) (usedOf (t .words)) i bs (f .long ∙ l) (ok-before ws (length st) i (length bs) code refl (eqb-true code 1 eb) .row))
+        → Frame ws (pick a (placed ws st f i bs) (pick b (putElsewhere ws st (gapsOf ws) i bs) (outcome code ws st)) .words)
+    go true ea b eb = placed-frame ws st f i bs l (put-zero ws (length st) i (length bs) (eqb-true code 0 ea) .0 .row)
+    go false ea true eb = elsewhere-frame ws st (gapsOf ws) i bs l (ok-before ws (length st) i (length bs) code refl (eqb-true code 1 eb) .row)
     go false ea false eb = frame-none ws
 
 pub drop-frame : (ws : List ℕ) (i : ℕ) → length ws ≡ 20768 → Frame ws (dropPayload ws i)
@@ -166,8 +187,8 @@ drop-frame ws i l = go (eqb (dropCode ws i) 0) refl
     u : ℕ
     u = usedOf ws - sizeOf ws i
 
-    e : ℕ
-    e = pick (eqb (usedOf ws) (sizeOf ws i)) 0 (endOf ws)
+    e : Gaps
+    e = gapsThen ws i (gapsLeft (gapsOf ws) (placeOf ws i) (sizeOf ws i))
 
     go : (a : Bool) → eqb (dropCode ws i) 0 ≡ a → Frame ws (pick a (putBytes (putLength ws i 0) u e) ws)
     go true ea =
@@ -175,6 +196,15 @@ drop-frame ws i l = go (eqb (dropCode ws i) 0) refl
         let h : i < 1024 = drop-held ws i 0 (sym z) (omega arith) .row in
         frame-both ws (putLength ws i 0) (putBytes (putLength ws i 0) u e) (length-frame ws l i 0 h) (bytes-frame (putLength ws i 0) (size-length ws i 0 ∙ l) u e)
     go false ea = frame-none ws
+
+-- a put elsewhere is never refused
+elsewhere-done : (ws st : List ℕ) (g : Gaps) (i : ℕ) (bs : List ℕ) → putElsewhere ws st g i bs .answer ≡ 0
+unfolding putElsewhere placed
+elsewhere-done ws st g i bs = go (leb (length bs) (room (found ws (length st) (length bs) g)))
+  where
+    go : (a : Bool) → pick a (placed ws st (found ws (length st) (length bs) g) i bs) (placed (together ws st .words) (together ws st .store) (gaps (usedOf (together ws st .words)) (length st) 0) i bs) .answer ≡ 0
+    go true = refl
+    go false = refl
 
 -- a refused put changes nothing
 pub put-refused : (ws st : List ℕ) (i : ℕ) (bs : List ℕ) → (putPayload ws st i bs .answer ≡ 0 → ⊥) → (putPayload ws st i bs .words ≡ ws) × (putPayload ws st i bs .store ≡ st)
@@ -184,13 +214,10 @@ put-refused ws st i bs = go (eqb code 0) (eqb code 1)
     code : ℕ
     code = putCode ws (length st) i (length bs)
 
-    t : Pack
-    t = together ws st
-
     full : Bool → Bool → Outcome
-    full a b = pick a (placed ws st (endOf ws) i bs) (pick b (placed (t .words) (t .store) (usedOf (t .words)) i bs) (outcome code ws st))
+    full a b = pick a (placed ws st (gapFor (gapsOf ws) (length bs)) i bs) (pick b (putElsewhere ws st (gapsOf ws) i bs) (outcome code ws st))
 
     go : (a b : Bool) → (full a b .answer ≡ 0 → ⊥) → (full a b .words ≡ ws) × (full a b .store ≡ st)
     go true b n = absurd (n refl)
-    go false true n = absurd (n refl)
+    go false true n = absurd (n (elsewhere-done ws st (gapsOf ws) i bs))
     go false false n = (refl, refl)

@@ -6,30 +6,38 @@ use Prim.Native.Nat.{ℕ, _≤_, _<_}
 use native.Mathlib.Omega.{arith}
 use lib.ListN.{length, drop, length-drop}
 use lib.Seq.{length-take-le}
-use Rattle.payload_store.specs.Words.{usedOf, endOf, placeOf, sizeOf}
+use Rattle.queue_words.specs.declared.header.Gaps.{Gaps}
+use Rattle.payload_store.specs.Words.{usedOf, gapsOf, placeOf, sizeOf}
+use Rattle.payload_store.specs.Gaps.{gaps}
 use Rattle.payload_store.specs.Good.{payloadOf, Lay, Good}
 use Rattle.payload_store.specs.Promise.{SamePlaces}
 use Rattle.payload_store.proofs.Sums.{sum-same, sum-zero}
 use Rattle.payload_store.proofs.Together.{together-law}
 
 -- a new queue: no row has a payload, and nothing is used
-pub new-good : (ws st : List ℕ) → length ws ≡ 20768 → ((i : ℕ) → i < 1024 → placeOf ws i ≡ 0) → ((i : ℕ) → i < 1024 → sizeOf ws i ≡ 0) → usedOf ws ≡ 0 → endOf ws ≡ 0 → Good ws st
-new-good ws st l p s u e = record {
+pub new-good : (ws st : List ℕ) → length ws ≡ 20768 → ((i : ℕ) → i < 1024 → placeOf ws i ≡ 0) → ((i : ℕ) → i < 1024 → sizeOf ws i ≡ 0) → usedOf ws ≡ 0 → gapsOf ws ≡ gaps 0 0 0 → Good ws st
+new-good ws st l p s u e = rw e (record {
   long = l;
-  at-in = omega arith;
+  limit-in = omega arith;
+  end-in = omega arith;
+  front-in = omega arith;
   inside = λ i h. omega (arith, p i h, s i h);
-  below = λ i h q. omega (arith, p i h, s i h);
+  clear = λ i h q. absurd (omega (arith, s i h));
   apart = λ i j hi hj ne si sj. absurd (omega (arith, s i hi));
   used-is = u ∙ sym (sum-zero (sizeOf ws) 1024 s);
-}
+})
 
--- the invariant and the payloads are told by places, lengths, used bytes and their end
+-- the invariant and the payloads are told by places, lengths, used bytes and gaps
 pub good-same : (ws ws′ st : List ℕ) → SamePlaces ws ws′ → Good ws st → Good ws′ st
-good-same ws ws′ st k g = rw (k .end) (record {
+good-same ws ws′ st k g = rw (k .gaps) (record {
   long = k .long ∙ g .long;
-  at-in = g .at-in;
+  limit-in = g .limit-in;
+  end-in = g .end-in;
+  front-in = g .front-in;
   inside = λ i h. omega (arith, k .places i h, k .sizes i h, g .inside i h);
-  below = λ i h q. omega (arith, k .places i h, k .sizes i h, g .below i h (omega (arith, k .sizes i h)));
+  clear = λ i h q.
+      ⊎-elim (λ a. inl (omega (arith, k .places i h, a .0), omega (arith, k .places i h, k .sizes i h, a .1))) (λ a. inr (omega (arith, k .places i h)))
+      (g .clear i h (omega (arith, k .sizes i h)));
   apart = λ i j hi hj ne si sj.
       ⊎-elim (λ l. inl (omega (arith, k .places i hi, k .sizes i hi, k .places j hj))) (λ l. inr (omega (arith, k .places i hi, k .sizes j hj, k .places j hj)))
       (g .apart i j hi hj ne (omega (arith, k .sizes i hi)) (omega (arith, k .sizes j hj)));
@@ -41,12 +49,12 @@ unfolding payloadOf
 payload-kept ws ws′ st i k h = rw (k .places i h, k .sizes i h)
 
 -- no more bytes are used than the store has
-pub used-fits : (ws st : List ℕ) (at : ℕ) → Lay ws st at → usedOf ws ≤ length st
+pub used-fits : (ws st : List ℕ) (at : Gaps) → Lay ws st at → usedOf ws ≤ length st
 used-fits ws st at g =
     let t = together-law ws st at g in
-    omega (arith, t .lay .at-in, t .same)
+    omega (arith, t .lay .end-in)
 
 -- a payload is as long as its row says
-pub payload-length : (ws st : List ℕ) (at i : ℕ) → Lay ws st at → i < 1024 → length (payloadOf ws st i) ≡ sizeOf ws i
+pub payload-length : (ws st : List ℕ) (at : Gaps) (i : ℕ) → Lay ws st at → i < 1024 → length (payloadOf ws st i) ≡ sizeOf ws i
 unfolding payloadOf
 payload-length ws st at i g h = length-take-le (sizeOf ws i) (drop (placeOf ws i) st) (simp length-drop (omega (arith, g .inside i h)))

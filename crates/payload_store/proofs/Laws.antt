@@ -1,14 +1,15 @@
--- Laws of the words: what is read after a place, a length, or the used bytes and their end were stored. Each follows from the laws of queue_words. Assumes nothing.
+-- Laws of the words: what is read after a place, a length, or the used bytes and the gaps were stored. Each follows from the laws of queue_words. Assumes nothing.
 use mathlib.Core.Path.{_≡_, ap}
 use mathlib.Core.List.{List}
 use Prim.Native.Nat.{ℕ, _<_}
 use lib.ListN.{length}
 use Rattle.queue_words.specs.declared.items.Item.{Item}
+use Rattle.queue_words.specs.declared.header.Gaps.{Gaps}
 use Rattle.queue_words.specs.declared.header.Totals.{Totals}
 use Rattle.queue_words.specs.Items.{itemAt, putPlace, putLength}
 use Rattle.queue_words.specs.Header.{totalsAt}
 use Rattle.queue_words.proofs.Laws.{whole-put-place, whole-put-length, whole-put-totals, item-put-place, item-put-place-other, item-put-length, item-put-length-other, length-put-place, place-put-length, totals-put-place, item-put-totals, totals-at-put, totals-at-fits}
-use Rattle.payload_store.specs.Words.{usedOf, endOf, placeOf, sizeOf, withBytes, putBytes}
+use Rattle.payload_store.specs.Words.{usedOf, gapsOf, placeOf, sizeOf, withBytes, putBytes}
 
 module _ (ws : List ℕ) (i v : ℕ) where
   pub place-length : length (putPlace ws i v) ≡ length ws
@@ -38,27 +39,27 @@ module _ (ws : List ℕ) (i v : ℕ) where
   pub size-place : (j : ℕ) → placeOf (putLength ws i v) j ≡ placeOf ws j
   size-place j = place-put-length ws i v j
 
-module _ (ws : List ℕ) (u e : ℕ) where
-  pub bytes-length : length (putBytes ws u e) ≡ length ws
+module _ (ws : List ℕ) (u : ℕ) (g : Gaps) where
+  pub bytes-length : length (putBytes ws u g) ≡ length ws
   unfolding putBytes
-  bytes-length = whole-put-totals ws (withBytes (totalsAt ws) u e)
+  bytes-length = whole-put-totals ws (withBytes (totalsAt ws) u g)
 
-  pub bytes-item : (j : ℕ) → itemAt (putBytes ws u e) j ≡ itemAt ws j
+  pub bytes-item : (j : ℕ) → itemAt (putBytes ws u g) j ≡ itemAt ws j
   unfolding putBytes
-  bytes-item j = item-put-totals ws (withBytes (totalsAt ws) u e) j
+  bytes-item j = item-put-totals ws (withBytes (totalsAt ws) u g) j
 
-  pub bytes-place : (j : ℕ) → placeOf (putBytes ws u e) j ≡ placeOf ws j
+  pub bytes-place : (j : ℕ) → placeOf (putBytes ws u g) j ≡ placeOf ws j
   bytes-place j = ap (λ (m : Item). m .place) (bytes-item j)
 
-  pub bytes-size : (j : ℕ) → sizeOf (putBytes ws u e) j ≡ sizeOf ws j
+  pub bytes-size : (j : ℕ) → sizeOf (putBytes ws u g) j ≡ sizeOf ws j
   bytes-size j = ap (λ (m : Item). m .length) (bytes-item j)
 
-  pub bytes-totals : length ws ≡ 20768 → totalsAt (putBytes ws u e) ≡ withBytes (totalsAt ws) u e
+  pub bytes-totals : length ws ≡ 20768 → totalsAt (putBytes ws u g) ≡ withBytes (totalsAt ws) u g
   unfolding putBytes
-  bytes-totals l = totals-at-put ws (withBytes (totalsAt ws) u e) l (record { message-id-fits = totals-at-fits ws .message-id-fits })
+  bytes-totals l = totals-at-put ws (withBytes (totalsAt ws) u g) l (record { message-id-fits = totals-at-fits ws .message-id-fits })
 
-  pub bytes-used : length ws ≡ 20768 → usedOf (putBytes ws u e) ≡ u
+  pub bytes-used : length ws ≡ 20768 → usedOf (putBytes ws u g) ≡ u
   bytes-used l = ap (λ (t : Totals). t .used) (bytes-totals l)
 
-  pub bytes-end : length ws ≡ 20768 → endOf (putBytes ws u e) ≡ e
-  bytes-end l = ap (λ (t : Totals). t .end) (bytes-totals l)
+  pub bytes-gaps : length ws ≡ 20768 → gapsOf (putBytes ws u g) ≡ g
+  bytes-gaps l = ap (λ (t : Totals). t .gaps) (bytes-totals l)

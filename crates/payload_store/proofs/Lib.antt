@@ -6,6 +6,8 @@ pub mod Moves
 pub mod Parts
 pub mod Blocks
 pub mod Choice
+pub mod Clear
+pub mod Found
 pub mod Tests
 pub mod Together
 pub mod Goods

@@ -7,19 +7,24 @@ use Prim.Native.Nat.{ℕ, _+_, _-_, _≤_, _<_}
 use native.Mathlib.Omega.{arith}
 use borrow.Author.Tests.{lt-ltb, le-ltb, le-leb, lt-leb}
 use lib.ListN.{length, getD, take, drop, length-append, length-drop, List·getD-append}
-use lib.Seq.{length-take-le, take-at, drop-at, getD-take}
+use lib.Seq.{length-take-le, take-at, drop-at, getD-take, getD-drop, getD-append-add}
 use Rattle.queue_words.specs.Header.{totalsAt}
+use Rattle.queue_words.specs.declared.header.Gaps.{Gaps}
 use Rattle.queue_words.specs.declared.header.Totals.{Totals}
 use Rattle.queue_words.specs.Items.{putPlace, putLength}
-use Rattle.payload_store.specs.Words.{usedOf, endOf, placeOf, sizeOf, putBytes}
+use Rattle.payload_store.specs.Words.{usedOf, gapsOf, placeOf, sizeOf, putBytes}
+use Rattle.payload_store.specs.Gaps.{gaps, room, gapsWrong, gapFor}
+use Rattle.payload_store.specs.Searching.{found}
 use Rattle.payload_store.specs.Moving.{Pack, together}
-use Rattle.payload_store.specs.Putting.{allFit, Outcome, outcome, written, placed, putCode, putPayload}
+use Rattle.payload_store.specs.Putting.{allFit, Outcome, outcome, written, placed, putCode, putElsewhere, putPayload}
 use Rattle.payload_store.specs.Good.{payloadOf, sumTo, Apart, Lay, Good}
 use Rattle.payload_store.specs.Promise.{Together, Put}
 use Rattle.payload_store.proofs.Cases.{by-index, by-lt}
-use Rattle.payload_store.proofs.Laws.{place-length, place-same, place-other, place-size, size-length, size-same, size-other, size-place, bytes-length, bytes-place, bytes-size, bytes-used, bytes-end}
+use Rattle.payload_store.proofs.Laws.{place-length, place-same, place-other, place-size, size-length, size-same, size-other, size-place, bytes-length, bytes-place, bytes-size, bytes-used, bytes-gaps}
 use Rattle.payload_store.proofs.Sums.{sum-one}
-use Rattle.payload_store.proofs.Tests.{all-true, true-all, out-end, out-moved, out-refused}
+use Rattle.payload_store.proofs.Tests.{all-true, true-all, out-end, out-found, out-moved, out-elsewhere, out-refused}
+use Rattle.payload_store.proofs.Clear.{ordered-right, lay-ordered, for-lay}
+use Rattle.payload_store.proofs.Found.{found-lay}
 use Rattle.payload_store.proofs.Together.{payload-same, together-law}
 use Rattle.payload_store.proofs.Goods.{used-fits}
 
@@ -34,12 +39,22 @@ module _ (st : List ℕ) (at : ℕ) (bs : List ℕ) (h : at + length bs ≤ leng
   pub written-below : (j : ℕ) → j < at → getD (written st at bs) j 0 ≡ getD st j 0
   written-below j l = List·getD-append (take at st) (bs ++ drop (at + length bs) st) 0 j (omega (arith, front)) ∙ getD-take at st j 0 l
 
+  pub written-above : (j : ℕ) → at + length bs ≤ j → getD (written st at bs) j 0 ≡ getD st j 0
+  written-above j l =
+      let k = j - (at + length bs) in
+      let e : j ≡ length (take at st) + (length bs + k) = omega (arith, front) in
+      let z : at + length bs + k ≡ j = omega arith in
+      ap (λ m. getD (written st at bs) m 0) e
+      ∙ (getD-append-add (take at st) (bs ++ drop (at + length bs) st) (length bs + k) 0
+      ∙ (getD-append-add bs (drop (at + length bs) st) k 0
+      ∙ (getD-drop (at + length bs) st k 0 ∙ ap (λ m. getD st m 0) z)))
+
   pub written-part : take (length bs) (drop at (written st at bs)) ≡ bs
   written-part =
       ap (take (length bs)) (drop-at (take at st) (bs ++ drop (at + length bs) st) at front) ∙ take-at bs (drop (at + length bs) st) (length bs) refl
 
 -- the words after a put
-module _ (ws : List ℕ) (r at n u e : ℕ) (l : length ws ≡ 20768) (h : r < 1024) where
+module _ (ws : List ℕ) (r at n u : ℕ) (e : Gaps) (l : length ws ≡ 20768) (h : r < 1024) where
   abbrev After : List ℕ
   After = putBytes (putLength (putPlace ws r at) r n) u e
 
@@ -55,8 +70,8 @@ module _ (ws : List ℕ) (r at n u e : ℕ) (l : length ws ≡ 20768) (h : r < 1
   after-used : usedOf After ≡ u
   after-used = bytes-used (putLength (putPlace ws r at) r n) u e l2
 
-  after-end : endOf After ≡ e
-  after-end = bytes-end (putLength (putPlace ws r at) r n) u e l2
+  after-gaps : gapsOf After ≡ e
+  after-gaps = bytes-gaps (putLength (putPlace ws r at) r n) u e l2
 
   place-new : placeOf After r ≡ at
   place-new = bytes-place (putLength (putPlace ws r at) r n) u e r ∙ (size-place (putPlace ws r at) r n r ∙ place-same ws r at l h)
@@ -70,95 +85,124 @@ module _ (ws : List ℕ) (r at n u e : ℕ) (l : length ws ≡ 20768) (h : r < 1
   size-old : (j : ℕ) → (r ≡ j → ⊥) → sizeOf After j ≡ sizeOf ws j
   size-old j ne = bytes-size (putLength (putPlace ws r at) r n) u e j ∙ (size-other (putPlace ws r at) r n j ne ∙ place-size ws r at j)
 
-module _ (ws st : List ℕ) (at r : ℕ) (bs : List ℕ) (g : Lay ws st at) (h : r < 1024) (dead : sizeOf ws r ≡ 0) (room : at + length bs ≤ length st) where
+module _ (ws st : List ℕ) (g : Gaps) (r : ℕ) (bs : List ℕ) (l : Lay ws st g) (h : r < 1024) (dead : sizeOf ws r ≡ 0) (roomy : g .end + length bs ≤ g .limit) where
+  abbrev n : ℕ
+  n = length bs
+
+  abbrev g′ : Gaps
+  g′ = gaps (g .end + n) (g .limit) (g .front)
+
   abbrev ws′ : List ℕ
-  ws′ = putBytes (putLength (putPlace ws r at) r (length bs)) (usedOf ws + length bs) (at + length bs)
+  ws′ = putBytes (putLength (putPlace ws r (g .end)) r n) (usedOf ws + n) g′
 
-  pn : placeOf ws′ r ≡ at
-  pn = place-new ws r at (length bs) (usedOf ws + length bs) (at + length bs) (g .long) h
+  fits : g .end + n ≤ length st
+  fits = omega (arith, roomy, l .limit-in)
 
-  sn : sizeOf ws′ r ≡ length bs
-  sn = size-new ws r at (length bs) (usedOf ws + length bs) (at + length bs) (g .long) h
+  pn : placeOf ws′ r ≡ g .end
+  pn = place-new ws r (g .end) n (usedOf ws + n) g′ (l .long) h
+
+  sn : sizeOf ws′ r ≡ n
+  sn = size-new ws r (g .end) n (usedOf ws + n) g′ (l .long) h
 
   po : (j : ℕ) → (r ≡ j → ⊥) → placeOf ws′ j ≡ placeOf ws j
-  po = place-old ws r at (length bs) (usedOf ws + length bs) (at + length bs) (g .long) h
+  po = place-old ws r (g .end) n (usedOf ws + n) g′ (l .long) h
 
   so : (j : ℕ) → (r ≡ j → ⊥) → sizeOf ws′ j ≡ sizeOf ws j
-  so = size-old ws r at (length bs) (usedOf ws + length bs) (at + length bs) (g .long) h
+  so = size-old ws r (g .end) n (usedOf ws + n) g′ (l .long) h
+
+  -- another payload lies below the new one, or above it
+  beside : (j : ℕ) → j < 1024 → 1 ≤ sizeOf ws j → (placeOf ws j + sizeOf ws j ≤ g .end) ⊎ (g .end + n ≤ placeOf ws j)
+  beside j hj s = ⊎-elim (λ a. inl (a .1)) (λ a. inr (omega (arith, roomy))) (l .clear j hj s)
 
   apart-put : Apart ws′
   apart-put i j hi hj ne si sj =
       by-index r i
       (λ e. let nj : r ≡ j → ⊥ = λ z. ne (sym e ∙ z) in
       let p : placeOf ws′ r ≡ placeOf ws′ i = ap (placeOf ws′) e in
-      inr (omega (arith, pn, po j nj, so j nj, g .below j hj (omega (arith, so j nj)))))
+      let z : sizeOf ws′ r ≡ sizeOf ws′ i = ap (sizeOf ws′) e in
+      ⊎-elim (λ a. inr (omega (arith, pn, po j nj, so j nj))) (λ a. inl (omega (arith, pn, sn, po j nj)))
+      (beside j hj (omega (arith, so j nj))))
       (λ ni. by-index r j
       (λ e. let p : placeOf ws′ r ≡ placeOf ws′ j = ap (placeOf ws′) e in
-      inl (omega (arith, pn, po i ni, so i ni, g .below i hi (omega (arith, so i ni)))))
-      (λ nj. ⊎-elim (λ l. inl (omega (arith, po i ni, so i ni, po j nj, so j nj))) (λ l. inr (omega (arith, po i ni, so i ni, po j nj, so j nj)))
-      (g .apart i j hi hj ne (omega (arith, so i ni)) (omega (arith, so j nj)))))
+      let z : sizeOf ws′ r ≡ sizeOf ws′ j = ap (sizeOf ws′) e in
+      ⊎-elim (λ a. inl (omega (arith, pn, po i ni, so i ni))) (λ a. inr (omega (arith, pn, sn, po i ni)))
+      (beside i hi (omega (arith, so i ni))))
+      (λ nj. ⊎-elim (λ a. inl (omega (arith, po i ni, so i ni, po j nj, so j nj))) (λ a. inr (omega (arith, po i ni, so i ni, po j nj, so j nj)))
+      (l .apart i j hi hj ne (omega (arith, so i ni)) (omega (arith, so j nj)))))
 
-  lay-put : Lay ws′ (written st at bs) (at + length bs)
+  lay-put : Lay ws′ (written st (g .end) bs) g′
   lay-put = record {
-    long = after-length ws r at (length bs) (usedOf ws + length bs) (at + length bs) (g .long) h;
-    at-in = omega (arith, written-length st at bs room);
+    long = after-length ws r (g .end) n (usedOf ws + n) g′ (l .long) h;
+    limit-in = omega (arith, written-length st (g .end) bs fits, l .limit-in);
+    end-in = roomy;
+    front-in = omega (arith, l .front-in);
     inside = λ i hi. by-index r i
-        (λ e. omega (arith, ap (placeOf ws′) e, ap (sizeOf ws′) e, pn, sn, written-length st at bs room))
-        (λ ne. omega (arith, po i ne, so i ne, g .inside i hi, written-length st at bs room));
-    below = λ i hi s. by-index r i
-        (λ e. omega (arith, ap (placeOf ws′) e, ap (sizeOf ws′) e, pn, sn))
-        (λ ne. omega (arith, po i ne, so i ne, g .below i hi (omega (arith, so i ne))));
+        (λ e. omega (arith, ap (placeOf ws′) e, ap (sizeOf ws′) e, pn, sn, written-length st (g .end) bs fits, fits))
+        (λ ne. omega (arith, po i ne, so i ne, l .inside i hi, written-length st (g .end) bs fits));
+    clear = λ i hi s. by-index r i
+        (λ e. inl (omega (arith, ap (placeOf ws′) e, pn, l .front-in), omega (arith, ap (placeOf ws′) e, ap (sizeOf ws′) e, pn, sn)))
+        (λ ne. ⊎-elim (λ a. inl (omega (arith, po i ne, a .0), omega (arith, po i ne, so i ne, a .1))) (λ a. inr (omega (arith, po i ne)))
+        (l .clear i hi (omega (arith, so i ne))));
     apart = apart-put;
     used-is = omega (
       arith,
-      after-used ws r at (length bs) (usedOf ws + length bs) (at + length bs) (g .long) h,
-      g .used-is,
-      sum-one (sizeOf ws) (sizeOf ws′) r 1024 h (λ j l ne. so j ne),
+      after-used ws r (g .end) n (usedOf ws + n) g′ (l .long) h,
+      l .used-is,
+      sum-one (sizeOf ws) (sizeOf ws′) r 1024 h (λ j b ne. so j ne),
       sn,
     );
   }
 
-  new-bytes : payloadOf ws′ (written st at bs) r ≡ bs
+  new-bytes : payloadOf ws′ (written st (g .end) bs) r ≡ bs
   unfolding payloadOf
-  new-bytes = rw (pn, sn) (written-part st at bs room)
+  new-bytes = rw (pn, sn) (written-part st (g .end) bs fits)
 
-  pub placed-law : Put ws st r bs (placed ws st at r bs)
+  other-byte : (j k : ℕ) → j < 1024 → 1 ≤ sizeOf ws j → k < sizeOf ws j → getD (written st (g .end) bs) (placeOf ws j + k) 0 ≡ getD st (placeOf ws j + k) 0
+  other-byte j k hj s b = ⊎-elim
+      (λ a. written-below st (g .end) bs fits (placeOf ws j + k) (omega arith))
+      (λ a. written-above st (g .end) bs fits (placeOf ws j + k) (omega arith))
+      (beside j hj s)
+
+  pub placed-law : Put ws st r bs (placed ws st g r bs)
   unfolding placed
   placed-law = record {
     accepted = refl;
-    good = rw (after-end ws r at (length bs) (usedOf ws + length bs) (at + length bs) (g .long) h) lay-put;
-    same = written-length st at bs room;
-    used = after-used ws r at (length bs) (usedOf ws + length bs) (at + length bs) (g .long) h;
+    good = rw (after-gaps ws r (g .end) n (usedOf ws + n) g′ (l .long) h) lay-put;
+    same = written-length st (g .end) bs fits;
+    used = after-used ws r (g .end) n (usedOf ws + n) g′ (l .long) h;
     new-size = sn;
     new = new-bytes;
     sizes = so;
-    others = λ j hj ne s. payload-same ws st ws′ (written st at bs) j (so j ne) (g .inside j hj)
-        (omega (arith, po j ne, g .inside j hj, written-length st at bs room))
-        (λ k l. rw (po j ne) (written-below st at bs room (placeOf ws j + k) (omega (arith, g .below j hj s))));
+    others = λ j hj ne s. payload-same ws st ws′ (written st (g .end) bs) j (so j ne) (l .inside j hj)
+        (omega (arith, po j ne, l .inside j hj, written-length st (g .end) bs fits))
+        (λ k b. rw (po j ne) (other-byte j k hj s b));
   }
 
 -- the test passes
-module _ (ws st : List ℕ) (r n : ℕ) (g : Good ws st) (h : r < 1024) (dead : sizeOf ws r ≡ 0) (room : usedOf ws + n ≤ length st) where
-  code-end : n ≤ length st - endOf ws → putCode ws (length st) r n ≡ 0
+module _ (ws st : List ℕ) (r n : ℕ) (g : Good ws st) (h : r < 1024) (dead : sizeOf ws r ≡ 0) (fits : usedOf ws + n ≤ length st) where
+  ordered : gapsWrong (gapsOf ws) (length st) ≡ false
+  ordered = ordered-right (gapsOf ws) (length st) (lay-ordered ws st (gapsOf ws) g)
+
+  code-end : n ≤ room (gapFor (gapsOf ws) n) → putCode ws (length st) r n ≡ 0
   unfolding putCode
   code-end a = rw (
     lt-leb 1024 r h,
     le-ltb 0 (sizeOf ws r) (omega arith),
     le-ltb (length st) (usedOf ws) (omega arith),
     le-ltb (length st - usedOf ws) n (omega arith),
-    le-ltb (length st) (endOf ws) (g .at-in),
-    le-leb n (length st - endOf ws) a,
+    ordered,
+    le-leb n (room (gapFor (gapsOf ws) n)) a,
   )
 
-  code-moved : length st - endOf ws < n → putCode ws (length st) r n ≡ 1
+  code-elsewhere : room (gapFor (gapsOf ws) n) < n → putCode ws (length st) r n ≡ 1
   unfolding putCode
-  code-moved a = rw (
+  code-elsewhere a = rw (
     lt-leb 1024 r h,
     le-ltb 0 (sizeOf ws r) (omega arith),
     le-ltb (length st) (usedOf ws) (omega arith),
     le-ltb (length st - usedOf ws) n (omega arith),
-    le-ltb (length st) (endOf ws) (g .at-in),
-    lt-leb n (length st - endOf ws) a,
+    ordered,
+    lt-leb n (room (gapFor (gapsOf ws) n)) a,
     true-all ws (length st) (usedOf ws) (record { fits = record { inside = g .inside }; sum = sym (g .used-is) }),
   )
 
@@ -168,15 +212,15 @@ module _ (ws : List ℕ) (len r n : ℕ) (h : r < 1024) (dead : sizeOf ws r ≡ 
   unfolding putCode
   code-full u f = rw (lt-leb 1024 r h, le-ltb 0 (sizeOf ws r) (omega arith), le-ltb len (usedOf ws) u, lt-ltb (len - usedOf ws) n (omega arith))
 
-  code-wrong : usedOf ws + n ≤ len → endOf ws ≤ len → len < endOf ws + n → allFit ws len (usedOf ws) ≡ false → putCode ws len r n ≡ 16
+  code-wrong : usedOf ws + n ≤ len → gapsWrong (gapsOf ws) len ≡ false → room (gapFor (gapsOf ws) n) < n → allFit ws len (usedOf ws) ≡ false → putCode ws len r n ≡ 16
   unfolding putCode
-  code-wrong room e tight bad = rw (
+  code-wrong fits o tight bad = rw (
     lt-leb 1024 r h,
     le-ltb 0 (sizeOf ws r) (omega arith),
     le-ltb len (usedOf ws) (omega arith),
     le-ltb (len - usedOf ws) n (omega arith),
-    le-ltb len (endOf ws) e,
-    lt-leb n (len - endOf ws) (omega arith),
+    o,
+    lt-leb n (room (gapFor (gapsOf ws) n)) tight,
     bad,
   )
 
@@ -193,32 +237,47 @@ after-moving ws st t r bs o m p = record {
   others = λ j hj ne s. p .others j hj ne (omega (arith, m .sizes j)) ∙ m .bytes j hj s;
 }
 
--- THE THEOREM of putting
-pub put-law : (ws st : List ℕ) (r : ℕ) (bs : List ℕ) → Good ws st → r < 1024 → sizeOf ws r ≡ 0 → usedOf ws + length bs ≤ length st → Put ws st r bs (putPayload ws st r bs)
-put-law ws st r bs g h dead room = by-lt (length st - endOf ws) (length bs)
-    (λ a. let m = together-law ws st (endOf ws) g in
+-- elsewhere: in the gap that is found, or after moving together
+elsewhere-law : (ws st : List ℕ) (r : ℕ) (bs : List ℕ) → Good ws st → r < 1024 → sizeOf ws r ≡ 0 → usedOf ws + length bs ≤ length st → Put ws st r bs (putElsewhere ws st (gapsOf ws) r bs)
+elsewhere-law ws st r bs g h dead fits =
+    let f = found ws (length st) (length bs) (gapsOf ws) in
+    let l = found-lay ws st (gapsOf ws) (length bs) g in
+    by-lt (room f) (length bs)
+    (λ a. let m = together-law ws st (gapsOf ws) g in
     let t = together ws st in
     let u : usedOf (t .words) ≡ usedOf ws = ap (λ (x : Totals). x .used) (m .totals) in
-    let c = code-moved ws st r (length bs) g h dead room a in
-    let e : placed (t .words) (t .store) (usedOf (t .words)) r bs ≡ putPayload ws st r bs =
-    out-moved ws st bs r 1 (sym c) (placed (t .words) (t .store) (usedOf (t .words)) r bs) (t .words) (t .store) (t .cursor) (totalsAt (t .words)) refl refl refl refl in
-    rw (← e) (after-moving ws st t r bs (placed (t .words) (t .store) (usedOf (t .words)) r bs) m
-    (placed-law (t .words) (t .store) (usedOf (t .words)) r bs (rw u (m .lay)) h (m .sizes r ∙ dead) (omega (arith, u, m .same)))))
-    (λ a. let c = code-end ws st r (length bs) g h dead room a in
-    let e : placed ws st (endOf ws) r bs ≡ putPayload ws st r bs = out-end ws st bs r 0 (sym c) (placed ws st (endOf ws) r bs) (totalsAt ws) refl refl refl in
-    rw (← e) (placed-law ws st (endOf ws) r bs g h dead (omega (arith, g .at-in))))
+    let p = gaps (usedOf (t .words)) (length st) 0 in
+    let e : placed (t .words) (t .store) p r bs ≡ putElsewhere ws st (gapsOf ws) r bs =
+    out-moved ws st bs r (gapsOf ws) f refl (placed (t .words) (t .store) p r bs) (t .words) (t .store) (t .cursor) (totalsAt (t .words)) a refl refl refl in
+    rw (← e) (after-moving ws st t r bs (placed (t .words) (t .store) p r bs) m
+    (placed-law (t .words) (t .store) p r bs (rw u (m .lay)) h (m .sizes r ∙ dead) (omega (arith, u)))))
+    (λ a. let e : placed ws st f r bs ≡ putElsewhere ws st (gapsOf ws) r bs = out-found ws st bs r (gapsOf ws) f refl (placed ws st f r bs) a refl in
+    rw (← e) (placed-law ws st f r bs l h dead (omega (arith, l .end-in))))
+
+-- THE THEOREM of putting
+pub put-law : (ws st : List ℕ) (r : ℕ) (bs : List ℕ) → Good ws st → r < 1024 → sizeOf ws r ≡ 0 → usedOf ws + length bs ≤ length st → Put ws st r bs (putPayload ws st r bs)
+put-law ws st r bs g h dead fits =
+    let f = gapFor (gapsOf ws) (length bs) in
+    let l = for-lay ws st (gapsOf ws) (length bs) g in
+    by-lt (room f) (length bs)
+    (λ a. let c = code-elsewhere ws st r (length bs) g h dead fits a in
+    let e : putElsewhere ws st (gapsOf ws) r bs ≡ putPayload ws st r bs = out-elsewhere ws st bs r 1 (sym c) (putElsewhere ws st (gapsOf ws) r bs) (totalsAt ws) refl refl refl in
+    rw (← e) (elsewhere-law ws st r bs g h dead fits))
+    (λ a. let c = code-end ws st r (length bs) g h dead fits a in
+    let e : placed ws st f r bs ≡ putPayload ws st r bs = out-end ws st bs r 0 (sym c) (placed ws st f r bs) (totalsAt ws) f refl refl refl refl in
+    rw (← e) (placed-law ws st f r bs l h dead (omega (arith, l .end-in))))
 
 -- and one for which they do not is refused, and changes nothing
 pub put-full : (ws st : List ℕ) (r : ℕ) (bs : List ℕ) → Good ws st → r < 1024 → sizeOf ws r ≡ 0 → length st < usedOf ws + length bs → putPayload ws st r bs ≡ outcome 8 ws st
 put-full ws st r bs g h dead full =
-    let c = code-full ws (length st) r (length bs) h dead (used-fits ws st (endOf ws) g) full in
+    let c = code-full ws (length st) r (length bs) h dead (used-fits ws st (gapsOf ws) g) full in
     sym (out-refused ws st bs r 8 (sym c) (λ z. omega arith) (λ z. omega arith))
 
 -- used bytes that are not the sum of the lengths are noticed before anything is moved
-pub put-notices : (ws st : List ℕ) (r : ℕ) (bs : List ℕ) → r < 1024 → sizeOf ws r ≡ 0 → usedOf ws + length bs ≤ length st → endOf ws ≤ length st → length st < endOf ws + length bs
-    → (sumTo (sizeOf ws) 1024 ≡ usedOf ws → ⊥) → putPayload ws st r bs ≡ outcome 16 ws st
-put-notices ws st r bs h dead room e tight wrong =
-    let c = code-wrong ws (length st) r (length bs) h dead room e tight (not-all (allFit ws (length st) (usedOf ws)) refl) in
+pub put-notices : (ws st : List ℕ) (r : ℕ) (bs : List ℕ) → r < 1024 → sizeOf ws r ≡ 0 → usedOf ws + length bs ≤ length st → gapsWrong (gapsOf ws) (length st) ≡ false
+    → room (gapFor (gapsOf ws) (length bs)) < length bs → (sumTo (sizeOf ws) 1024 ≡ usedOf ws → ⊥) → putPayload ws st r bs ≡ outcome 16 ws st
+put-notices ws st r bs h dead fits o tight wrong =
+    let c = code-wrong ws (length st) r (length bs) h dead fits o tight (not-all (allFit ws (length st) (usedOf ws)) refl) in
     sym (out-refused ws st bs r 16 (sym c) (λ z. omega arith) (λ z. omega arith))
   where
     not-all : (t : Bool) → allFit ws (length st) (usedOf ws) ≡ t → allFit ws (length st) (usedOf ws) ≡ false

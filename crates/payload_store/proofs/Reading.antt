@@ -7,9 +7,10 @@ use borrow.Author.Tests.{le-ltb, lt-leb, eq-eqb, ne-eqb, ltb-false, leb-false}
 use lib.Dec.{ltb, leb}
 use lib.ListN.{length, getD, take, drop, length-drop}
 use lib.Seq.{length-take-le, getD-take, getD-drop}
-use Rattle.payload_store.specs.Words.{endOf, placeOf, sizeOf}
+use Rattle.payload_store.specs.Words.{gapsOf, placeOf, sizeOf}
 use Rattle.payload_store.specs.Reading.{readCode, readPart}
 use Rattle.payload_store.specs.Putting.{Outcome}
+use Rattle.queue_words.specs.declared.header.Gaps.{Gaps}
 use Rattle.payload_store.specs.Good.{payloadOf, Lay}
 use Rattle.payload_store.specs.Promise.{Put}
 use Rattle.payload_store.proofs.Moves.{part-same}
@@ -63,7 +64,7 @@ read-done ws st dst dst′ i off n code p ec h ep ed =
     (sym z, rw (eq-eqb (readCode ws (length st) i off n (length dst)) 0 z) (ed ∙ rw (ep, part-of-part st (placeOf ws i) (sizeOf ws i) off n (o .inside) (o .part))))
 
 -- THE THEOREM of reading: every part of a payload can be read, and its bytes are the payload's
-pub read-law : (ws st dst : List ℕ) (at i off n : ℕ) → Lay ws st at → i < 1024 → off + n ≤ sizeOf ws i → n ≤ length dst
+pub read-law : (ws st dst : List ℕ) (at : Gaps) (i off n : ℕ) → Lay ws st at → i < 1024 → off + n ≤ sizeOf ws i → n ≤ length dst
     → (readCode ws (length st) i off n (length dst) ≡ 0) × (readPart ws st i off n dst ≡ take n (drop off (payloadOf ws st i)) ++ drop n dst)
 unfolding readPart readCode
 read-law ws st dst at i off n g h p f =
@@ -82,5 +83,5 @@ read-law ws st dst at i off n g h p f =
 pub read-put : (ws st dst : List ℕ) (r : ℕ) (bs : List ℕ) (o : Outcome) (off n : ℕ) → Put ws st r bs o → r < 1024 → off + n ≤ length bs → n ≤ length dst
     → readPart (o .words) (o .store) r off n dst ≡ take n (drop off bs) ++ drop n dst
 read-put ws st dst r bs o off n p h q f =
-    read-law (o .words) (o .store) dst (endOf (o .words)) r off n (p .good) h (omega (arith, p .new-size)) f .1
+    read-law (o .words) (o .store) dst (gapsOf (o .words)) r off n (p .good) h (omega (arith, p .new-size)) f .1
     ∙ ap (λ (l : List ℕ). take n (drop off l) ++ drop n dst) (p .new)

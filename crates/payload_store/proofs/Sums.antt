@@ -26,3 +26,10 @@ pub sum-has : (g : ℕ → ℕ) (i n : ℕ) → i < n → g i ≤ sumTo g n
 unfolding sumTo
 sum-has g i zero h = absurd (omega arith)
 sum-has g i (suc n) h = by-index i n (λ e. rw e (omega arith)) (λ ne. omega (arith, sum-has g i n (omega arith)))
+
+pub sum-both : (g : ℕ → ℕ) (i j n : ℕ) → i < n → j < n → (i ≡ j → ⊥) → g i + g j ≤ sumTo g n
+unfolding sumTo
+sum-both g i j zero h l ne = absurd (omega arith)
+sum-both g i j (suc n) h l ne = by-index i n
+    (λ e. rw e (omega (arith, sum-has g j n (omega arith))))
+    (λ ni. by-index j n (λ e. rw e (omega (arith, sum-has g i n (omega arith)))) (λ nj. omega (arith, sum-both g i j n (omega arith) (omega arith) ne)))

@@ -4,19 +4,24 @@ use mathlib.Core.Bool.{Bool, true, false}
 use mathlib.Core.List.{List}
 use Prim.Native.Nat.{ℕ, zero, suc, _+_, _-_, _≤_, _<_}
 use native.Mathlib.Omega.{arith}
-use borrow.Author.Tests.{le-ltb, eq-eqb, ne-eqb, ltb-false, leb-true, leb-false, eqb-true}
+use borrow.Author.Tests.{le-ltb, le-leb, lt-leb, eq-eqb, ne-eqb, ltb-false, leb-true, leb-false, eqb-true}
 use lib.Dec.{ltb, leb, eqb}
 use lib.ListN.{length}
 use Rattle.queue_words.specs.Flags.{pick}
 use Rattle.queue_words.specs.Header.{totalsAt}
+use Rattle.queue_words.specs.declared.header.Gaps.{Gaps}
 use Rattle.queue_words.specs.declared.header.Totals.{Totals}
 use Rattle.queue_words.specs.Items.{putPlace}
 use Rattle.payload_store.specs.declared.Tally.{Tally}
-use Rattle.payload_store.specs.Words.{usedOf, endOf, placeOf, sizeOf}
+use Rattle.payload_store.specs.Words.{usedOf, gapsOf, placeOf, sizeOf}
 use Rattle.payload_store.specs.Moving.{Fits, together, Pack, pack, turn, turnAt, turns, least, moved}
-use Rattle.payload_store.specs.Putting.{tally, rowFits, fitsTo, allFit, putCode, putPayload, placed, outcome, Outcome}
+use Rattle.payload_store.specs.Putting.{tally, rowFits, fitsTo, allFit, putCode, putElsewhere, putPayload, placed, outcome, Outcome}
+use Rattle.payload_store.specs.Gaps.{gaps, room, gapsWrong, gapFor}
+use Rattle.payload_store.specs.Searching.{found}
 use Rattle.payload_store.specs.Good.{sumTo}
 use Rattle.payload_store.proofs.Cases.{by-index, pick-else, pick-then, pick-both, false-true}
+use Rattle.payload_store.proofs.Clear.{Ordered, right-ordered, for-ordered}
+use Rattle.payload_store.proofs.Found.{found-gap}
 use Rattle.payload_store.proofs.Moves.{moved-length}
 use Rattle.payload_store.proofs.Laws.{place-totals, place-length}
 
@@ -101,12 +106,12 @@ pub record PutOk (ws : List ℕ) (len i n : ℕ) : Type 0 where
   pub row : i < 1024
   pub dead : sizeOf ws i ≡ 0
   pub room : usedOf ws + n ≤ len
-  pub end-in : endOf ws ≤ len
+  pub ordered : Ordered (gapsOf ws) len
 
 module _ (ws : List ℕ) (len i n : ℕ) where
   -- the last two tests
   abbrev Rest : ℕ
-  Rest = pick (leb n (len - endOf ws)) 0 (pick (allFit ws len (usedOf ws)) 1 16)
+  Rest = pick (leb n (room (gapFor (gapsOf ws) n))) 0 (pick (allFit ws len (usedOf ws)) 1 16)
 
   passed : (v : ℕ) → v ≤ 1 → putCode ws len i n ≡ v → PutOk ws len i n × (Rest ≡ v)
   unfolding putCode
@@ -115,21 +120,22 @@ module _ (ws : List ℕ) (len i n : ℕ) where
       let t2 = pick-else (ltb 0 (sizeOf ws i)) 16 _ v (λ z. omega arith) (t1 .1) in
       let t3 = pick-else (ltb len (usedOf ws)) 16 _ v (λ z. omega arith) (t2 .1) in
       let t4 = pick-else (ltb (len - usedOf ws) n) 8 _ v (λ z. omega arith) (t3 .1) in
-      let t5 = pick-else (ltb len (endOf ws)) 16 _ v (λ z. omega arith) (t4 .1) in (
+      let t5 = pick-else (gapsWrong (gapsOf ws) len) 16 _ v (λ z. omega arith) (t4 .1) in (
         record {
           row = leb-false 1024 i (t1 .0);
           dead = omega (arith, ltb-false 0 (sizeOf ws i) (t2 .0));
           room = omega (arith, ltb-false len (usedOf ws) (t3 .0), ltb-false (len - usedOf ws) n (t4 .0));
-          end-in = ltb-false len (endOf ws) (t5 .0);
+          ordered = right-ordered (gapsOf ws) len (t5 .0);
         },
         t5 .1,
       )
 
-  pub put-zero : putCode ws len i n ≡ 0 → PutOk ws len i n × (endOf ws + n ≤ len)
+  pub put-zero : putCode ws len i n ≡ 0 → PutOk ws len i n × (gapFor (gapsOf ws) n .end + n ≤ len)
   put-zero e =
       let p = passed 0 (omega arith) e in
-      let t : leb n (len - endOf ws) ≡ true = pick-then (leb n (len - endOf ws)) 0 _ 0 (never (allFit ws len (usedOf ws))) (p .1) in
-      (p .0, omega (arith, leb-true n (len - endOf ws) t, p .0 .end-in))
+      let t : leb n (room (gapFor (gapsOf ws) n)) ≡ true = pick-then (leb n (room (gapFor (gapsOf ws) n))) 0 _ 0 (never (allFit ws len (usedOf ws))) (p .1) in
+      let o = for-ordered (gapsOf ws) n len (p .0 .ordered) in
+      (p .0, omega (arith, leb-true n (room (gapFor (gapsOf ws) n)) t, o .end-in, o .limit-in))
     where
       never : (t : Bool) → _≡_ {A = ℕ} (pick t 1 16) 0 → ⊥
       never true z = omega arith
@@ -138,7 +144,7 @@ module _ (ws : List ℕ) (len i n : ℕ) where
   pub put-one : putCode ws len i n ≡ 1 → PutOk ws len i n × Sound ws len (usedOf ws)
   put-one e =
       let p = passed 1 (omega arith) e in
-      let t = pick-else (leb n (len - endOf ws)) 0 _ 1 (λ z. omega arith) (p .1) in
+      let t = pick-else (leb n (room (gapFor (gapsOf ws) n))) 0 _ 1 (λ z. omega arith) (p .1) in
       (p .0, all-true ws len (usedOf ws) (pick-then (allFit ws len (usedOf ws)) 1 16 1 (λ z. omega arith) (t .1)))
 
 -- moving together, on any words: the totals, how many words, how many bytes
@@ -170,38 +176,63 @@ pub together-kept : (ws st ws1 st1 : List ℕ) (cur : ℕ) → pack ws1 st1 cur 
 unfolding together
 together-kept ws st ws1 st1 cur e = rw e (turns-kept (pack ws st 0) (length st))
 
-pub room-after : (ws st ws1 st1 : List ℕ) (cur : ℕ) (t : Totals) (i n : ℕ) → pack ws1 st1 cur ≡ together ws st → t ≡ totalsAt ws1 → PutOk ws (length st) i n
+-- the gap that is found lies in the store
+pub room-found : (ws : List ℕ) (len n i : ℕ) (g f : Gaps) → f ≡ found ws len n g → i < 1024 → n ≤ f .limit - f .end → Fits ws len → g .end ≤ len → usedOf ws + n ≤ len
+    → (i < 1024) × (f .end + n ≤ len) × (usedOf ws + n ≤ len)
+room-found ws len n i g f ef h a t b u = (h, omega (arith, found-gap ws len n g f ef t b .0, found-gap ws len n g f ef t b .1), u)
+
+-- the ways out of put_elsewhere
+module _ (ws st bs : List ℕ) (i : ℕ) (g f : Gaps) (ef : f ≡ found ws (length st) (length bs) g) where
+  pub out-found : (o : Outcome) → length bs ≤ f .limit - f .end → o ≡ placed ws st f i bs → o ≡ putElsewhere ws st g i bs
+  unfolding putElsewhere
+  out-found o a eo = rw (← ef, le-leb (length bs) (room f) a) eo
+
+  pub out-moved : (o : Outcome) (ws1 st1 : List ℕ) (cur : ℕ) (t : Totals) → f .limit - f .end < length bs → pack ws1 st1 cur ≡ together ws st → t ≡ totalsAt ws1
+      → o ≡ placed ws1 st1 (gaps (t .used) (length st) 0) i bs → o ≡ putElsewhere ws st g i bs
+  unfolding putElsewhere
+  out-moved o ws1 st1 cur t a em et eo =
+      rw (← ef, lt-leb (length bs) (room f) a, ← em) (eo ∙ ap (λ (x : Totals). placed ws1 st1 (gaps (x .used) (length st) 0) i bs) et)
+
+pub room-after : (ws st ws1 st1 : List ℕ) (cur : ℕ) (t : Totals) (i n : ℕ) → pack ws1 st1 cur ≡ together ws st → t ≡ totalsAt ws1 → i < 1024 → usedOf ws + n ≤ length st
     → (i < 1024) × (t .used + n ≤ length st1) × (usedOf ws1 + n ≤ length st1)
-room-after ws st ws1 st1 cur t i n e et p =
+room-after ws st ws1 st1 cur t i n e et h r =
     let k = together-kept ws st ws1 st1 cur e in
     let u : usedOf ws1 ≡ usedOf ws = ap (λ (x : Totals). x .used) (k .totals) in
-    (p .row, rw et (omega (arith, u, k .same, p .room)), omega (arith, u, k .same, p .room))
+    (h, rw et (omega (arith, u, k .same)), omega (arith, u, k .same))
 
 -- the ways out of put_payload
 module _ (ws st bs : List ℕ) (i code : ℕ) (ec : code ≡ putCode ws (length st) i (length bs)) where
-  pub out-end : (o : Outcome) (t : Totals) → code ≡ 0 → t ≡ totalsAt ws → o ≡ placed ws st (t .end) i bs → o ≡ putPayload ws st i bs
+  pub out-end : (o : Outcome) (t : Totals) (g : Gaps) → code ≡ 0 → t ≡ totalsAt ws → g ≡ gapFor (t .gaps) (length bs) → o ≡ placed ws st g i bs → o ≡ putPayload ws st i bs
   unfolding putPayload
-  out-end o t e et eo = rw (eq-eqb (putCode ws (length st) i (length bs)) 0 (sym ec ∙ e)) (eo ∙ ap (λ (x : Totals). placed ws st (x .end) i bs) et)
+  out-end o t g e et eg eo =
+      rw (eq-eqb (putCode ws (length st) i (length bs)) 0 (sym ec ∙ e))
+      (eo ∙ (ap (λ (x : Gaps). placed ws st x i bs) eg ∙ ap (λ (x : Totals). placed ws st (gapFor (x .gaps) (length bs)) i bs) et))
 
-  pub out-moved : (o : Outcome) (ws1 st1 : List ℕ) (cur : ℕ) (t : Totals) → code ≡ 1 → pack ws1 st1 cur ≡ together ws st → t ≡ totalsAt ws1 → o ≡ placed ws1 st1 (t .used) i bs
-      → o ≡ putPayload ws st i bs
+  pub out-elsewhere : (o : Outcome) (t : Totals) → code ≡ 1 → t ≡ totalsAt ws → o ≡ putElsewhere ws st (t .gaps) i bs → o ≡ putPayload ws st i bs
   unfolding putPayload
-  out-moved o ws1 st1 cur t e em et eo =
-      rw (ne-eqb (putCode ws (length st) i (length bs)) 0 (λ z. omega arith), eq-eqb (putCode ws (length st) i (length bs)) 1 (sym ec ∙ e), ← em)
-      (eo ∙ ap (λ (x : Totals). placed ws1 st1 (x .used) i bs) et)
+  out-elsewhere o t e et eo =
+      rw (ne-eqb (putCode ws (length st) i (length bs)) 0 (λ z. omega arith), eq-eqb (putCode ws (length st) i (length bs)) 1 (sym ec ∙ e))
+      (eo ∙ ap (λ (x : Totals). putElsewhere ws st (x .gaps) i bs) et)
 
   pub out-refused : (code ≡ 0 → ⊥) → (code ≡ 1 → ⊥) → outcome code ws st ≡ putPayload ws st i bs
   unfolding putPayload
   out-refused n0 n1 =
       rw (ne-eqb (putCode ws (length st) i (length bs)) 0 (λ z. n0 (ec ∙ z)), ne-eqb (putCode ws (length st) i (length bs)) 1 (λ z. n1 (ec ∙ z)), ec)
 
-pub room-end : (ws : List ℕ) (len i n code : ℕ) (t : Totals) → code ≡ putCode ws len i n → code ≡ 0 → t ≡ totalsAt ws → (i < 1024) × (t .end + n ≤ len) × (usedOf ws + n ≤ len)
-room-end ws len i n code t ec e et =
-    let p = put-zero ws len i n (sym ec ∙ e) in
-    (p .0 .row, rw et (p .1), p .0 .room)
+module _ (ws : List ℕ) (len i n code : ℕ) (t : Totals) (ec : code ≡ putCode ws len i n) (et : t ≡ totalsAt ws) where
+  -- the gaps are in their order
+  pub order-end : code ≡ 0 → (t .gaps .front ≤ t .gaps .end) × (t .gaps .end ≤ t .gaps .limit)
+  order-end e = let p = put-zero ws len i n (sym ec ∙ e) .0 .ordered in rw et (p .front-in, p .end-in)
 
-pub fits-before : (ws : List ℕ) (len i n code : ℕ) → code ≡ putCode ws len i n → code ≡ 1 → Fits ws len
-fits-before ws len i n code ec e = put-one ws len i n (sym ec ∙ e) .1 .fits
+  pub room-end : (g : Gaps) → code ≡ 0 → g ≡ gapFor (t .gaps) n → (i < 1024) × (g .end + n ≤ len) × (usedOf ws + n ≤ len)
+  room-end g e eg =
+      let p = put-zero ws len i n (sym ec ∙ e) in
+      (p .0 .row, rw (eg, et) (p .1), p .0 .room)
+
+  pub room-elsewhere : code ≡ 1 → (i < 1024) × Fits ws len × (t .gaps .end ≤ len) × (usedOf ws + n ≤ len)
+  room-elsewhere e =
+      let p = put-one ws len i n (sym ec ∙ e) in
+      (p .0 .row, p .1 .fits, rw et (omega (arith, p .0 .ordered .end-in, p .0 .ordered .limit-in)), p .0 .room)
 
 pub ok-before : (ws : List ℕ) (len i n code : ℕ) → code ≡ putCode ws len i n → code ≡ 1 → PutOk ws len i n
 ok-before ws len i n code ec e = put-one ws len i n (sym ec ∙ e) .0

@@ -9,6 +9,7 @@ use lib.Dec.{leb}
 use lib.ListN.{length, getD}
 use Rattle.queue_words.specs.Flags.{pick}
 use Rattle.queue_words.specs.Header.{totalsAt}
+use Rattle.queue_words.specs.declared.header.Gaps.{Gaps}
 use Rattle.queue_words.specs.declared.header.Totals.{Totals}
 use Rattle.queue_words.specs.Items.{putPlace}
 use Rattle.payload_store.specs.Words.{usedOf, placeOf, sizeOf}
@@ -163,7 +164,7 @@ unfolding turns
 turns-prog ws₀ st₀ s zero g = g
 turns-prog ws₀ st₀ s (suc k) g = turn-prog ws₀ st₀ k (turns s k) (turns-prog ws₀ st₀ s k g)
 
-mid-start : (ws st : List ℕ) (at : ℕ) → Lay ws st at → Mid ws st ws st 0
+mid-start : (ws st : List ℕ) (at : Gaps) → Lay ws st at → Mid ws st ws st 0
 mid-start ws st at g = record {
   long = g .long;
   same = refl;
@@ -177,7 +178,7 @@ mid-start ws st at g = record {
   totals = refl;
 }
 
-finish : (ws₀ st₀ : List ℕ) (at : ℕ) (s : Pack) → Lay ws₀ st₀ at → Prog ws₀ st₀ (length st₀) s → Together ws₀ st₀ s
+finish : (ws₀ st₀ : List ℕ) (at : Gaps) (s : Pack) → Lay ws₀ st₀ at → Prog ws₀ st₀ (length st₀) s → Together ws₀ st₀ s
 finish ws₀ st₀ at s g p =
     let m = p .mid in
     let none : (j : ℕ) → j < 1024 → 1 ≤ sizeOf (s .words) j → s .cursor ≤ placeOf (s .words) j → ⊥ =
@@ -193,9 +194,11 @@ finish ws₀ st₀ at s g p =
     record {
       lay = record {
         long = m .long;
-        at-in = omega (arith, m .cur-in, m .same);
+        limit-in = omega (arith, m .same);
+        end-in = omega (arith, m .cur-in);
+        front-in = omega arith;
         inside = λ i h. omega (arith, m .inside i h, m .same);
-        below = λ i h l. omega (arith, below i h l);
+        clear = λ i h l. inl (omega arith, omega (arith, below i h l));
         apart = m .apart;
         used-is = u ∙ (g .used-is ∙ sym (sum-same (sizeOf ws₀) (sizeOf (s .words)) 1024 (λ j h. m .sizes j)));
       };
@@ -207,7 +210,7 @@ finish ws₀ st₀ at s g p =
     }
 
 -- THE THEOREM of moving together
-pub together-law : (ws st : List ℕ) (at : ℕ) → Lay ws st at → Together ws st (together ws st)
+pub together-law : (ws st : List ℕ) (at : Gaps) → Lay ws st at → Together ws st (together ws st)
 unfolding together
 together-law ws st at g = finish ws st at (turns (pack ws st 0) (length st)) g
     (turns-prog ws st (pack ws st 0) (length st) (record { mid = mid-start ws st at g; going = inl (omega arith) }))

@@ -4,7 +4,8 @@ use mathlib.Core.Logic.{_⊎_}
 use mathlib.Core.List.{List}
 use Prim.Native.Nat.{ℕ, zero, suc, _+_, _≤_, _<_}
 use lib.ListN.{length, take, drop}
-use Rattle.payload_store.specs.Words.{usedOf, endOf, placeOf, sizeOf}
+use Rattle.queue_words.specs.declared.header.Gaps.{Gaps}
+use Rattle.payload_store.specs.Words.{usedOf, gapsOf, placeOf, sizeOf}
 
 -- row i's payload
 unfoldable pub payloadOf : List ℕ → List ℕ → ℕ → List ℕ
@@ -19,14 +20,16 @@ abbrev pub Apart : List ℕ → Type 0
 Apart ws = (i j : ℕ) → i < 1024 → j < 1024 → (i ≡ j → ⊥) → 1 ≤ sizeOf ws i → 1 ≤ sizeOf ws j
     → (placeOf ws i + sizeOf ws i ≤ placeOf ws j) ⊎ (placeOf ws j + sizeOf ws j ≤ placeOf ws i)
 
--- the payloads lie in the store below `at`, apart from each other; a row without one has its place in the store too
-pub record Lay (ws st : List ℕ) (at : ℕ) : Type 0 where
+-- the payloads lie in the store, apart from each other and clear of the gaps; a row without one has its place in the store too
+pub record Lay (ws st : List ℕ) (g : Gaps) : Type 0 where
   pub long : length ws ≡ 20768
-  pub at-in : at ≤ length st
+  pub limit-in : g .limit ≤ length st
+  pub end-in : g .end ≤ g .limit
+  pub front-in : g .front ≤ g .end
   pub inside : (i : ℕ) → i < 1024 → placeOf ws i + sizeOf ws i ≤ length st
-  pub below : (i : ℕ) → i < 1024 → 1 ≤ sizeOf ws i → placeOf ws i + sizeOf ws i ≤ at
+  pub clear : (i : ℕ) → i < 1024 → 1 ≤ sizeOf ws i → ((g .front ≤ placeOf ws i) × (placeOf ws i + sizeOf ws i ≤ g .end)) ⊎ (g .limit ≤ placeOf ws i)
   pub apart : Apart ws
   pub used-is : usedOf ws ≡ sumTo (sizeOf ws) 1024
 
 abbrev pub Good : List ℕ → List ℕ → Type 0
-Good ws st = Lay ws st (endOf ws)
+Good ws st = Lay ws st (gapsOf ws)

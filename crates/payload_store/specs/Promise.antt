@@ -8,14 +8,15 @@ use Rattle.queue_words.specs.Known.{knownAt}
 use Rattle.queue_words.specs.Streams.{streamAt}
 use Rattle.queue_words.specs.Items.{itemAt, withPlace, withLength}
 use Rattle.queue_words.specs.Active.{activeAt}
-use Rattle.payload_store.specs.Words.{usedOf, endOf, placeOf, sizeOf, withBytes}
+use Rattle.payload_store.specs.Words.{usedOf, gapsOf, placeOf, sizeOf, withBytes}
+use Rattle.payload_store.specs.Gaps.{gaps}
 use Rattle.payload_store.specs.Moving.{Pack}
 use Rattle.payload_store.specs.Putting.{Outcome}
 use Rattle.payload_store.specs.Good.{payloadOf, Lay, Good}
 
 -- moved together: every row has its length and its payload, and the payloads lie without a gap
 pub record Together (ws st : List ℕ) (t : Pack) : Type 0 where
-  pub lay : Lay (t .words) (t .store) (usedOf ws)
+  pub lay : Lay (t .words) (t .store) (gaps (usedOf ws) (length st) 0)
   pub cursor-is : t .cursor ≡ usedOf ws
   pub totals : totalsAt (t .words) ≡ totalsAt ws
   pub same : length (t .store) ≡ length st
@@ -41,11 +42,11 @@ pub record Dropped (ws st : List ℕ) (r : ℕ) (ws′ : List ℕ) : Type 0 wher
   pub sizes : (j : ℕ) → (r ≡ j → ⊥) → sizeOf ws′ j ≡ sizeOf ws j
   pub others : (j : ℕ) → (r ≡ j → ⊥) → payloadOf ws′ st j ≡ payloadOf ws st j
 
--- nothing else is changed: of the messages at most places and lengths, of the totals at most the used bytes and their end
+-- nothing else is changed: of the messages at most places and lengths, of the totals at most the used bytes and the gaps
 pub record Frame (ws ws′ : List ℕ) : Type 0 where
   pub long : length ws′ ≡ length ws
   pub items : (j : ℕ) → itemAt ws′ j ≡ withLength (withPlace (itemAt ws j) (placeOf ws′ j)) (sizeOf ws′ j)
-  pub totals : totalsAt ws′ ≡ withBytes (totalsAt ws) (usedOf ws′) (endOf ws′)
+  pub totals : totalsAt ws′ ≡ withBytes (totalsAt ws) (usedOf ws′) (gapsOf ws′)
   pub options : optionsAt ws′ ≡ optionsAt ws
   pub scheduler : schedulerAt ws′ ≡ schedulerAt ws
   pub known : (j : ℕ) → j < 256 → knownAt ws′ j ≡ knownAt ws j
@@ -58,4 +59,4 @@ pub record SamePlaces (ws ws′ : List ℕ) : Type 0 where
   pub places : (i : ℕ) → i < 1024 → placeOf ws′ i ≡ placeOf ws i
   pub sizes : (i : ℕ) → i < 1024 → sizeOf ws′ i ≡ sizeOf ws i
   pub used : usedOf ws′ ≡ usedOf ws
-  pub end : endOf ws′ ≡ endOf ws
+  pub gaps : gapsOf ws′ ≡ gapsOf ws

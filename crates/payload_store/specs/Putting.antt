@@ -7,7 +7,10 @@ use lib.ListN.{length, take, drop}
 use Rattle.queue_words.specs.Flags.{pick}
 use Rattle.queue_words.specs.Items.{putPlace, putLength}
 use Rattle.payload_store.specs.declared.Tally.{Tally}
-use Rattle.payload_store.specs.Words.{usedOf, endOf, placeOf, sizeOf, putBytes}
+use Rattle.queue_words.specs.declared.header.Gaps.{Gaps}
+use Rattle.payload_store.specs.Words.{usedOf, gapsOf, placeOf, sizeOf, putBytes}
+use Rattle.payload_store.specs.Gaps.{gaps, room, gapsWrong, gapFor}
+use Rattle.payload_store.specs.Searching.{found}
 use Rattle.payload_store.specs.Moving.{together}
 
 abbrev pub tally : Bool → ℕ → Tally
@@ -31,16 +34,16 @@ fitsTo ws len used (suc n) = rowFits ws len n (fitsTo ws len used n)
 unfoldable pub allFit : List ℕ → ℕ → ℕ → Bool
 allFit ws len used = pick (fitsTo ws len used 1024 .ok) (eqb (fitsTo ws len used 1024 .left) 0) false
 
--- 8: "The payload is longer than the free bytes", and "free bytes count together, however scattered": judged by the used bytes, not by the end.
--- may a payload of n bytes be put into row i of a store of len bytes: 0 at the end, 1 after moving together, 8 no room, 16 damaged
+-- 8: "The payload is longer than the free bytes", and "free bytes count together, however scattered": judged by the used bytes, not by the gaps.
+-- may a payload of n bytes be put into row i of a store of len bytes: 0 into a known gap, 1 elsewhere, 8 no room, 16 damaged
 unfoldable pub putCode : List ℕ → ℕ → ℕ → ℕ → ℕ
 putCode ws len i n =
     pick (leb 1024 i) 16
     (pick (ltb 0 (sizeOf ws i)) 16
     (pick (ltb len (usedOf ws)) 16
     (pick (ltb (len - usedOf ws) n) 8
-    (pick (ltb len (endOf ws)) 16
-    (pick (leb n (len - endOf ws)) 0
+    (pick (gapsWrong (gapsOf ws) len) 16
+    (pick (leb n (room (gapFor (gapsOf ws) n))) 0
     (pick (allFit ws len (usedOf ws)) 1 16))))))
 
 pub record Outcome : Type 0 where
@@ -55,14 +58,22 @@ outcome r ws st = record { answer = r; words = ws; store = st }
 abbrev pub written : List ℕ → ℕ → List ℕ → List ℕ
 written st at src = take at st ++ (src ++ drop (at + length src) st)
 
--- row i's payload is bs, put at `at`
-unfoldable pub placed : List ℕ → List ℕ → ℕ → ℕ → List ℕ → Outcome
-placed ws st at i bs =
-    outcome 0 (putBytes (putLength (putPlace ws i at) i (length bs)) (usedOf ws + length bs) (at + length bs)) (written st at bs)
+-- row i's payload is bs, put at the start of a gap
+unfoldable pub placed : List ℕ → List ℕ → Gaps → ℕ → List ℕ → Outcome
+placed ws st g i bs =
+    outcome 0
+    (putBytes (putLength (putPlace ws i (g .end)) i (length bs)) (usedOf ws + length bs) (gaps (g .end + length bs) (g .limit) (g .front)))
+    (written st (g .end) bs)
+
+-- where the known gaps g have no room: in a gap that is found, or behind the other payloads, moved together
+unfoldable pub putElsewhere : List ℕ → List ℕ → Gaps → ℕ → List ℕ → Outcome
+putElsewhere ws st g i bs =
+    pick (leb (length bs) (room (found ws (length st) (length bs) g))) (placed ws st (found ws (length st) (length bs) g) i bs)
+    (placed (together ws st .words) (together ws st .store) (gaps (usedOf (together ws st .words)) (length st) 0) i bs)
 
 -- the whole call; refused, it leaves words and store as they were
 unfoldable pub putPayload : List ℕ → List ℕ → ℕ → List ℕ → Outcome
 putPayload ws st i bs =
-    pick (eqb (putCode ws (length st) i (length bs)) 0) (placed ws st (endOf ws) i bs)
-    (pick (eqb (putCode ws (length st) i (length bs)) 1) (placed (together ws st .words) (together ws st .store) (usedOf (together ws st .words)) i bs)
+    pick (eqb (putCode ws (length st) i (length bs)) 0) (placed ws st (gapFor (gapsOf ws) (length bs)) i bs)
+    (pick (eqb (putCode ws (length st) i (length bs)) 1) (putElsewhere ws st (gapsOf ws) i bs)
     (outcome (putCode ws (length st) i (length bs)) ws st))

@@ -1,8 +1,9 @@
--- The words that the payload store uses: each message's place and length, the used bytes, the end of the used part. Assumes nothing.
+-- The words that the payload store uses: each message's place and length, the used bytes, the known gaps. Assumes nothing.
 use Prim.Native.Nat.{ℕ}
 use mathlib.Core.List.{List}
 use Rattle.queue_words.specs.Items.{itemAt}
 use Rattle.queue_words.specs.Header.{totalsAt, putTotals}
+use Rattle.queue_words.specs.declared.header.Gaps.{Gaps}
 use Rattle.queue_words.specs.declared.header.Totals.{Totals}
 
 -- where row i's payload lies, and how long it is: 0 for none
@@ -12,16 +13,16 @@ placeOf ws i = itemAt ws i .place
 abbrev pub sizeOf : List ℕ → ℕ → ℕ
 sizeOf ws i = itemAt ws i .length
 
--- the used bytes, and the end of the used part
+-- the used bytes, and the known gaps
 abbrev pub usedOf : List ℕ → ℕ
 usedOf ws = totalsAt ws .used
 
-abbrev pub endOf : List ℕ → ℕ
-endOf ws = totalsAt ws .end
+abbrev pub gapsOf : List ℕ → Gaps
+gapsOf ws = totalsAt ws .gaps
 
 -- the totals with other ones
-abbrev pub withBytes : Totals → ℕ → ℕ → Totals
-withBytes t u e = record {
+abbrev pub withBytes : Totals → ℕ → Gaps → Totals
+withBytes t u g = record {
   interleaving = t .interleaving;
   «next_message_id» = t .«next_message_id»;
   total = t .total;
@@ -29,9 +30,9 @@ withBytes t u e = record {
   waiting = t .waiting;
   free = t .free;
   used = u;
-  end = e;
+  gaps = g;
 }
 
 -- the words with other ones
-unfoldable pub putBytes : List ℕ → ℕ → ℕ → List ℕ
-putBytes ws u e = putTotals ws (withBytes (totalsAt ws) u e)
+unfoldable pub putBytes : List ℕ → ℕ → Gaps → List ℕ
+putBytes ws u g = putTotals ws (withBytes (totalsAt ws) u g)

@@ -1,10 +1,12 @@
 // The payload store: the payloads of the waiting messages lie whole in one lent slice of bytes.
 //
 // A message's row says where its payload lies and how long it is; 0 says that it has none. The totals say how many bytes are
-// used, and where the used part ends. A new payload goes to the end of the used part. Where the end has no room and the free
-// bytes suffice, the payloads are first moved together, in the order of their places. Every public function is total: words
-// that no queue has get the answer 16, and nothing is changed.
+// used, and two gaps of the store (src/gaps). A new payload goes to one of them. Where neither has room and the free bytes
+// suffice, a gap is searched (src/searching), and where none is found near, the payloads are first moved together, in the
+// order of their places. Every public function is total: words that no queue has get the answer 16, and nothing is changed.
 mod copying;
+mod gaps;
+mod searching;
 
 ghost use mathlib.Core.Path.{_≡_};
 ghost use mathlib.Core.List.{_++_};
@@ -12,11 +14,15 @@ ghost use Prim.Native.Nat.{_+_, _<_, _≤_};
 ghost use lib.ListN.{length, take, drop};
 ghost use Rattle.payload_store.specs.Words.{usedOf, putBytes};
 ghost use Rattle.payload_store.specs.Moving.{choose, least, moved, pack, together, Fits};
-ghost use Rattle.payload_store.specs.Putting.{rowFits, allFit, putCode, outcome, written, placed, putPayload};
+ghost use Rattle.payload_store.specs.Putting.{rowFits, allFit, putCode, outcome, written, placed, putElsewhere, putPayload};
 ghost use Rattle.payload_store.specs.Reading.{readCode, readPart};
 ghost use Rattle.payload_store.specs.Dropping.{dropCode, dropPayload};
 use copying::copy;
+use gaps::gap_for;
+use gaps::gaps_left;
+use gaps::gaps_wrong;
 use queue_words::QUEUE_WORDS;
+use queue_words::header::Gaps;
 use queue_words::header::load_totals;
 use queue_words::header::store_totals;
 use queue_words::items::load_length;
@@ -24,14 +30,15 @@ use queue_words::items::load_place;
 use queue_words::items::store_length;
 use queue_words::items::store_place;
 use queue_words::whole;
+use searching::find_gap;
 
-// The used bytes and the end of the used part.
-fn store_bytes(queue: &mut [u64; QUEUE_WORDS], used: u64, end: u64)
-    ensures { λ _. ⌜ now (queue .exit) ≡ putBytes (now (queue .entry)) used end ⌝ }
+// The used bytes and the gaps.
+fn store_bytes(queue: &mut [u64; QUEUE_WORDS], used: u64, gaps: Gaps)
+    ensures { λ _. ⌜ now (queue .exit) ≡ putBytes (now (queue .entry)) used gaps ⌝ }
 {
     let mut t = load_totals(&*queue);
     t.used = used;
-    t.end = end;
+    t.gaps = gaps;
     store_totals(queue, t);
 }
 
@@ -162,7 +169,7 @@ fn all_fit(queue: &[u64; QUEUE_WORDS], len: u64, used: u64) -> bool
     false
 }
 
-// May a payload of n bytes be put into row i: 0 at the end, 1 after moving together, 8 no room, 16 damaged. Reads only.
+// May a payload of n bytes be put into row i: 0 into a known gap, 1 elsewhere, 8 no room, 16 damaged. Reads only.
 pub fn put_code(queue: &[u64; QUEUE_WORDS], len: u64, i: usize, n: u64) -> u8
     ensures { λ r. ⌜ r ≡ putCode (now (queue .entry)) len i n ⌝ }
 {
@@ -180,10 +187,12 @@ pub fn put_code(queue: &[u64; QUEUE_WORDS], len: u64, i: usize, n: u64) -> u8
     if n > len - t.used {
         return 8;
     }
-    if t.end > len {
+    let wrong = gaps_wrong(t.gaps, len);
+    if wrong {
         return 16;
     }
-    if n <= len - t.end {
+    let g = gap_for(t.gaps, n);
+    if n <= g.limit - g.end {
         return 0;
     }
     let fit = all_fit(queue, len, t.used);
@@ -202,39 +211,78 @@ fn write_part(store: &mut [u8], at: usize, src: &[u8])
     copy(src, &mut store[at..end]);
 }
 
+// The payload goes to the gap's start.
 fn place_payload(
     queue: &mut [u64; QUEUE_WORDS],
     store: &mut [u8],
-    at: u64,
+    g: Gaps,
     i: usize,
     payload: &[u8],
 ) -> u8
-    requires { ⌜ (i < 1024) × (at + length (now payload) ≤ length (now store)) × (usedOf (now queue) + length (now payload) ≤ length (now store)) ⌝ }
-    ensures { λ r. ⌜ outcome r (now (queue .exit)) (now (store .exit)) ≡ placed (now (queue .entry)) (now (store .entry)) at i (now (payload .entry)) ⌝ }
+    requires { ⌜ (i < 1024) × (g .end + length (now payload) ≤ length (now store)) × (usedOf (now queue) + length (now payload) ≤ length (now store)) ⌝ }
+    ensures { λ r. ⌜ outcome r (now (queue .exit)) (now (store .exit)) ≡ placed (now (queue .entry)) (now (store .entry)) g i (now (payload .entry)) ⌝ }
 {
     let n = payload.len() as u64;
     let t = load_totals(&*queue);
-    write_part(store, at as usize, payload);
-    store_place(queue, i, at);
+    write_part(store, g.end as usize, payload);
+    store_place(queue, i, g.end);
     store_length(queue, i, n);
-    store_bytes(queue, t.used + n, at + n);
+    store_bytes(
+        queue,
+        t.used + n,
+        Gaps {
+            end: g.end + n,
+            limit: g.limit,
+            front: g.front,
+        },
+    );
     0
+}
+
+// Puts a payload into row i where the known gaps have no room: into a gap that is found, or behind the others, moved together.
+fn put_elsewhere(
+    queue: &mut [u64; QUEUE_WORDS],
+    store: &mut [u8],
+    g: Gaps,
+    i: usize,
+    payload: &[u8],
+) -> u8
+    requires { ⌜ (i < 1024) × Fits (now queue) (length (now store)) × (g .end ≤ length (now store)) × (usedOf (now queue) + length (now payload) ≤ length (now store)) ⌝ }
+    ensures { λ r. ⌜ outcome r (now (queue .exit)) (now (store .exit)) ≡ putElsewhere (now (queue .entry)) (now (store .entry)) g i (now (payload .entry)) ⌝ }
+{
+    let len = store.len() as u64;
+    let n = payload.len() as u64;
+    let f = find_gap(&*queue, len, n, g);
+    if n <= f.limit - f.end {
+        return place_payload(queue, store, f, i, payload);
+    }
+    move_together(queue, store);
+    let t = load_totals(&*queue);
+    place_payload(
+        queue,
+        store,
+        Gaps {
+            end: t.used,
+            limit: len,
+            front: 0,
+        },
+        i,
+        payload,
+    )
 }
 
 // Puts a payload into row i, which has none. 0: done. 8: no room. 16: damaged, or no such row. Refused: nothing is changed.
 pub fn put_payload(queue: &mut [u64; QUEUE_WORDS], store: &mut [u8], i: usize, payload: &[u8]) -> u8
     ensures { λ r. ⌜ outcome r (now (queue .exit)) (now (store .exit)) ≡ putPayload (now (queue .entry)) (now (store .entry)) i (now (payload .entry)) ⌝ }
 {
-    whole(queue);
     let code = put_code(queue, store.len() as u64, i, payload.len() as u64);
+    let t = load_totals(&*queue);
     if code == 0 {
-        let t = load_totals(&*queue);
-        return place_payload(queue, store, t.end, i, payload);
+        let g = gap_for(t.gaps, payload.len() as u64);
+        return place_payload(queue, store, g, i, payload);
     }
     if code == 1 {
-        move_together(queue, store);
-        let t = load_totals(&*queue);
-        return place_payload(queue, store, t.used, i, payload);
+        return put_elsewhere(queue, store, t.gaps, i, payload);
     }
     code
 }
@@ -324,12 +372,22 @@ pub fn drop_payload(queue: &mut [u64; QUEUE_WORDS], i: usize) -> u8
         return code;
     }
     let size = load_length(&*queue, i);
+    let place = load_place(&*queue, i);
     let t = load_totals(&*queue);
+    let g = gaps_left(t.gaps, place, size);
     store_length(queue, i, 0);
     if t.used == size {
-        store_bytes(queue, 0, 0);
+        store_bytes(
+            queue,
+            0,
+            Gaps {
+                end: 0,
+                limit: g.limit,
+                front: 0,
+            },
+        );
         return 0;
     }
-    store_bytes(queue, t.used - size, t.end);
+    store_bytes(queue, t.used - size, g);
     0
 }

@@ -101,7 +101,7 @@ withMessage t free n = record {
   waiting = sum (t .waiting) 1;
   free = free;
   used = t .used;
-  end = t .end;
+  gaps = t .gaps;
 }
 
 unfoldable pub counted : List ℕ → ℕ → ℕ → List ℕ

@@ -5,6 +5,7 @@ ghost use Rattle.queue_streams.specs.Settings.{called};
 ghost use Rattle.queue_messages.specs.Create.{createCode, freed, newWords, create};
 use queue_streams::answers::Call;
 use queue_words::QUEUE_WORDS;
+use queue_words::header::Gaps;
 use queue_words::header::Options;
 use queue_words::header::RestartRule;
 use queue_words::header::SchedulerState;
@@ -64,7 +65,11 @@ fn write_new(queue: &mut [u64; QUEUE_WORDS], o: Options)
             waiting: 0,
             free: 0,
             used: 0,
-            end: 0,
+            gaps: Gaps {
+                end: 0,
+                limit: 0,
+                front: 0,
+            },
         },
     );
     store_scheduler_state(

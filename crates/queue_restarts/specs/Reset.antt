@@ -108,7 +108,7 @@ withTotal t n = record {
   waiting = t .waiting;
   free = t .free;
   used = t .used;
-  end = t .end;
+  gaps = t .gaps;
 }
 
 -- What the known streams put back, from the total on.

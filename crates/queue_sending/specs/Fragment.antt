@@ -55,7 +55,7 @@ lessTotal t n = record {
   waiting = t .waiting;
   free = t .free;
   used = t .used;
-  end = t .end;
+  gaps = t .gaps;
 }
 
 -- a stream with n bytes fewer

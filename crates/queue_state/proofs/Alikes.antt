@@ -8,7 +8,7 @@ use Rattle.queue_words.specs.declared.header.Totals.{Totals}
 use Rattle.queue_words.specs.declared.items.Item.{Item}
 use Rattle.queue_words.proofs.Laws
 use Rattle.payload_store.specs.Promise.{SamePlaces}
-use Rattle.payload_store.specs.Words.{usedOf, endOf}
+use Rattle.payload_store.specs.Words.{usedOf, gapsOf}
 use Rattle.payload_store.proofs.Goods.{payload-kept}
 use Rattle.queue_state.proofs.Frames.{Same, same-item}
 use Rattle.queue_state.proofs.Singles.{Alike}
@@ -19,7 +19,7 @@ alike-places ws us a = record {
   places = λ i h. ap (λ (m : Item). m .place) (a .items i h);
   sizes = λ i h. ap (λ (m : Item). m .length) (a .items i h);
   used = a .used;
-  end = a .end;
+  gaps = a .gaps;
 }
 
 pub alike-same : (ws st us : List ℕ) → Alike ws us → (x : ℕ) → x < 1024 → Same ws st us st x
@@ -32,14 +32,14 @@ alike-both ws us vs a b = record {
   waiting = b .waiting ∙ a .waiting;
   free = b .free ∙ a .free;
   used = b .used ∙ a .used;
-  end = b .end ∙ a .end;
+  gaps = b .gaps ∙ a .gaps;
   table = λ j h. b .table j h ∙ a .table j h;
   rows = λ j h. b .rows j h ∙ a .rows j h;
   items = λ j h. b .items j h ∙ a .items j h;
 }
 
 -- Totals that count the same.
-pub alike-totals : (ws : List ℕ) (t : Totals) → length ws ≡ 20768 → FitsTotals t → t .known ≡ totalsAt ws .known → t .waiting ≡ totalsAt ws .waiting → t .free ≡ totalsAt ws .free → t .used ≡ usedOf ws → t .end ≡ endOf ws
+pub alike-totals : (ws : List ℕ) (t : Totals) → length ws ≡ 20768 → FitsTotals t → t .known ≡ totalsAt ws .known → t .waiting ≡ totalsAt ws .waiting → t .free ≡ totalsAt ws .free → t .used ≡ usedOf ws → t .gaps ≡ gapsOf ws
     → Alike ws (putTotals ws t)
 alike-totals ws t l f a b c d e =
     let p : totalsAt (putTotals ws t) ≡ t = Laws.totals-at-put ws t l f in
@@ -49,7 +49,7 @@ alike-totals ws t l f a b c d e =
       waiting = ap (λ (x : Totals). x .waiting) p ∙ b;
       free = ap (λ (x : Totals). x .free) p ∙ c;
       used = ap (λ (x : Totals). x .used) p ∙ d;
-      end = ap (λ (x : Totals). x .end) p ∙ e;
+      gaps = ap (λ (x : Totals). x .gaps) p ∙ e;
       table = λ j h. Laws.known-put-totals ws t j;
       rows = λ j h. Laws.stream-put-totals ws t j;
       items = λ j h. Laws.item-put-totals ws t j;

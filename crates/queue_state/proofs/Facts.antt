@@ -15,7 +15,7 @@ use Rattle.queue_model.proofs.Table.{Every}
 use Rattle.queue_model.proofs.Streams.{unsent-bytes}
 use Rattle.queue_model.proofs.Invariant.Messages.{WellItems}
 use Rattle.queue_model.proofs.Invariant.Well.{Kept, amount-le}
-use Rattle.payload_store.specs.Words.{sizeOf, endOf}
+use Rattle.payload_store.specs.Words.{sizeOf, gapsOf}
 use Rattle.payload_store.specs.Good as payload
 use Rattle.payload_store.proofs.Goods.{payload-length}
 use Rattle.message_chains.specs.Amounts.{rest}
@@ -38,7 +38,7 @@ rest-in ws st x = refl
 
 payload-in : (ws st : List ℕ) (x : ℕ) → payload.Good ws st → x < 1024 → length ((itemIn ws st x) .payload) ≡ sizeOf ws x
 unfolding itemIn
-payload-in ws st x g h = payload-length ws st (endOf ws) x g h
+payload-in ws st x g h = payload-length ws st (gapsOf ws) x g h
 
 pub rest-is : (ws st : List ℕ) (x : ℕ) → payload.Good ws st → x < 1024 → remaining (itemIn ws st x) ≡ rest (itemAt ws x)
 rest-is ws st x g h = ap (λ (n : ℕ). n - (itemIn ws st x) .offset) (payload-in ws st x g h) ∙ rest-in ws st x

@@ -43,7 +43,7 @@ module _ (us st : List ℕ) (r : ℕ) (s : OutgoingStream) (h : r < 256) where
     places = λ x l. ap (λ (m : Item). m .place) (Laws.item-put-stream us r s x h);
     sizes = λ x l. ap (λ (m : Item). m .length) (Laws.item-put-stream us r s x h);
     used = ap (λ (t : Totals). t .used) (Laws.totals-put-stream us r s);
-    end = ap (λ (t : Totals). t .end) (Laws.totals-put-stream us r s);
+    gaps = ap (λ (t : Totals). t .gaps) (Laws.totals-put-stream us r s);
   }
 
   pub stored-same : (x : ℕ) → x < 1024 → Same us st (putStream us r s) st x

@@ -253,7 +253,7 @@ module _ (ws st : List ℕ) (g : Shape ws st) (p id : ℕ) (s : OutgoingStream) 
     places = λ x h. ap (λ (m : Item). m .place) (t .items x);
     sizes = λ x h. ap (λ (m : Item). m .length) (t .items x);
     used = used-is;
-    end = ap (λ (x : Totals). x .end) (t .totals);
+    gaps = ap (λ (x : Totals). x .gaps) (t .totals);
   }
 
   same : (x : ℕ) → x < 1024 → Same ws st us st x

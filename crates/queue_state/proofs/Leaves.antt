@@ -39,7 +39,7 @@ untouched-same ws us st l u x h = same-item ws st us st x (u .same-items x h) (p
       places = λ y k. ap (λ (m : Item). m .place) (u .same-items y k);
       sizes = λ y k. ap (λ (m : Item). m .length) (u .same-items y k);
       used = ap (λ (t : Totals). t .used) (u .same-totals);
-      end = ap (λ (t : Totals). t .end) (u .same-totals);
+      gaps = ap (λ (t : Totals). t .gaps) (u .same-totals);
     }
 
 -- The queue with this total, these streams and this scheduler.

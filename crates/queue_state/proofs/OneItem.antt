@@ -62,7 +62,7 @@ module _ (ws st : List ℕ) (g : Shape ws st) (i : ℕ) (hk : i < totalsAt ws .k
     places = λ y h. place-kept y;
     sizes = λ y h. size-kept y;
     used = ap (λ (t : Totals). t .used) same-totals;
-    end = ap (λ (t : Totals). t .end) same-totals;
+    gaps = ap (λ (t : Totals). t .gaps) same-totals;
   }
 
   pub payload-same : (y : ℕ) → y < 1024 → payloadOf (putItem ws x m) st y ≡ payloadOf ws st y

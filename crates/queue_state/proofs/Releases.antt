@@ -81,7 +81,7 @@ module _ (ws st : List ℕ) (x n : ℕ) (long : length ws ≡ 20768) (ds : List 
     places = λ y h. ap (λ (m : Item). m .place) (item-us y) ∙ Laws.place-put-next ds x (totalsAt ds .free) y;
     sizes = λ y h. ap (λ (m : Item). m .length) (item-us y) ∙ Laws.length-put-next ds x (totalsAt ds .free) y;
     used = ap (λ (t : Totals). t .used) totals-us;
-    end = ap (λ (t : Totals). t .end) totals-us;
+    gaps = ap (λ (t : Totals). t .gaps) totals-us;
   }
 
   other-item : (y : ℕ) → y < 1024 → (x ≡ y → ⊥) → itemIn us st y ≡ itemIn ws st y

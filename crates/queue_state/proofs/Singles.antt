@@ -21,7 +21,7 @@ use Rattle.queue_words.proofs.Laws
 use Rattle.queue_model.specs.Types.{Stream, Queue, Active, Scheduler}
 use Rattle.queue_model.specs.Types as plain
 use Rattle.queue_model.specs.Streams.{put-stream, stream-key}
-use Rattle.payload_store.specs.Words.{sizeOf, usedOf, endOf, placeOf}
+use Rattle.payload_store.specs.Words.{sizeOf, usedOf, gapsOf, placeOf}
 use Rattle.payload_store.specs.Good.{payloadOf}
 use Rattle.payload_store.specs.Good as payload
 use Rattle.payload_store.specs.Promise.{SamePlaces}
@@ -79,7 +79,7 @@ pub record Alike (ws ws′ : List ℕ) : Type 0 where
   pub waiting : totalsAt ws′ .waiting ≡ totalsAt ws .waiting
   pub free : totalsAt ws′ .free ≡ totalsAt ws .free
   pub used : usedOf ws′ ≡ usedOf ws
-  pub end : endOf ws′ ≡ endOf ws
+  pub gaps : gapsOf ws′ ≡ gapsOf ws
   pub table : (j : ℕ) → j < 256 → knownAt ws′ j ≡ knownAt ws j
   pub rows : (j : ℕ) → j < 256 → streamAt ws′ j ≡ streamAt ws j
   pub items : (j : ℕ) → j < 1024 → itemAt ws′ j ≡ itemAt ws j
@@ -98,7 +98,7 @@ module _ (ws st : List ℕ) (g : Shape ws st) (ws′ : List ℕ) (a : Alike ws w
     places = λ i h. ap (λ (m : Item). m .place) (a .items i h);
     sizes = λ i h. ap (λ (m : Item). m .length) (a .items i h);
     used = a .used;
-    end = a .end;
+    gaps = a .gaps;
   }
 
   same : (x : ℕ) → x < 1024 → Same ws st ws′ st x
@@ -169,7 +169,7 @@ alike-untouched ws us l u = record {
   waiting = ap (λ (t : Totals). t .waiting) (u .same-totals);
   free = ap (λ (t : Totals). t .free) (u .same-totals);
   used = ap (λ (t : Totals). t .used) (u .same-totals);
-  end = ap (λ (t : Totals). t .end) (u .same-totals);
+  gaps = ap (λ (t : Totals). t .gaps) (u .same-totals);
   table = u .same-known;
   rows = u .same-streams;
   items = u .same-items;
@@ -195,7 +195,7 @@ scheduler-same ws us l eo es ea g = (
 
 -- ---- the totals alone
 
-pub shape-totals : (ws st : List ℕ) (t : Totals) (g : Shape ws st) → FitsTotals t → t .known ≡ totalsAt ws .known → t .waiting ≡ totalsAt ws .waiting → t .free ≡ totalsAt ws .free → t .used ≡ usedOf ws → t .end ≡ endOf ws
+pub shape-totals : (ws st : List ℕ) (t : Totals) (g : Shape ws st) → FitsTotals t → t .known ≡ totalsAt ws .known → t .waiting ≡ totalsAt ws .waiting → t .free ≡ totalsAt ws .free → t .used ≡ usedOf ws → t .gaps ≡ gapsOf ws
     → Unmoved ws st g (putTotals ws t)
 shape-totals ws st t g f a b c d e =
     let p : totalsAt (putTotals ws t) ≡ t = Laws.totals-at-put ws t (g .long) f in
@@ -206,7 +206,7 @@ shape-totals ws st t g f a b c d e =
       waiting = ap (λ (x : Totals). x .waiting) p ∙ b;
       free = ap (λ (x : Totals). x .free) p ∙ c;
       used = ap (λ (x : Totals). x .used) p ∙ d;
-      end = ap (λ (x : Totals). x .end) p ∙ e;
+      gaps = ap (λ (x : Totals). x .gaps) p ∙ e;
       table = λ j h. Laws.known-put-totals ws t j;
       rows = λ j h. Laws.stream-put-totals ws t j;
       items = λ j h. Laws.item-put-totals ws t j;
@@ -228,7 +228,7 @@ module _ (ws st : List ℕ) (g : Shape ws st) (i : ℕ) (hk : i < totalsAt ws .k
     places = λ x h. ap (λ (m : Item). m .place) (Laws.item-put-stream ws (rowAt ws i) s x (row-below ws st g i hk));
     sizes = λ x h. ap (λ (m : Item). m .length) (Laws.item-put-stream ws (rowAt ws i) s x (row-below ws st g i hk));
     used = ap (λ (t : Totals). t .used) (Laws.totals-put-stream ws (rowAt ws i) s);
-    end = ap (λ (t : Totals). t .end) (Laws.totals-put-stream ws (rowAt ws i) s);
+    gaps = ap (λ (t : Totals). t .gaps) (Laws.totals-put-stream ws (rowAt ws i) s);
   }
 
   row-same : (x : ℕ) → x < 1024 → Same ws st (putStream ws (rowAt ws i) s) st x

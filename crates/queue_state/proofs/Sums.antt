@@ -11,7 +11,7 @@ use Rattle.queue_model.specs.Types.{Stream}
 use Rattle.queue_model.specs.Types as plain
 use Rattle.queue_model.specs.Streams.{waiting, occupied, payload-bytes}
 use Rattle.payload_store.specs.Good.{payloadOf}
-use Rattle.payload_store.specs.Words.{sizeOf, usedOf, endOf}
+use Rattle.payload_store.specs.Words.{sizeOf, usedOf, gapsOf}
 use Rattle.payload_store.proofs.Goods.{payload-length}
 use Rattle.queue_state.specs.Chains.{count, sumOf, total, sumTo, each}
 use Rattle.queue_state.specs.Model.{itemIn, streamIn, streamsIn, tab}
@@ -28,7 +28,7 @@ each-length f (x ∷ xs) = ap suc (each-length f xs)
 -- A message's payload is as long as its row says.
 pub item-length : (ws st : List ℕ) (g : Shape ws st) (x : ℕ) → x < 1024 → length ((itemIn ws st x) .payload) ≡ sizeOf ws x
 unfolding itemIn
-item-length ws st g x h = payload-length ws st (endOf ws) x (g .lay) h
+item-length ws st g x h = payload-length ws st (gapsOf ws) x (g .lay) h
 
 pub payload-sum : (ws st : List ℕ) (g : Shape ws st) (ps : List ℕ) → ((x : ℕ) → 1 ≤ count x ps → x < 1024) → payload-bytes (each (itemIn ws st) ps) ≡ sumOf (sizeOf ws) ps
 payload-sum ws st g [] f = refl

@@ -52,7 +52,7 @@ withKnown t n = record {
   waiting = t .waiting;
   free = t .free;
   used = t .used;
-  end = t .end;
+  gaps = t .gaps;
 }
 
 -- A stream made known at a position in the order of ids; its row is the first that no stream has.

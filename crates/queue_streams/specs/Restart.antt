@@ -68,7 +68,7 @@ withInterleaving t b = record {
   waiting = t .waiting;
   free = t .free;
   used = t .used;
-  end = t .end;
+  gaps = t .gaps;
 }
 
 unfoldable pub switchedAt : Bool → List ℕ → Known → List ℕ

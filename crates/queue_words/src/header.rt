@@ -1,4 +1,4 @@
-// The header: the creation's arguments from word 0, the totals from word 7, the scheduler's state from word 15.
+// The header: the creation's arguments from word 0, the totals from word 7, the scheduler's state from word 17.
 ghost use mathlib.Core.Path.{_≡_};
 ghost use Rattle.queue_words.specs.Header.{isStrict, optionsOut, optionsIn, optionsAt, putOptions, FitsOptions};
 ghost use Rattle.queue_words.specs.Header.{totalsOut, totalsIn, totalsAt, putTotals, FitsTotals};
@@ -10,7 +10,7 @@ const OPTIONS: usize = 0;
 
 const TOTALS: usize = 7;
 
-const SCHEDULER: usize = 15;
+const SCHEDULER: usize = 17;
 
 // Document 02, 6/13: "Creation chooses the rule, as in the Rust or strict." How a whole-queue reset puts a half-sent message back: with its numbers, as dcSCTP does, or as one
 // that was never begun, as RFC 8260 has it.
@@ -42,6 +42,13 @@ pub struct Options {
     pub strict_restart: bool,
 }
 
+// Free bytes of the store that are known: from `end` up to `limit`, where the next payload goes, and those below `front`.
+pub struct Gaps {
+    pub end: u64,
+    pub limit: u64,
+    pub front: u64,
+}
+
 pub struct Totals {
     pub interleaving: bool,
     pub next_message_id: OutgoingMessageId,
@@ -53,9 +60,9 @@ pub struct Totals {
     pub waiting: u64,
     // The first place of the chain of free message places, 1024 for none.
     pub free: u64,
-    // The occupied bytes of the store, and the end of its used part.
+    // The occupied bytes of the store, and its known gaps.
     pub used: u64,
-    pub end: u64,
+    pub gaps: Gaps,
 }
 
 pub struct SchedulerState {
@@ -120,7 +127,11 @@ fn totals_out(queue: &[u64; QUEUE_WORDS]) -> Totals
         waiting: queue[TOTALS + 4],
         free: queue[TOTALS + 5],
         used: queue[TOTALS + 6],
-        end: queue[TOTALS + 7],
+        gaps: Gaps {
+            end: queue[TOTALS + 7],
+            limit: queue[TOTALS + 8],
+            front: queue[TOTALS + 9],
+        },
     }
 }
 
@@ -134,7 +145,9 @@ fn totals_in(queue: &mut [u64; QUEUE_WORDS], t: Totals)
     queue[TOTALS + 4] = t.waiting;
     queue[TOTALS + 5] = t.free;
     queue[TOTALS + 6] = t.used;
-    queue[TOTALS + 7] = t.end;
+    queue[TOTALS + 7] = t.gaps.end;
+    queue[TOTALS + 8] = t.gaps.limit;
+    queue[TOTALS + 9] = t.gaps.front;
 }
 
 pub fn load_totals(queue: &[u64; QUEUE_WORDS]) -> Totals

@@ -61,7 +61,7 @@ withRestored t free n = record {
   waiting = sum (t .waiting) 1;
   free = free;
   used = t .used;
-  end = t .end;
+  gaps = t .gaps;
 }
 
 unfoldable pub countedRestored : List ℕ → ℕ → ℕ → List ℕ

@@ -7,6 +7,7 @@ use image_reader::read_stream;
 use queue_messages::creation::free_all;
 use queue_streams::insert_stream;
 use queue_words::QUEUE_WORDS;
+use queue_words::header::Gaps;
 use queue_words::header::Options;
 use queue_words::header::SchedulerState;
 use queue_words::header::Totals;
@@ -34,7 +35,11 @@ pub fn empty_queue(queue: &mut [u64; QUEUE_WORDS], next_message_id: u32)
             waiting: 0,
             free: 0,
             used: 0,
-            end: 0,
+            gaps: Gaps {
+                end: 0,
+                limit: 0,
+                front: 0,
+            },
         },
     );
     store_scheduler_state(

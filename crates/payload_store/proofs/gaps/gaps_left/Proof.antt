@@ -1,0 +1,41 @@
+-- `payload_store::gaps::gaps_left` meets its contract: each return is what its definition says, by what the calls ensure and the tests taken. Assumes nothing.
+use borrow.Author.Needs.{needs}
+use borrow.Author.Tests.{eq-eqb, ne-eqb}
+use Rattle.payload_store.specs.Gaps.{gapsLeft}
+use Rattle.payload_store.proofs.gaps.gaps_left.Statement.{statement}
+use Rattle.payload_store.proofs.gaps.gaps_left.Tie as tie
+
+returns : tie.Need-returns
+unfolding gapsLeft
+returns c =
+    rw (
+      eq-eqb _ _ (c .before .if1 .taken),
+      ← (c .past .ensures),
+    )
+
+returns-2 : tie.Need-returns-2
+unfolding gapsLeft
+returns-2 c =
+    rw (
+      ne-eqb _ _ (c .before .before .before .if1 .left),
+      eq-eqb _ _ (c .before .if2 .taken),
+      ← (c .past2 .ensures),
+    )
+
+returns-3 : tie.Need-returns-3
+unfolding gapsLeft
+returns-3 c =
+    rw (
+      ne-eqb _ _ (c .before .before .if1 .left),
+      ne-eqb _ _ (c .if2 .left),
+    )
+
+pub gaps-left-spec : {M : Type 1} → statement M
+gaps-left-spec =
+    tie.close
+    (tie.spec
+    (λ c. search needs)
+    returns
+    (λ c. search needs)
+    returns-2
+    returns-3)
