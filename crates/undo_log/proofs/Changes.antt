@@ -17,6 +17,7 @@ use Rattle.queue_words.specs.Rows.{row, putRow}
 use Rattle.queue_words.specs.Streams.{streamWords, putStream}
 use Rattle.queue_words.specs.declared.active.ActiveStreamInfo.{ActiveStreamInfo}
 use Rattle.queue_words.specs.declared.active.SchedulingParameters.{SchedulingParameters}
+use Rattle.queue_words.specs.declared.header.Gaps.{Gaps}
 use Rattle.queue_words.specs.declared.header.SchedulerState.{SchedulerState}
 use Rattle.queue_words.specs.declared.header.Totals.{Totals}
 use Rattle.queue_words.specs.declared.items.Item.{Item}
@@ -159,9 +160,9 @@ module _ (row place at : ℕ) where
     far = λ j f. getD-set-other ws (3104 + place * 16 + 12) j v 0 (λ e. ⊎-elim (λ l. omega arith) (λ l. omega arith) (f .1 .0));
   }
 
-  near-bytes : (ws : List ℕ) (u e : ℕ) → Near row place at ws (putBytes ws u e)
+  near-bytes : (ws : List ℕ) (u : ℕ) (g : Gaps) → Near row place at ws (putBytes ws u g)
   unfolding putBytes
-  near-bytes ws u e = near-totals ws _
+  near-bytes ws u g = near-totals ws _
 
   near-payload : (ws : List ℕ) → Near row place at ws (dropPayload ws place)
   unfolding dropPayload dropped
