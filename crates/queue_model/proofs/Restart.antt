@@ -9,7 +9,7 @@ use Rattle.queue_model.specs.Logic.{any}
 use Rattle.queue_model.specs.Types.{Options, Queue, Fragment, done, Step}
 use Rattle.queue_model.specs.Refusals.{first-refusal, refused-or, checked, max-word}
 use Rattle.queue_model.specs.Reset.{all-put-back, put-back-overflows, reset-stream, reset-checks}
-use Rattle.queue_model.specs.Restart.{fragment-in, fragments, FirstAfresh, NoRestore, Request6-starts}
+use Rattle.queue_model.specs.Restart.{fragment-in, fragments, FirstAfresh, NoneRestored, Request6-starts}
 use Rattle.queue_model.specs.Run.{Call, reset, step, run}
 use Rattle.queue_model.specs.Demands.{AllTyped}
 use Rattle.queue_model.proofs.Table.{Every}
@@ -43,7 +43,7 @@ reset-fresh k q w e =
 
 -- ---- the calls after it
 
-first-after : (k : ℕ) (cs : List Call) (q : Queue) → AllTyped cs → NoRestore cs → Well q → Fresh k q → FirstAfresh (fragments k (run cs q))
+first-after : (k : ℕ) (cs : List Call) (q : Queue) → AllTyped cs → NoneRestored cs q → Well q → Fresh k q → FirstAfresh (fragments k (run cs q))
 unfolding fragments run
 first-after k [] q t n w a = tt
 first-after k (c ∷ cs) q t n w a = go (follows-step k c q (n .0) w a) (λ b. first-after k cs ((step c q) .next) (t .1) (n .1) ((fine-step c q (t .0) w) .next-well) b)

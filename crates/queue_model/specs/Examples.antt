@@ -14,15 +14,15 @@ use Rattle.queue_model.specs.Questions.{readiness}
 use Rattle.queue_model.specs.Image.{bit, ms-left-at, write-image}
 use Rattle.queue_model.specs.Run.{Call, add, produce, discard, close, ready-ids, commit, rollback, reset, set-threshold, set-priority, set-interleaving, restore, ask-amount, run, after}
 
--- A queue with payload limit 1,000, default priority 256 and stream thresholds 0; the total's threshold, handover with waiting data and the strict rule of a restart as given.
-created : ℕ → Bool → Bool → Queue
+-- A queue with payload limit 1,000 and stream thresholds 0; the default priority, the total's threshold, handover with waiting data and the strict rule of a restart as given.
+created : ℕ → ℕ → Bool → Bool → Queue
 unfolding new-queue
-created t handover strict = new-queue (record { payload-limit = 1000; store-length = 100000; default-priority = 256; default-threshold = 0; total-threshold = t; handover-with-data = handover; strict-restart = strict })
+created d t handover strict = new-queue (record { payload-limit = 1000; store-length = 100000; default-priority = d; default-threshold = 0; total-threshold = t; handover-with-data = handover; strict-restart = strict })
 
--- The queue of the examples: both thresholds 0, handover with waiting data, the Rust's rule.
+-- The queue of the examples: default priority 256, both thresholds 0, handover with waiting data, the Rust's rule.
 queue : Queue
 unfolding created
-queue = created 0 true false
+queue = created 256 0 true false
 
 -- Add n bytes to a stream at a time, with a lifetime or none; ask for a fragment of at most n bytes at a time.
 put : ℕ → ℕ → ℕ → Option ℕ → Call
@@ -151,21 +151,26 @@ noted s l = add 100000 0 (record { stream-id = s; ppid = 0; unordered = false; m
 -- The readiness with and without a waiting message, where handover with waiting data is off.
 ready-with : List Call → ℕ
 unfolding after created readiness
-ready-with cs = readiness (after cs (created 0 false false))
+ready-with cs = readiness (after cs (created 256 0 false false))
 
 -- What a list of calls answers on a queue of the strict rule; and the image of the examples' queue after a list of calls.
 strictly : List Call → List ℕ
 unfolding answers run created
-strictly cs = answers (run cs (created 0 true true))
+strictly cs = answers (run cs (created 256 0 true true))
 
 image-after : List Call → List ℕ
 unfolding write-image after queue
 image-after cs = write-image 1 (after cs queue)
 
+-- The same of a queue with another default priority.
+other-image : List Call → List ℕ
+unfolding write-image after created
+other-image cs = write-image 1 (after cs (created 512 0 true false))
+
 -- What a list of calls fires where the total has a threshold too.
 fires-at : ℕ → List Call → List ℕ
 unfolding all-events run created
-fires-at t cs = all-events (run cs (created t true false))
+fires-at t cs = all-events (run cs (created 256 t true false))
 
 -- Stream 5 with the threshold 15 and three messages of 10 bytes.
 thrice : Option ℕ → List Call
@@ -182,7 +187,7 @@ unfolding put get
 halves = set-interleaving true ∷ put 7 40 0 none ∷ get 0 10 ∷ put 5 20 0 none ∷ get 0 10 ∷ put 3 10 0 none ∷ []
 
 pub facts : List Row
-unfolding shows fires fires-at thrice put get begun ended noted ready-with strictly image-after half halves
+unfolding shows fires fires-at thrice put get begun ended noted ready-with strictly image-after other-image half halves
 facts =
     -- "a remaining half-sent one makes the stream pending"; "When a pending stream's message ends or is discarded, it is paused."
     (shows (put 5 1500 0 none ∷ get 0 1000 ∷ close 2305 5 ∷ ready-ids ∷ get 0 1000 ∷ ready-ids ∷ []) gives (begun 5 ++ ended 5 ++ (5 ∷ [])))
@@ -219,10 +224,14 @@ facts =
     ∷ (strictly (restore 100000 1 (image-after (put 5 10 0 none ∷ get 0 6 ∷ reset ∷ [])) ∷ []) gives (999 ∷ 13 ∷ []))
     ∷ (strictly (restore 100000 1 (image-after (put 5 10 0 none ∷ get 0 6 ∷ [])) ∷ ask-amount 5 ∷ []) gives (4 ∷ []))
     ∷ (shows (restore 100000 1 (image-after (put 5 10 0 none ∷ get 0 6 ∷ reset ∷ [])) ∷ ask-amount 5 ∷ []) gives (10 ∷ []))
+    -- "the first that applies is given": 13 for it, then 14 for another default priority.
+    ∷ (strictly (restore 100000 1 (other-image (put 5 10 0 none ∷ get 0 6 ∷ reset ∷ [])) ∷ restore 100000 1 (other-image (put 5 10 0 none ∷ get 0 6 ∷ [])) ∷ []) gives (999 ∷ 13 ∷ 999 ∷ 14 ∷ []))
     -- "Restoring without interleaving shall remember the stream whose first message is half-sent, the smallest id if several are, and send its rest first": 10 of 40 bytes sent on 5, then a
     -- message on 3. The rest of 5 comes first, then 3; restored with interleaving 3 comes first, by its finish time.
     ∷ (shows (restore 100000 1 (image-after half) ∷ get 1 40 ∷ get 1 40 ∷ []) gives (5 ∷ 30 ∷ 0 ∷ 1 ∷ 0 ∷ 0 ∷ 1 ∷ 3 ∷ 10 ∷ 1 ∷ 1 ∷ 0 ∷ 0 ∷ 0 ∷ []))
     ∷ (shows (set-interleaving true ∷ restore 100000 1 (image-after half) ∷ get 1 40 ∷ []) gives (3 ∷ 10 ∷ 1 ∷ 1 ∷ 0 ∷ 0 ∷ 0 ∷ []))
+    -- A message put back is not half-sent: 3 comes first.
+    ∷ (shows (restore 100000 1 (image-after (half ++ (reset ∷ []))) ∷ get 1 40 ∷ []) gives (3 ∷ 10 ∷ 1 ∷ 1 ∷ 0 ∷ 0 ∷ 0 ∷ []))
     -- Half-sent messages on 5 and 7, a whole one on 3: 5, then 3, then 7.
     ∷ (shows (restore 100000 1 (image-after halves) ∷ get 1 40 ∷ get 1 40 ∷ get 1 40 ∷ []) gives (5 ∷ 10 ∷ 0 ∷ 1 ∷ 0 ∷ 0 ∷ 1 ∷ 3 ∷ 10 ∷ 1 ∷ 1 ∷ 0 ∷ 0 ∷ 0 ∷ 7 ∷ 30 ∷ 0 ∷ 1 ∷ 0 ∷ 0 ∷ 1 ∷ []))
     -- "Readiness is 2 if handover with waiting data is off and the total is above 0, else 0."

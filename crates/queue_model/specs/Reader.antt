@@ -140,7 +140,7 @@ read-parts t bs =
     (λ ms. only-right (record { next-message-id = next-message-id-in t; default-priority = default-priority-in t; streams = read-streams (stream-count-in t) bs; messages = ms })) in
     only-if (trailer-right t bs) h
 
--- Read an image: its handover record, or none where it breaks a rule (13).
+-- Read an image: its handover record, or none where it breaks a rule (13). Document 02's 6/13 adds a rule for strict queues: `mid-too-early` (Restore).
 unfoldable pub read-image : List ℕ → Option Handover
 unfolding read-parts bytes-row only-if
 read-image bs = let h = read-parts (bytes-row trailer-widths (drop (length bs - 20) bs)) bs in only-if (leb 20 (length bs)) h

@@ -40,13 +40,13 @@ FirstAfresh (f ∷ fs) = Afresh f
 
 -- ------------------------------------------------------------------ the claim
 
--- Any calls but restoring, which gives streams the counters and the half-sent messages of an image. (It is refused on a queue that knows a stream.)
-abbrev pub NotRestore : Call → Type 0
-NotRestore c = (store now : ℕ) (image : List ℕ) → c ≡ restore store now image → ⊥
+-- Any calls, but no accepted restoring, which gives streams the counters and the half-sent messages of an image. (It is refused on a queue that knows a stream.)
+abbrev pub NotRestored : Call → Queue → Type 0
+NotRestored c q = (store now : ℕ) (image : List ℕ) → c ≡ restore store now image → (step c q) .outcome .answer ≡ done → ⊥
 
-abbrev pub NoRestore : List Call → Type 0
-NoRestore [] = Unit {0}
-NoRestore (c ∷ cs) = NotRestore c × NoRestore cs
+abbrev pub NoneRestored : List Call → Queue → Type 0
+NoneRestored [] q = Unit {0}
+NoneRestored (c ∷ cs) q = NotRestored c q × NoneRestored cs ((step c q) .next)
 
 -- The reset is accepted, and the first fragment of stream k after it starts afresh, whatever calls come between.
 pub record Restarts (k : ℕ) (cs : List Call) (q : Queue) : Type 0 where
@@ -57,4 +57,4 @@ pub record Restarts (k : ℕ) (cs : List Call) (q : Queue) : Type 0 where
 -- queue whose creation chose the strict rule.
 unfoldable pub Request6-starts : Type 0
 unfolding step fragments run
-Request6-starts = (o : Options) (q : Queue) (cs : List Call) (k : ℕ) → o .strict-restart ≡ true → Reachable o q → AllTyped cs → NoRestore cs → Restarts k cs q
+Request6-starts = (o : Options) (q : Queue) (cs : List Call) (k : ℕ) → o .strict-restart ≡ true → Reachable o q → AllTyped cs → NoneRestored cs ((step reset q) .next) → Restarts k cs q

@@ -123,7 +123,7 @@ peek sc = or-else (remembered (sc .current) (sc .active)) (least-of (sc .active)
 
 -- ------------------------------------------------------------------ handing out
 
--- "Without interleaving a stream is remembered from any fragment but a last one"; with it none is ("switching interleaving on keeps it so until its next fragment").
+-- "Without interleaving a stream is remembered from any fragment but a last one" (and by restoring, document 02, 10/13: `remember-half-sent`); with it none is ("switching interleaving on keeps it so until its next fragment").
 unfoldable pub remember : ℕ → Weight → Option ℕ
 remember s round-robin = some s
 remember s (weighted w) = none

@@ -33,7 +33,7 @@ abbrev pub All : {A : Type 0} → (A → Type 0) → List A → Type 0
 All P [] = Unit {0}
 All P (x ∷ xs) = P x × All P xs
 
--- The list "never has another message between two fragments of one", by message ids: from f to g, of which none is g's message begun anew, all are of g's message.
+-- The list never has another message between two fragments of one, by message ids: if no fragment between f and g begins g's message anew, then f and all between are of g's message.
 abbrev pub Together : {A : Type 0} → (A → Bool) → (A → ℕ) → List A → Type 0
 Together {A} first id fs =
     (before between behind : List A) (f g : A)
@@ -103,11 +103,11 @@ pub data Sends (o : Options) : Queue → List Fragment → Type 0 where
   goes-on : {q : Queue} {fs : List Fragment} → Sends o q fs → (c : Call) → Typed c → Onward c q → Sends o ((step c q) .next) (fs ++ fragments-in ((step c q) .outcome .answer))
   changes-over : {q : Queue} {fs : List Fragment} → Sends o q fs → (saved now : ℕ) → now ≤ max-time → Sends o ((step (restore (o .store-length) now (write-image saved q)) (fresh o false)) .next) fs
 
--- The fragments "before saving and after restoring, put together".
+-- The fragments before saving and after restoring, put together.
 unfoldable pub Request10-unbroken : Type 0
 Request10-unbroken = (o : Options) (q : Queue) (fs : List Fragment) → Sends o q fs → Unbroken fs
 
--- So the list "never has another message between two fragments of one".
+-- So the list never has another message between two fragments of one.
 unfoldable pub Request10-together : Type 0
 Request10-together = (o : Options) (q : Queue) (fs : List Fragment) → Sends o q fs → Together starts (λ (f : Fragment). f .message-id) fs
 

@@ -18,5 +18,5 @@ pub mod Waiting
 pub mod FairTurns
 pub mod CloseSteps
 pub mod Closing
-pub mod Restart
 pub mod MidMessage
+pub mod Restart

@@ -23,11 +23,12 @@ use Rattle.queue_runs.specs.Run as runs
 use Rattle.queue_runs.specs.Run.{State, step}
 use Rattle.queue_runs.specs.Meaning.{queueOf, Good, AllTyped, callsOf, quietOf, shownOf}
 use Rattle.queue_runs.specs.Creation.{optionsWith}
-use Rattle.queue_runs.specs.Restart.{dataSent, dataIn, fragments, FirstAfresh, NotRestore, NoRestore, Request6-starts}
+use Rattle.queue_runs.specs.Restart.{dataSent, dataIn, fragments, FirstAfresh, NotRestored, NoneRestored, Request6-starts}
 use Rattle.queue_runs.proofs.Steps.{step-link, typed-call, store-small, meant}
 use Rattle.queue_runs.proofs.Forms.{Quiet, quiet-refused, quiet-done, Loud, loud-refused, loud-done, Ids, ids-told, Number, number-told, Flag, flag-told, Form, form-of}
 use Rattle.queue_runs.proofs.Demand3.{stands}
 use Rattle.queue_runs.proofs.Alike.{all-typed}
+use Rattle.queue_runs.proofs.MidMessage.{done-accepted}
 use Rattle.queue_runs.proofs.Account.{key-same}
 
 -- ------------------------------------------------------------------ what a call shows
@@ -114,31 +115,36 @@ first-afresh (f ∷ fs) a = record { first = a .first; mid = a .mid; ssn = a .ss
 
 -- ------------------------------------------------------------------ no restoring
 
-not-restore : (len : ℕ) (c : Call) → NotRestore c → model.NotRestore (callOf len c)
-not-restore len (add time m payload) n = λ x y z e. let u : _≡_ {A = ℕ} 0 1 = cc in omega arith
-not-restore len (produce es bs time size) n = λ x y z e. let u : _≡_ {A = ℕ} 0 1 = cc in omega arith
-not-restore len (discard es id m) n = λ x y z e. let u : _≡_ {A = ℕ} 0 1 = cc in omega arith
-not-restore len (close es id) n = λ x y z e. let u : _≡_ {A = ℕ} 0 1 = cc in omega arith
-not-restore len ready-ids n = λ x y z e. let u : _≡_ {A = ℕ} 0 1 = cc in omega arith
-not-restore len commit n = λ x y z e. let u : _≡_ {A = ℕ} 0 1 = cc in omega arith
-not-restore len rollback n = λ x y z e. let u : _≡_ {A = ℕ} 0 1 = cc in omega arith
-not-restore len reset n = λ x y z e. let u : _≡_ {A = ℕ} 0 1 = cc in omega arith
-not-restore len (set-threshold es id t) n = λ x y z e. let u : _≡_ {A = ℕ} 0 1 = cc in omega arith
-not-restore len (set-priority id p) n = λ x y z e. let u : _≡_ {A = ℕ} 0 1 = cc in omega arith
-not-restore len (set-interleaving b) n = λ x y z e. let u : _≡_ {A = ℕ} 0 1 = cc in omega arith
-not-restore len (restore time image) n = λ x y z e. n time image refl
-not-restore len (ask-priority id) n = λ x y z e. let u : _≡_ {A = ℕ} 0 1 = cc in omega arith
-not-restore len (ask-amount id) n = λ x y z e. let u : _≡_ {A = ℕ} 0 1 = cc in omega arith
-not-restore len (ask-threshold id) n = λ x y z e. let u : _≡_ {A = ℕ} 0 1 = cc in omega arith
-not-restore len ask-total n = λ x y z e. let u : _≡_ {A = ℕ} 0 1 = cc in omega arith
-not-restore len ask-empty n = λ x y z e. let u : _≡_ {A = ℕ} 0 1 = cc in omega arith
-not-restore len ask-has-data n = λ x y z e. let u : _≡_ {A = ℕ} 0 1 = cc in omega arith
-not-restore len ask-streams-ready n = λ x y z e. let u : _≡_ {A = ℕ} 0 1 = cc in omega arith
-not-restore len ask-readiness n = λ x y z e. let u : _≡_ {A = ℕ} 0 1 = cc in omega arith
+not-restored : (c : Call) (s : State) → Good s → Typed c → NotRestored c s → model.NotRestored (callOf (length (s .store)) c) (queueOf s)
+not-restored (add time m payload) s g t n = λ x y z e d. let u : _≡_ {A = ℕ} 0 1 = cc in omega arith
+not-restored (produce es bs time size) s g t n = λ x y z e d. let u : _≡_ {A = ℕ} 0 1 = cc in omega arith
+not-restored (discard es id m) s g t n = λ x y z e d. let u : _≡_ {A = ℕ} 0 1 = cc in omega arith
+not-restored (close es id) s g t n = λ x y z e d. let u : _≡_ {A = ℕ} 0 1 = cc in omega arith
+not-restored ready-ids s g t n = λ x y z e d. let u : _≡_ {A = ℕ} 0 1 = cc in omega arith
+not-restored commit s g t n = λ x y z e d. let u : _≡_ {A = ℕ} 0 1 = cc in omega arith
+not-restored rollback s g t n = λ x y z e d. let u : _≡_ {A = ℕ} 0 1 = cc in omega arith
+not-restored reset s g t n = λ x y z e d. let u : _≡_ {A = ℕ} 0 1 = cc in omega arith
+not-restored (set-threshold es id v) s g t n = λ x y z e d. let u : _≡_ {A = ℕ} 0 1 = cc in omega arith
+not-restored (set-priority id p) s g t n = λ x y z e d. let u : _≡_ {A = ℕ} 0 1 = cc in omega arith
+not-restored (set-interleaving b) s g t n = λ x y z e d. let u : _≡_ {A = ℕ} 0 1 = cc in omega arith
+not-restored (restore time image) s g t n = λ x y z e d. n time image refl (done-accepted time image s g t d)
+not-restored (ask-priority id) s g t n = λ x y z e d. let u : _≡_ {A = ℕ} 0 1 = cc in omega arith
+not-restored (ask-amount id) s g t n = λ x y z e d. let u : _≡_ {A = ℕ} 0 1 = cc in omega arith
+not-restored (ask-threshold id) s g t n = λ x y z e d. let u : _≡_ {A = ℕ} 0 1 = cc in omega arith
+not-restored ask-total s g t n = λ x y z e d. let u : _≡_ {A = ℕ} 0 1 = cc in omega arith
+not-restored ask-empty s g t n = λ x y z e d. let u : _≡_ {A = ℕ} 0 1 = cc in omega arith
+not-restored ask-has-data s g t n = λ x y z e d. let u : _≡_ {A = ℕ} 0 1 = cc in omega arith
+not-restored ask-streams-ready s g t n = λ x y z e d. let u : _≡_ {A = ℕ} 0 1 = cc in omega arith
+not-restored ask-readiness s g t n = λ x y z e d. let u : _≡_ {A = ℕ} 0 1 = cc in omega arith
 
-no-restore : (len : ℕ) (cs : List Call) → NoRestore cs → model.NoRestore (callsOf len cs)
-no-restore len [] n = tt
-no-restore len (c ∷ cs) n = (not-restore len c (n .0), no-restore len cs (n .1))
+none-restored : (cs : List Call) (s : State) → Good s → AllTyped cs → NoneRestored cs s → model.NoneRestored (callsOf (length (s .store)) cs) (queueOf s)
+none-restored [] s g t n = tt
+none-restored (c ∷ cs) s g t n =
+    let h = step-link c s g (t .0) in (
+      not-restored c s g (t .0) (n .0),
+      subst (λ (q : Queue). model.NoneRestored (callsOf (length (s .store)) cs) q) (h .next-is)
+          (subst (λ (x : ℕ). model.NoneRestored (callsOf x cs) (queueOf (step c s .next))) (h .same-store) (none-restored cs (step c s .next) (h .good) (t .1) (n .1))),
+    )
 
 -- ------------------------------------------------------------------ THE THEOREM
 
@@ -153,7 +159,7 @@ request6-starts a len s cs k e r t n =
     let l : ℕ = length (s .store) in
     let h = step-link reset s (w .good) tt in
     let ms : List run.Call = callsOf l cs in
-    let m = theorem.request6-starts (optionsWith a len) (queueOf s) ms k (ap isStrict e) (w .reachable) (all-typed l cs (λ c u. typed-call l c (store-small s (w .good)) u) t) (no-restore l cs n) in
+    let m = theorem.request6-starts (optionsWith a len) (queueOf s) ms k (ap isStrict e) (w .reachable) (all-typed l cs (λ c u. typed-call l c (store-small s (w .good)) u) t) (subst (λ (q : Queue). model.NoneRestored ms q) (h .next-is) (subst (λ (x : ℕ). model.NoneRestored (callsOf x cs) (queueOf (step reset s .next))) (h .same-store) (none-restored cs (step reset s .next) (h .good) t n))) in
     let same : run.run (callsOf (length (step reset s .next .store)) cs) (queueOf (step reset s .next)) ≡ run.run ms (meant reset s .next) = ap₂ run.run (ap (λ (x : ℕ). callsOf x cs) (h .same-store)) (h .next-is) in
     record {
       accepted = ap (λ (x : Shown). x .answer) (h .shows-are) ∙ done-shown (meant reset s .outcome) (form-of run.reset (queueOf s)) (m .accepted);

@@ -1,7 +1,7 @@
 -- What heads see after a strict reset (request 6/13), of the code's calls and of what they show: the first fragment of each stream starts a message, with numbers from zeroed counters. Assumes nothing.
 use Prim.Native.Nat.{ℕ}
 use mathlib.Core.Path.{_≡_}
-use mathlib.Core.Bool.{true}
+use mathlib.Core.Bool.{true, false}
 use mathlib.Core.List.{List, [], _∷_, _++_}
 use lib.Dec.{eqb}
 use Rattle.types.specs.Keys.{key-id}
@@ -16,6 +16,7 @@ use Rattle.queue_runs.specs.Run.{State, step, run}
 use Rattle.queue_runs.specs.Meaning.{AllTyped}
 use Rattle.queue_runs.specs.Creation.{Arguments}
 use Rattle.queue_runs.specs.Demand3.{Reached}
+use Rattle.queue_runs.specs.Refusals.{refusal}
 
 -- "a message put back starts with FSN 0 and with numbers from the zeroed counters": a fragment that is the first of its message, with MID, SSN and FSN 0.
 pub record Afresh (d : DataToSend) : Type 0 where
@@ -53,13 +54,13 @@ FirstAfresh (d ∷ ds) = Afresh d
 
 -- ------------------------------------------------------------------ the claim
 
--- Any calls but restoring, which gives streams the counters and the half-sent messages of an image. (It is refused on a queue that knows a stream.)
-abbrev pub NotRestore : Call → Type 0
-NotRestore c = (time : ℕ) (image : List ℕ) → c ≡ restore time image → ⊥
+-- Any calls, but no accepted restoring, which gives streams the counters and the half-sent messages of an image. (It is refused on a queue that knows a stream.)
+abbrev pub NotRestored : Call → State → Type 0
+NotRestored c s = (time : ℕ) (image : List ℕ) → c ≡ restore time image → refusal (step c s .shows .answer) ≡ false → ⊥
 
-abbrev pub NoRestore : List Call → Type 0
-NoRestore [] = Unit {0}
-NoRestore (c ∷ cs) = NotRestore c × NoRestore cs
+abbrev pub NoneRestored : List Call → State → Type 0
+NoneRestored [] s = Unit {0}
+NoneRestored (c ∷ cs) s = NotRestored c s × NoneRestored cs (step c s .next)
 
 -- The reset is accepted, and the first fragment of stream k after it starts afresh, whatever calls come between.
 pub record Restarts (k : ℕ) (cs : List Call) (s : State) : Type 0 where
@@ -70,4 +71,4 @@ pub record Restarts (k : ℕ) (cs : List Call) (s : State) : Type 0 where
 -- queue whose creation chose the strict rule.
 unfoldable pub Request6-starts : Type 0
 unfolding fragments
-Request6-starts = (a : Arguments) (len : ℕ) (s : State) (cs : List Call) (k : ℕ) → a .rule ≡ Strict → Reached a len s → AllTyped cs → NoRestore cs → Restarts k cs s
+Request6-starts = (a : Arguments) (len : ℕ) (s : State) (cs : List Call) (k : ℕ) → a .rule ≡ Strict → Reached a len s → AllTyped cs → NoneRestored cs (step reset s .next) → Restarts k cs s

@@ -8,15 +8,18 @@ use lib.Dec.{eqb}
 use Rattle.queue_model.specs.Logic.{if_then_else_, same-bool}
 use Rattle.queue_model.specs.Types.{Item, PauseState, not-paused, pending, paused, resetting, Counters, Stream, Active, Queue, Fragment, done, Step, remaining, with-pause, with-threshold, with-priority, with-numbers, refuse, reply, Message}
 use Rattle.queue_model.specs.Streams.{find-stream, zero-counters, stream-at, stream-key, with-message}
-use Rattle.queue_model.specs.Refusals.{Check, checked, short-of}
+use Rattle.queue_model.specs.Refusals.{Check, first-refusal, refused-or, checked, short-of}
 use Rattle.queue_model.specs.Amounts.{drop-head-events}
 use Rattle.queue_model.specs.Add.{added, add-checks, new-item}
 use Rattle.queue_model.specs.Produce.{Head, head-of, drop-head, drop-in, give-numbers, numbered-in, numbered, make-fragment, handed-out-last, handed-out-part, handed-out}
 use Rattle.queue_model.specs.Discard.{discarded, discard-at, discard-checks}
 use Rattle.queue_model.specs.Close.{untouched, kept, closed, close-in, close-checks}
 use Rattle.queue_model.specs.Reset.{is-paused, is-resetting, paused-to-resetting, opened, reopened, reopen, whole-head, reset-stream, reset-checks}
+use Rattle.queue_model.specs.Image.{Handover}
+use Rattle.queue_model.specs.Reader.{read-image}
+use Rattle.queue_model.specs.Restore.{restored, record-checks, restore-read, restore-checks}
 use Rattle.queue_model.specs.Settings.{threshold-checks, priority-checks, switched}
-use Rattle.queue_model.specs.Restart.{Afresh, fragment-in, NotRestore}
+use Rattle.queue_model.specs.Restart.{Afresh, fragment-in, NotRestored}
 use Rattle.queue_model.specs.Run.{Call, add, produce, discard, close, ready-ids, commit, rollback, reset, set-threshold, set-priority, set-interleaving, restore, ask-priority, ask-amount, ask-threshold, ask-total, ask-empty, ask-has-data, ask-streams-ready, ask-readiness, step}
 use Rattle.queue_model.proofs.Tests.{eqb-true, eqb-false}
 use Rattle.queue_model.proofs.Table.{Every, every-put, every-map, every-find, every-snoc, own, other, is-own}
@@ -29,6 +32,7 @@ use Rattle.queue_model.proofs.Invariant.Passing.{Past, here, over, Ends
 use Rattle.queue_model.proofs.Invariant.Fates.{fragment-on}
 use Rattle.queue_model.proofs.Calm.Calm.{HeadAt}
 use Rattle.queue_model.specs.Calls
+use Rattle.queue_model.specs.Restore
 
 -- ---- one stream
 
@@ -249,9 +253,28 @@ module _ (k : ℕ) where
       go true = no-fragment refl a
       go false = no-fragment refl a
 
+  -- ---- a restoring that is refused
+
+  follows-unless : (cs : List Check) (q : Queue) (s : Step) → Fresh k q → ((checked cs q s) .outcome .answer ≡ done → ⊥) → ((s .outcome .answer ≡ done → ⊥) → Follows k s) → Follows k (checked cs q s)
+  unfolding checked refused-or
+  follows-unless cs q s a n h = go (first-refusal cs) n
+    where
+      go : (x : Option ℕ) → ((refused-or x q s) .outcome .answer ≡ done → ⊥) → Follows k (refused-or x q s)
+      go none m = h m
+      go (some r) m = no-fragment refl a
+
+  follows-read : (now : ℕ) (q : Queue) (x : Option Handover) → Fresh k q → ((restore-read now q x) .outcome .answer ≡ done → ⊥) → Follows k (restore-read now q x)
+  unfolding restore-read
+  follows-read now q none a n = no-fragment refl a
+  follows-read now q (some h) a n = follows-unless (record-checks now q h) q (reply done [] (restored now h q)) a n (λ m. absurd (m refl))
+
+  follows-restore : (store now : ℕ) (image : List ℕ) (q : Queue) → Fresh k q → ((Restore.restore store now image q) .outcome .answer ≡ done → ⊥) → Follows k (Restore.restore store now image q)
+  unfolding Restore.restore
+  follows-restore store now image q a n = follows-unless (restore-checks store now q) q (restore-read now q (read-image image)) a n (λ m. follows-read now q (read-image image) a m)
+
   -- ---- every call
 
-  pub follows-step : (c : Call) (q : Queue) → NotRestore c → Well q → Fresh k q → Follows k (step c q)
+  pub follows-step : (c : Call) (q : Queue) → NotRestored c q → Well q → Fresh k q → Follows k (step c q)
   unfolding step
   follows-step (add store now m) q n w a = unfold Calls.add in follows-checked (add-checks store now m q) q _ a (no-fragment refl (fresh-added now m q a))
   follows-step (produce store places buffer now size) q n w a = follows-produce store places buffer now size q w a
@@ -266,7 +289,7 @@ module _ (k : ℕ) where
   follows-step (set-priority s p) q n w a = unfold Calls.set-priority in
       follows-checked (priority-checks s q) q _ a (no-fragment refl (every-put stream-key (FreshAs k) (with-priority p (stream-at q s)) (q .streams) (λ e. let u = fresh-at q s a e in record { zeroed = u .zeroed; no-mids = u .no-mids }) a))
   follows-step (set-interleaving b) q n w a = follows-set-interleaving b q a
-  follows-step (restore store now image) q n w a = absurd (n store now image refl)
+  follows-step (restore store now image) q n w a = follows-restore store now image q a (λ e. n store now image refl e)
   follows-step (ask-priority s) q n w a = no-fragment refl a
   follows-step (ask-amount s) q n w a = no-fragment refl a
   follows-step (ask-threshold s) q n w a = no-fragment refl a
