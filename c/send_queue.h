@@ -259,7 +259,7 @@ uint8_t dsq_save(const uint64_t queue[DSQ_QUEUE_WORDS], const uint8_t *store, si
 /* Restores an image of exactly image_length bytes into a queue that knows no stream and has accepted no message. Choose interleaving before:
  * the image does not tell it. Without interleaving the rest of a half-sent message is sent first, before any other message is begun; of
  * several (the saved queue had interleaving) that of the smallest stream id. The image does not tell the rule of the queue that was saved
- * either. Under DSQ_RESTART_STRICT a message of which nothing was sent may have no MID, else 13: such an image comes from a queue that was
+ * either. Under DSQ_RESTART_STRICT a message of which nothing was sent must have no MID, else 13: such an image comes from a queue that was
  * reset under DSQ_RESTART_DCSCTP. (2, 4, 12, 13, 14, 15) */
 uint8_t dsq_restore(uint64_t queue[DSQ_QUEUE_WORDS], uint8_t *store, size_t store_length, const uint8_t *image, size_t image_length,
                     uint64_t time);

@@ -30,7 +30,8 @@ impl SendQueue {
     }
 
     /// Makes a new queue the one of the image. Its streams are open, with the default thresholds. dcSCTP's `restore_from_state` does it from
-    /// a record. The image does not tell the saved queue's [`RestartRule`](crate::RestartRule); one of the two has a rule more for images.
+    /// a record. The image does not tell the saved queue's [`RestartRule`](crate::RestartRule);
+    /// [`RestartRule::Strict`](crate::RestartRule::Strict) takes no image with a MID on a message of which nothing was sent.
     ///
     /// Without interleaving the rest of a half-sent message comes first, before any other message is begun, also one that is added
     /// meanwhile; of several half-sent messages (the saved queue had interleaving) the rest of the one with the smallest stream id. dcSCTP

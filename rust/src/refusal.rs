@@ -33,7 +33,8 @@ pub enum Refusal {
     ImageBufferShort = 11,
     /// Restoring into a queue that knows a stream, or whose next message id is not 0.
     QueueUsed = 12,
-    /// The image breaks a rule of its form, or has a number that [`RestartRule::Strict`](crate::RestartRule::Strict) does not take.
+    /// The image breaks a rule of its form; or, restored by [`RestartRule::Strict`](crate::RestartRule::Strict), it has a MID on a message of
+    /// which nothing was sent.
     ImageWrong = 13,
     /// The image's default priority is not the queue's.
     PriorityOther = 14,
