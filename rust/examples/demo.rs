@@ -1,7 +1,7 @@
 //! A small job of a card feeder: profiles go to eight writing heads, one stream a head, through the send queue.
 //!
-//! First the heads get their first packets in a wanted order, a closed head whose half-sent profile runs out of time is ready at once, and a
-//! queue without interleaving is carried to a second host in the middle of a profile. Then comes the job: the heads' backlogs run low and
+//! First the heads get their first packets in a wanted order, a closed head whose half-sent profile runs out of time is ready at once, a
+//! queue without interleaving is carried to a second host in the middle of a profile, and a head restarts in the middle of one. Then comes the job: the heads' backlogs run low and
 //! are topped up, a head's job is closed in the middle of a profile, and half-way the queue is carried to a second host as an image. At the
 //! end every profile is compared byte for byte with what was queued.
 
@@ -225,10 +225,36 @@ fn mid_profile() -> Outcome<()> {
     Ok(())
 }
 
+/// A head restarts in the middle of its second profile: what its next packet has, by the rule that the queue was created with.
+fn restarted(rule: RestartRule) -> Outcome<(bool, Mid, Fsn)> {
+    let (head, now) = (StreamId(1), SocketTime::zero());
+    let mut queue = SendQueue::new(PACKET, &Options { restart_rule: rule, ..options() })?;
+    queue.add(now, Message::new(head, PpId(53), &[1]), &SendOptions::default())?;
+    queue.add(now, Message::new(head, PpId(53), &profile(102)), &SendOptions::default())?;
+    queue.produce(now, PACKET)?.ok_or("nothing was sent")?;
+    queue.produce(now, PACKET)?.ok_or("nothing was sent")?;
+    queue.reset();
+    let data = queue.produce(now, PACKET)?.ok_or("nothing was sent")?.data;
+    Ok((data.is_beginning, data.mid, data.fsn))
+}
+
+fn restart_rules() -> Outcome<()> {
+    let (strict, dcsctp) = (restarted(RestartRule::Strict)?, restarted(RestartRule::Dcsctp)?);
+    println!(
+        "restart in mid-profile: the profile starts again with MID {} and FSN {} by the strict rule, with MID {} and FSN {} by dcSCTP's",
+        strict.1.0, strict.2.0, dcsctp.1.0, dcsctp.2.0
+    );
+    if strict != (true, Mid(0), Fsn(0)) || dcsctp != (true, Mid(1), Fsn(1)) {
+        return Err("the restart has other numbers".into());
+    }
+    Ok(())
+}
+
 fn main() -> Outcome<()> {
     wanted_order()?;
     closing_expires()?;
     mid_profile()?;
+    restart_rules()?;
     println!("first host: profiles for eight heads, interleaved; head 1 has double weight; the mark is {MARK} bytes");
     let mut feeder = Feeder {
         queue: new_queue()?,
