@@ -275,7 +275,7 @@ static void damage(void) {
 static void damage_used(uint64_t messages, uint64_t streams) {
     uint64_t i;
     for (i = 1 + below(3); i > 0; i--) {
-        uint64_t at = below(3) == 0 ? 6 + below(12) : below(3) == 0 ? 32 + below(2 * streams) : below(3) == 0 ? 544 + below(10 * streams)
+        uint64_t at = below(3) == 0 ? 6 + below(14) : below(3) == 0 ? 32 + below(2 * streams) : below(3) == 0 ? 544 + below(10 * streams)
                     : below(2) ? 3104 + 16 * below(messages) + 12 + below(3) : 19488 + below(5 * streams);
         now.queue[at] = below(2) ? odd_number() : now.queue[below(DSQ_QUEUE_WORDS)];
     }
@@ -285,7 +285,7 @@ static void damage_used(uint64_t messages, uint64_t streams) {
 static uint8_t past_expired(void) {
     uint64_t messages = below(3) ? 1 + below(40) : 1 + below(DSQ_MAX_MESSAGES), streams = 1 + below(below(2) ? 4 : DSQ_MAX_STREAMS), i;
     uint8_t payload[5] = {0}, r;
-    if (dsq_create(now.queue, now.store, STORE, 1200, 256, 100, 500, 1) != 0 || dsq_enable_message_interleaving(now.queue, (uint8_t)below(2)) != 0)
+    if (dsq_create(now.queue, now.store, STORE, 1200, 256, 100, 500, 1, (uint8_t)below(2)) != 0 || dsq_enable_message_interleaving(now.queue, (uint8_t)below(2)) != 0)
         return 99;
     for (i = 0; i < messages; i++)
         if (dsq_add(now.queue, now.store, STORE, payload, 1 + below(5), 0, (uint16_t)below(streams), 53, 0, below(64) != 0, 0, 0, 0, below(2)) != 0)

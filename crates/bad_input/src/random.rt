@@ -110,14 +110,14 @@ fn word(state: &mut [u64; STATE]) -> u64 {
     draw(state, n)
 }
 
-// The place of a word to replace: every third time one of the header.
+// The place of a word to replace: every third time one of the 20 that the header uses.
 fn place(state: &mut [u64; STATE]) -> usize
     ensures { λ r. ⌜ r < 20768 ⌝ }
 {
     let k = draw(state, 3);
     let x = draw(state, 0);
     if k == 0 {
-        return (x % 18) as usize;
+        return (x % 20) as usize;
     }
     (x % 20768) as usize
 }
