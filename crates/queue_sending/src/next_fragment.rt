@@ -239,8 +239,9 @@ fn produce_more(
     size: u64,
     waiting: usize,
     k: usize,
+    found: Look,
 ) -> Produced
-    requires { ⌜ (eventWords ≤ length (now events)) × (k ≤ 4) ⌝ }
+    requires { ⌜ (eventWords ≤ length (now events)) × ((k ≤ 4) × (found ≡ lookAhead (now queue) time)) ⌝ }
     ensures { λ r. ⌜ producedWith r (now (queue .exit)) (now (events .exit)) (now (buffer .exit)) ≡ pastFrom (now (queue .entry)) (now (store .entry)) (now (events .entry)) (now (buffer .entry)) time size waiting k ⌝ }
 {
     let mut header = [0u64; HEADER];
@@ -248,7 +249,7 @@ fn produce_more(
     let mut saved = [0u64; MORE_EVENTS];
     copy_words(&mut saved, &*events, MORE_EVENTS);
     let mut log = [0u64; MORE_LOG];
-    let p = pass_some(queue, events, &mut log, MORE, time, waiting, k);
+    let p = pass_some(queue, events, &mut log, MORE, time, waiting, k, found);
     let r = send_more(queue, store, events, buffer, time, size, p);
     let refused = is_refused(r);
     if refused {
@@ -277,7 +278,17 @@ fn send_past(
         if p.count > 4 {
             return produce_copied(queue, store, events, buffer, time, size, p.left, p.count);
         }
-        return produce_more(queue, store, events, buffer, time, size, p.left, p.count);
+        return produce_more(
+            queue,
+            store,
+            events,
+            buffer,
+            time,
+            size,
+            p.left,
+            p.count,
+            found,
+        );
     }
     send_found(queue, store, events, buffer, size, p.count, found)
 }
@@ -292,8 +303,9 @@ fn produce_past(
     time: u64,
     size: u64,
     waiting: usize,
+    found: Look,
 ) -> Produced
-    requires { ⌜ eventWords ≤ length (now events) ⌝ }
+    requires { ⌜ (eventWords ≤ length (now events)) × (found ≡ lookAhead (now queue) time) ⌝ }
     ensures { λ r. ⌜ producedWith r (now (queue .exit)) (now (events .exit)) (now (buffer .exit)) ≡ pastOf (now (queue .entry)) (now (store .entry)) (now (events .entry)) (now (buffer .entry)) time size waiting ⌝ }
 {
     let mut header = [0u64; HEADER];
@@ -301,7 +313,7 @@ fn produce_past(
     let mut saved = [0u64; FIRST_EVENTS];
     copy_words(&mut saved, &*events, FIRST_EVENTS);
     let mut log = [0u64; ENTRY];
-    let p = pass_some(queue, events, &mut log, 1, time, waiting, 0);
+    let p = pass_some(queue, events, &mut log, 1, time, waiting, 0, found);
     let r = send_past(queue, store, events, buffer, time, size, p);
     let refused = is_refused(r);
     if refused {
@@ -319,15 +331,25 @@ fn produce_waiting(
     buffer: &mut [u8],
     time: u64,
     size: u64,
+    found: Look,
 ) -> Produced
-    requires { ⌜ eventWords ≤ length (now events) ⌝ }
+    requires { ⌜ (eventWords ≤ length (now events)) × (found ≡ lookAhead (now queue) time) ⌝ }
     ensures { λ r. ⌜ producedWith r (now (queue .exit)) (now (events .exit)) (now (buffer .exit)) ≡ producedPast (now (queue .entry)) (now (store .entry)) (now (events .entry)) (now (buffer .entry)) time size ⌝ }
 {
     let t = load_totals(&*queue);
     if t.waiting > 1024 {
         return Produced::Refused(16);
     }
-    produce_past(queue, store, events, buffer, time, size, t.waiting as usize)
+    produce_past(
+        queue,
+        store,
+        events,
+        buffer,
+        time,
+        size,
+        t.waiting as usize,
+        found,
+    )
 }
 
 // The next fragment of at most `size` bytes; the store, the event list and the fragment buffer are lent.
@@ -357,6 +379,6 @@ pub fn produce(
         Look::Nothing => Produced::Nothing(0),
         Look::Broken => Produced::Refused(16),
         Look::Chosen(at, id, row) => hand_out(queue, store, events, buffer, size, 0, at, id, row),
-        Look::Expired(_, _) => produce_waiting(queue, store, events, buffer, time, size),
+        Look::Expired(_, _) => produce_waiting(queue, store, events, buffer, time, size, found),
     }
 }

@@ -92,7 +92,7 @@ pub struct Passing {
 }
 
 // Passes over expired heads as long as the log has room. It stops at what is not expired, and at an expired head that does not go into
-// the log or cannot be dropped: of that one nothing has changed.
+// the log or cannot be dropped: of that one nothing has changed. What is found at first is given: the caller has looked.
 pub fn pass_some(
     queue: &mut [u64; QUEUE_WORDS],
     events: &mut [u64],
@@ -101,15 +101,16 @@ pub fn pass_some(
     time: u64,
     waiting: usize,
     k: usize,
+    first: Look,
 ) -> Passing
-    requires { ⌜ room * 20 ≤ length (now log) ⌝ }
+    requires { ⌜ (room * 20 ≤ length (now log)) × (first ≡ lookAhead (now queue) time) ⌝ }
     ensures { λ r. ⌜ (r .found ≡ lookAhead (now (queue .exit)) time) × Kept room (now (queue .entry)) (now (events .entry)) time waiting k (now (log .exit)) (now (queue .exit)) (now (events .exit)) (r .left) (r .count) (r .drops) ⌝ }
 {
     let mut left = waiting;
     let mut count = k;
     let mut drops = 0;
+    let mut found = first;
     loop {
-        let found = look_ahead(&*queue, time);
         match found {
             Look::Expired(id, row) => {
                 if drops >= room {
@@ -136,6 +137,7 @@ pub fn pass_some(
                         count = k1;
                         left -= 1;
                         drops += 1;
+                        found = look_ahead(&*queue, time);
                     }
                     Call::Refused(_) => {
                         return Passing {

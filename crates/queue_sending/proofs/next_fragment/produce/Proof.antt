@@ -15,7 +15,7 @@ returns c =
     )
 
 produce-waiting-requires : tie.Need-produce-waiting-requires
-produce-waiting-requires c κs = code-places _ _ _ _ _ _ _ (c .before .before .before .before .before .before .before .before .produce-code .ensures) (c .before .before .before .before .before .before .before .if1 .left)
+produce-waiting-requires c κs = (code-places _ _ _ _ _ _ _ (c .before .before .before .before .before .before .before .before .produce-code .ensures) (c .before .before .before .before .before .before .before .if1 .left), (c .before .before .before .before .before .look-ahead .ensures))
 
 returns-2 : tie.Need-returns-2
 unfolding produceNext

@@ -7,10 +7,10 @@ use Rattle.queue_sending.proofs.next_fragment.produce_past.Statement.{s
 use Rattle.queue_sending.proofs.next_fragment.produce_past.Tie as tie
 
 put-back-requires : tie.Need-put-back-requires
-put-back-requires c κs = (search needs, omega (arith, (c .before .before .before .before .before .before .before .before .before .before .before .before .before .before .before .before .before .before .before .before .before .before .saved2 .given), (c .before .before .before .before .before .before .before .before .before .before .events2 .given), (c .before .before .before .before .before .before .before .before .before .before .before .before .before .before .before .before .before .events .given), (c .before .before .before .before .before .before .before .before .before .before .before .before .before .before .before .before .before .before .before .before .before .before .before .before .before .before .before .before .before .before .before .before .before .before .pre)))
+put-back-requires c κs = (search needs, omega (arith, (c .before .before .before .before .before .before .before .before .before .before .before .before .before .before .before .before .before .before .before .before .before .before .saved2 .given), (c .before .before .before .before .before .before .before .before .before .before .events2 .given), (c .before .before .before .before .before .before .before .before .before .before .before .before .before .before .before .before .before .events .given), (c .before .before .before .before .before .before .before .before .before .before .before .before .before .before .before .before .before .before .before .before .before .before .before .before .before .before .before .before .before .before .before .before .before .before .pre .0)))
 
 returns : tie.Need-returns
-returns c = logged-refused 1 _ _ _ _ _ _ _ _ _ _ _ _ _ _ (c .before .before .before .before .before .before .before .before .before .before .before .before .before .before .before .before .before .before .before .before .before .pass-some .ensures .1) _ _ _ _ (c .before .before .before .before .before .before .before .before .before .before .before .before .before .before .send-past .ensures) _ (c .before .before .before .before .before .before .before .before .before .is-refused .ensures) (c .before .before .before .before .before .before .before .before .if1 .taken) _ _ _ _ _ _ 12 (omega (arith)) (omega (arith, (c .before .before .before .before .before .before .before .before .before .before .before .before .before .before .before .before .before .before .before .before .before .before .before .before .before .before .before .before .before .before .before .before .before .before .before .before .before .pre))) (omega (arith, (c .before .before .before .before .before .before .before .before .before .before .before .before .before .before .before .before .before .before .before .before .before .before .before .before .before .before .before .before .before .before .before .copy-words-arg2 .given))) (c .before .before .before .before .before .before .before .before .before .before .before .before .before .before .before .before .before .before .before .before .before .before .before .before .before .before .before .before .before .before .copy-words .ensures) (c .before .before .before .before .before .before .before .before .before .before .before .before .before .before .before .before .before .before .before .before .before .before .before .before .before .before .copy-words2 .ensures) (c .before .before .put-back .ensures .0) (omega (arith, (c .before .before .before .before .before .before .before .before .before .before .before .before .before .before .before .before .before .before .before .before .before .before .before .before .before .saved2 .given))) (c .before .before .put-back .ensures .1) ∙ past-all _ _ _ _ _ _ _
+returns c = logged-refused 1 _ _ _ _ _ _ _ _ _ _ _ _ _ _ (c .before .before .before .before .before .before .before .before .before .before .before .before .before .before .before .before .before .before .before .before .before .pass-some .ensures .1) _ _ _ _ (c .before .before .before .before .before .before .before .before .before .before .before .before .before .before .send-past .ensures) _ (c .before .before .before .before .before .before .before .before .before .is-refused .ensures) (c .before .before .before .before .before .before .before .before .if1 .taken) _ _ _ _ _ _ 12 (omega (arith)) (omega (arith, (c .before .before .before .before .before .before .before .before .before .before .before .before .before .before .before .before .before .before .before .before .before .before .before .before .before .before .before .before .before .before .before .before .before .before .before .before .before .pre .0))) (omega (arith, (c .before .before .before .before .before .before .before .before .before .before .before .before .before .before .before .before .before .before .before .before .before .before .before .before .before .before .before .before .before .before .before .copy-words-arg2 .given))) (c .before .before .before .before .before .before .before .before .before .before .before .before .before .before .before .before .before .before .before .before .before .before .before .before .before .before .before .before .before .before .copy-words .ensures) (c .before .before .before .before .before .before .before .before .before .before .before .before .before .before .before .before .before .before .before .before .before .before .before .before .before .before .copy-words2 .ensures) (c .before .before .put-back .ensures .0) (omega (arith, (c .before .before .before .before .before .before .before .before .before .before .before .before .before .before .before .before .before .before .before .before .before .before .before .before .before .saved2 .given))) (c .before .before .put-back .ensures .1) ∙ past-all _ _ _ _ _ _ _
 
 returns-2 : tie.Need-returns-2
 returns-2 c = logged-kept 1 _ _ _ _ _ _ _ _ _ _ _ _ _ _ (c .before .before .before .before .before .before .before .before .before .before .before .before .before .pass-some .ensures .1) _ _ _ _ (c .before .before .before .before .before .before .send-past .ensures) _ (c .before .is-refused .ensures) (c .if1 .left) ∙ past-all _ _ _ _ _ _ _
