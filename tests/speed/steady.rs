@@ -179,7 +179,7 @@ fn longest(flow: &Flow) {
     let (ours, theirs) = (watch::<Ours>(flow), watch::<Theirs>(flow));
     for (call, (o, t)) in ["add", "produce"].iter().zip(ours.into_iter().zip(theirs)) {
         let ((om, ol), (tm, tl)) = (ends(o), ends(t));
-        println!("| 8: {}: {call} | {om:.0} | {ol:.0} | {:.1} | {tm:.0} | {tl:.0} | {:.1} |", flow.what, ol / om, tl / tm);
+        println!("| 9: {}: {call} | {om:.0} | {ol:.0} | {:.1} | {tm:.0} | {tl:.0} | {:.1} |", flow.what, ol / om, tl / tm);
     }
 }
 
@@ -209,7 +209,7 @@ pub fn steady() {
     for flow in flows() {
         let bytes = flow.bytes();
         let [turn] = best(&mut round::<Ours>(&flow, &bytes), &mut round::<Theirs>(&flow, &bytes));
-        row(&format!("8: {}: add and produce in turn", flow.what), turn);
+        row(&format!("9: {}: add and produce in turn", flow.what), turn);
     }
 }
 
