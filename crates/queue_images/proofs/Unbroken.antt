@@ -8,7 +8,7 @@ use native.Mathlib.Omega.{arith}
 use lib.ListN.{length, take}
 use Rattle.types.specs.Keys.{key-of}
 use Rattle.queue_model.specs.Types as plain
-use Rattle.queue_model.specs.Types.{Queue, Fragment, Outcome}
+use Rattle.queue_model.specs.Types.{Queue, Fragment}
 use Rattle.queue_model.specs.Logic.{same-bool}
 use Rattle.queue_model.specs.Streams.{new-queue}
 use Rattle.queue_model.specs.Calls as calls
@@ -19,76 +19,19 @@ use Rattle.queue_model.specs.Unbroken as model
 use Rattle.queue_model.specs.Unbroken.{Behind, UnbrokenBehind, fragments-in}
 use Rattle.queue_model.proofs.Invariant.Unbroken as unbroken
 use Rattle.queue_sending.specs.declared.data.DataToSend.{DataToSend}
-use Rattle.linked_sending.specs.Meaning.{dataOf, producedOf}
-use Rattle.queue_runs.specs.Calls.{Call, add, produce, discard, close, ready-ids, commit, rollback, reset, set-threshold, set-priority, set-interleaving, restore, ask-priority, ask-amount, ask-threshold, ask-total, ask-empty, ask-has-data, ask-streams-ready, ask-readiness, callOf, Typed, Shown}
+use Rattle.linked_sending.specs.Meaning.{dataOf}
+use Rattle.queue_runs.specs.Calls.{Call, add, produce, discard, close, ready-ids, commit, rollback, reset, set-threshold, set-priority, set-interleaving, restore, ask-priority, ask-amount, ask-threshold, ask-total, ask-empty, ask-has-data, ask-streams-ready, ask-readiness, callOf, Typed}
+use Rattle.queue_runs.specs.Fragments.{dataIn}
 use Rattle.queue_runs.specs.Run.{State, step}
 use Rattle.queue_runs.specs.Creation.{Arguments, optionsWith, newState}
-use Rattle.queue_runs.specs.Meaning.{queueOf, Good, shownOf}
+use Rattle.queue_runs.specs.Meaning.{queueOf, Good}
 use Rattle.queue_runs.proofs.Steps.{step-link, typed-call, store-small, meant}
 use Rattle.queue_runs.proofs.News.{new-link}
-use Rattle.queue_runs.proofs.Forms.{Quiet, quiet-refused, quiet-done, Loud, loud-refused, loud-done, Ids, ids-told, Number, number-told, Flag, flag-told, Form, form-of}
+use Rattle.queue_runs.proofs.Fragments.{data-append, step-data}
 use Rattle.queue_runs.proofs.MidMessage.{done-accepted}
 use Rattle.queue_images.specs.Demand2.{Saves, freshState}
-use Rattle.queue_images.specs.Unbroken.{Continues, starts, dataSent, dataIn, Onward, New, as-created, as-chosen, Sends, begins, goes-on, changes-over, Request10-unbroken, Request10-together}
+use Rattle.queue_images.specs.Unbroken.{Continues, starts, Onward, New, as-created, as-chosen, Sends, begins, goes-on, changes-over, Request10-unbroken, Request10-together}
 use Rattle.queue_images.proofs.Demand2 as images
-
--- ---- the fragments that calls show
-
-quiet-none : (o : Outcome) → Quiet o → fragments-in (o .answer) ≡ []
-quiet-none o (quiet-refused n) = refl
-quiet-none o quiet-done = refl
-
-loud-none : (o : Outcome) → Loud o → fragments-in (o .answer) ≡ []
-loud-none o (loud-refused n) = refl
-loud-none o (loud-done es) = refl
-
-ids-none : (o : Outcome) → Ids o → fragments-in (o .answer) ≡ []
-ids-none o (ids-told l) = refl
-
-number-none : (o : Outcome) → Number o → fragments-in (o .answer) ≡ []
-number-none o (number-told n) = refl
-
-flag-none : (o : Outcome) → Flag o → fragments-in (o .answer) ≡ []
-flag-none o (flag-told b) = refl
-
-data-sent : (x : plain.Answer) (n : ℕ) → dataSent (producedOf x n) ≡ map dataOf (fragments-in x)
-data-sent (plain.refused r) n = refl
-data-sent plain.done n = refl
-data-sent (plain.number m) n = refl
-data-sent (plain.flag b) n = refl
-data-sent (plain.ids l) n = refl
-data-sent (plain.fragment f) n = refl
-data-sent plain.nothing-waits n = refl
-
-none-shown : (fs : List Fragment) → fs ≡ [] → [] ≡ map dataOf fs
-none-shown fs e = ap (map dataOf) (sym e)
-
--- A call shows the fragment that the model's call shows.
-data-shown : (len : ℕ) (c : Call) (o : Outcome) → Form (callOf len c) o → dataIn (shownOf c o .answer) ≡ map dataOf (fragments-in (o .answer))
-data-shown len (add time m payload) o f = none-shown (fragments-in (o .answer)) (quiet-none o f)
-data-shown len (produce es bs time size) o f = data-sent (o .answer) (length (o .events))
-data-shown len (discard es id k) o f = none-shown (fragments-in (o .answer)) (loud-none o f)
-data-shown len (close es id) o f = none-shown (fragments-in (o .answer)) (loud-none o f)
-data-shown len ready-ids o f = none-shown (fragments-in (o .answer)) (ids-none o f)
-data-shown len commit o f = none-shown (fragments-in (o .answer)) (quiet-none o f)
-data-shown len rollback o f = none-shown (fragments-in (o .answer)) (quiet-none o f)
-data-shown len reset o f = none-shown (fragments-in (o .answer)) (quiet-none o f)
-data-shown len (set-threshold es id t) o f = none-shown (fragments-in (o .answer)) (loud-none o f)
-data-shown len (set-priority id p) o f = none-shown (fragments-in (o .answer)) (quiet-none o f)
-data-shown len (set-interleaving b) o f = none-shown (fragments-in (o .answer)) (quiet-none o f)
-data-shown len (restore time image) o f = none-shown (fragments-in (o .answer)) (quiet-none o f)
-data-shown len (ask-priority id) o f = none-shown (fragments-in (o .answer)) (number-none o f)
-data-shown len (ask-amount id) o f = none-shown (fragments-in (o .answer)) (number-none o f)
-data-shown len (ask-threshold id) o f = none-shown (fragments-in (o .answer)) (number-none o f)
-data-shown len ask-total o f = none-shown (fragments-in (o .answer)) (number-none o f)
-data-shown len ask-empty o f = none-shown (fragments-in (o .answer)) (flag-none o f)
-data-shown len ask-has-data o f = none-shown (fragments-in (o .answer)) (flag-none o f)
-data-shown len ask-streams-ready o f = none-shown (fragments-in (o .answer)) (flag-none o f)
-data-shown len ask-readiness o f = none-shown (fragments-in (o .answer)) (number-none o f)
-
-data-append : (fs gs : List Fragment) → map dataOf (fs ++ gs) ≡ map dataOf fs ++ map dataOf gs
-data-append [] gs = refl
-data-append (f ∷ fs) gs = ap (λ (l : List DataToSend). dataOf f ∷ l) (data-append fs gs)
 
 -- ---- what a queue has sent
 
@@ -154,7 +97,7 @@ gone-on a len s ds h c t u =
       store-is = k .same-store ∙ h .store-is;
       fragments = h .fragments ++ gs;
       sends = subst (λ (q : Queue). model.Sends (optionsWith a len) q (h .fragments ++ gs)) (sym (k .next-is)) m;
-      shown-as = ap₂ (λ (xs ys : List DataToSend). xs ++ ys) (h .shown-as) (ap (λ (x : Shown). dataIn (x .answer)) (k .shows-are) ∙ data-shown (length (s .store)) c o (form-of (callOf (length (s .store)) c) (queueOf s))) ∙ sym (data-append (h .fragments) gs);
+      shown-as = ap₂ (λ (xs ys : List DataToSend). xs ++ ys) (h .shown-as) (step-data c s (h .good) t) ∙ sym (data-append (h .fragments) gs);
     }
 
 changed-over : (a : Arguments) (len : ℕ) (s t : State) (ds : List DataToSend) → Stands a len s ds → (saved time size : ℕ) (buffer after : List ℕ)

@@ -9,9 +9,8 @@ use lib.ListN.{length, take}
 use Rattle.types.specs.Wrap.{wrap-suc}
 use Rattle.queue_model.specs.Unbroken.{UnbrokenBehind, Together}
 use Rattle.queue_sending.specs.declared.data.DataToSend.{DataToSend}
-use Rattle.queue_sending.specs.declared.data.Produced.{Produced}
-use Rattle.queue_sending.specs.declared.data.Produced.the-variants as produced
-use Rattle.queue_runs.specs.Calls.{Call, add, produce, discard, close, ready-ids, commit, rollback, reset, set-threshold, set-priority, set-interleaving, restore, ask-priority, ask-amount, ask-threshold, ask-total, ask-empty, ask-has-data, ask-streams-ready, ask-readiness, Typed, Answer, called, sent, readied, number, flag, count, truth}
+use Rattle.queue_runs.specs.Calls.{Call, add, produce, discard, close, ready-ids, commit, rollback, reset, set-threshold, set-priority, set-interleaving, restore, ask-priority, ask-amount, ask-threshold, ask-total, ask-empty, ask-has-data, ask-streams-ready, ask-readiness, Typed}
+use Rattle.queue_runs.specs.Fragments.{dataIn}
 use Rattle.queue_runs.specs.Run.{State, step}
 use Rattle.queue_runs.specs.Creation.{Arguments, newState, Creates}
 use Rattle.queue_runs.specs.Refusals.{refusal}
@@ -34,21 +33,6 @@ starts d = d .«data» .«is_beginning»
 -- Every fragment that is not a first one stands directly behind one that it goes on with.
 abbrev pub Unbroken : List DataToSend → Type 0
 Unbroken ds = UnbrokenBehind starts Continues none ds
-
--- The fragment in an answer, if it is one.
-abbrev pub dataSent : Produced → List DataToSend
-dataSent (produced.Nothing n) = []
-dataSent (produced.Fragment n d) = d ∷ []
-dataSent (produced.Refused n) = []
-
-abbrev pub dataIn : Answer → List DataToSend
-dataIn (called a) = []
-dataIn (sent a) = dataSent a
-dataIn (readied r) = []
-dataIn (number a) = []
-dataIn (flag a) = []
-dataIn (count n) = []
-dataIn (truth b) = []
 
 -- ------------------------------------------------------------------ what a queue has sent
 

@@ -18,5 +18,6 @@ pub mod Waiting
 pub mod FairTurns
 pub mod CloseSteps
 pub mod Closing
+pub mod Fragments
 pub mod MidMessage
 pub mod Restart

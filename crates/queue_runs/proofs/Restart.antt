@@ -14,90 +14,43 @@ use Rattle.queue_model.specs.Types as plain
 use Rattle.queue_model.specs.Types.{Queue, Outcome, Fragment}
 use Rattle.queue_model.specs.Run as run
 use Rattle.queue_model.specs.Restart as model
+use Rattle.queue_model.specs.Unbroken.{fragments-in}
 use Rattle.queue_model.proofs.Restart as theorem
 use Rattle.queue_streams.specs.declared.answers.Call.the-variants as call
 use Rattle.queue_sending.specs.declared.data.DataToSend.{DataToSend}
-use Rattle.linked_sending.specs.Meaning.{dataOf, producedOf}
+use Rattle.linked_sending.specs.Meaning.{dataOf}
 use Rattle.queue_runs.specs.Calls.{Call, add, produce, discard, close, ready-ids, commit, rollback, reset, set-threshold, set-priority, set-interleaving, restore, ask-priority, ask-amount, ask-threshold, ask-total, ask-empty, ask-has-data, ask-streams-ready, ask-readiness, callOf, Typed, Shown, called}
 use Rattle.queue_runs.specs.Run as runs
 use Rattle.queue_runs.specs.Run.{State, step}
-use Rattle.queue_runs.specs.Meaning.{queueOf, Good, AllTyped, callsOf, quietOf, shownOf}
+use Rattle.queue_runs.specs.Meaning.{queueOf, Good, AllTyped, callsOf, quietOf}
 use Rattle.queue_runs.specs.Creation.{optionsWith}
-use Rattle.queue_runs.specs.Restart.{dataSent, dataIn, fragments, FirstAfresh, NotRestored, NoneRestored, Request6-starts}
+use Rattle.queue_runs.specs.Restart.{ofStream, fragments, FirstAfresh, NotRestored, NoneRestored, Request6-starts}
 use Rattle.queue_runs.proofs.Steps.{step-link, typed-call, store-small, meant}
-use Rattle.queue_runs.proofs.Forms.{Quiet, quiet-refused, quiet-done, Loud, loud-refused, loud-done, Ids, ids-told, Number, number-told, Flag, flag-told, Form, form-of}
+use Rattle.queue_runs.proofs.Forms.{Quiet, quiet-refused, quiet-done, form-of}
 use Rattle.queue_runs.proofs.Demand3.{stands}
 use Rattle.queue_runs.proofs.Alike.{all-typed}
+use Rattle.queue_runs.proofs.Fragments.{data-append, step-data}
 use Rattle.queue_runs.proofs.MidMessage.{done-accepted}
 use Rattle.queue_runs.proofs.Account.{key-same}
 
 -- ------------------------------------------------------------------ what a call shows
 
 module _ (k : ℕ) where
-  -- The fragment of stream k that an answer of the model has, as the code shows it.
-  abbrev meansData : plain.Answer → List DataToSend
-  meansData a = map dataOf (model.fragment-in k a)
-
-  quiet-none : (o : Outcome) → Quiet o → [] ≡ meansData (o .answer)
-  quiet-none o (quiet-refused n) = refl
-  quiet-none o quiet-done = refl
-
-  loud-none : (o : Outcome) → Loud o → [] ≡ meansData (o .answer)
-  loud-none o (loud-refused n) = refl
-  loud-none o (loud-done es) = refl
-
-  ids-none : (o : Outcome) → Ids o → [] ≡ meansData (o .answer)
-  ids-none o (ids-told l) = refl
-
-  number-none : (o : Outcome) → Number o → [] ≡ meansData (o .answer)
-  number-none o (number-told n) = refl
-
-  flag-none : (o : Outcome) → Flag o → [] ≡ meansData (o .answer)
-  flag-none o (flag-told b) = refl
-
-  picked : (b : Bool) (f : Fragment) → pick b (dataOf f ∷ []) [] ≡ map dataOf (if b then f ∷ [] else [])
-  picked true f = refl
-  picked false f = refl
-
-  sent-data : (a : plain.Answer) (n : ℕ) → dataSent k (producedOf a n) ≡ meansData a
-  sent-data (plain.refused r) n = refl
-  sent-data plain.done n = refl
-  sent-data (plain.number m) n = refl
-  sent-data (plain.flag b) n = refl
-  sent-data (plain.ids l) n = refl
-  sent-data (plain.fragment f) n = ap (λ (x : StreamId). pick (eqb (x .0) k) (dataOf f ∷ []) []) (key-same (f .unordered) (record { 0 = f .stream-id })) ∙ picked (eqb (f .stream-id) k) f
-  sent-data plain.nothing-waits n = refl
-
-  shown-data : (len : ℕ) (c : Call) (o : Outcome) → Form (callOf len c) o → dataIn k (shownOf c o .answer) ≡ meansData (o .answer)
-  shown-data len (add time m payload) o f = quiet-none o f
-  shown-data len (produce es bs time size) o f = sent-data (o .answer) (length (o .events))
-  shown-data len (discard es id m) o f = loud-none o f
-  shown-data len (close es id) o f = loud-none o f
-  shown-data len ready-ids o f = ids-none o f
-  shown-data len commit o f = quiet-none o f
-  shown-data len rollback o f = quiet-none o f
-  shown-data len reset o f = quiet-none o f
-  shown-data len (set-threshold es id t) o f = loud-none o f
-  shown-data len (set-priority id p) o f = quiet-none o f
-  shown-data len (set-interleaving b) o f = quiet-none o f
-  shown-data len (restore time image) o f = quiet-none o f
-  shown-data len (ask-priority id) o f = number-none o f
-  shown-data len (ask-amount id) o f = number-none o f
-  shown-data len (ask-threshold id) o f = number-none o f
-  shown-data len ask-total o f = number-none o f
-  shown-data len ask-empty o f = flag-none o f
-  shown-data len ask-has-data o f = flag-none o f
-  shown-data len ask-streams-ready o f = flag-none o f
-  shown-data len ask-readiness o f = number-none o f
-
-  step-data : (c : Call) (s : State) → Good s → Typed c → dataIn k (step c s .shows .answer) ≡ meansData (meant c s .outcome .answer)
-  step-data c s g t = ap (λ (x : Shown). dataIn k (x .answer)) (step-link c s g t .shows-are) ∙ shown-data (length (s .store)) c (meant c s .outcome) (form-of (callOf (length (s .store)) c) (queueOf s))
+  -- Of the fragment of an answer, whether it is of stream k.
+  own : (a : plain.Answer) → ofStream k (map dataOf (fragments-in a)) ≡ map dataOf (model.fragment-in k a)
+  own (plain.refused r) = refl
+  own plain.done = refl
+  own (plain.number m) = refl
+  own (plain.flag b) = refl
+  own (plain.ids l) = refl
+  own (plain.fragment f) = ap (λ (x : StreamId). pick (eqb (x .0) k) (dataOf f ∷ []) []) (key-same (f .unordered) (record { 0 = f .stream-id })) ∙ picked (eqb (f .stream-id) k) f
+    where
+      picked : (b : Bool) (f : Fragment) → pick b (dataOf f ∷ []) [] ≡ map dataOf (if b then f ∷ [] else [])
+      picked true f = refl
+      picked false f = refl
+  own plain.nothing-waits = refl
 
   -- ---------------------------------------------------------------- lists of calls
-
-  map-append : (xs ys : List Fragment) → map dataOf (xs ++ ys) ≡ map dataOf xs ++ map dataOf ys
-  map-append [] ys = refl
-  map-append (x ∷ xs) ys = ap (λ (l : List DataToSend). dataOf x ∷ l) (map-append xs ys)
 
   -- The fragments that calls show are those that the model's show.
   run-data : (cs : List Call) (s : State) → Good s → AllTyped cs → fragments k (runs.run cs s) ≡ map dataOf (model.fragments k (run.run (callsOf (length (s .store)) cs) (queueOf s)))
@@ -106,8 +59,8 @@ module _ (k : ℕ) where
   run-data (c ∷ cs) s g t =
       let h = step-link c s g (t .0) in
       let e : callsOf (length (step c s .next .store)) cs ≡ callsOf (length (s .store)) cs = ap (λ (n : ℕ). callsOf n cs) (h .same-store) in
-      ap₂ _++_ (step-data c s g (t .0)) (run-data cs (step c s .next) (h .good) (t .1) ∙ ap₂ (λ (ms : List run.Call) (q : Queue). map dataOf (model.fragments k (run.run ms q))) e (h .next-is))
-      ∙ sym (map-append (model.fragment-in k (meant c s .outcome .answer)) (model.fragments k (run.run (callsOf (length (s .store)) cs) (meant c s .next))))
+      ap₂ _++_ (ap (ofStream k) (step-data c s g (t .0)) ∙ own (meant c s .outcome .answer)) (run-data cs (step c s .next) (h .good) (t .1) ∙ ap₂ (λ (ms : List run.Call) (q : Queue). map dataOf (model.fragments k (run.run ms q))) e (h .next-is))
+      ∙ sym (data-append (model.fragment-in k (meant c s .outcome .answer)) (model.fragments k (run.run (callsOf (length (s .store)) cs) (meant c s .next))))
 
 first-afresh : (fs : List Fragment) → model.FirstAfresh fs → FirstAfresh (map dataOf fs)
 first-afresh [] a = tt

@@ -10,5 +10,6 @@ pub mod Account
 pub mod Waiting
 pub mod FairTurns
 pub mod Closing
+pub mod Fragments
 pub mod Restart
 pub mod MidMessage

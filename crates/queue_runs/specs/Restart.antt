@@ -9,9 +9,8 @@ use Rattle.queue_words.specs.Flags.{pick}
 use Rattle.queue_words.specs.declared.header.RestartRule.the-variants.{Strict}
 use Rattle.queue_streams.specs.declared.answers.Call.the-variants as call
 use Rattle.queue_sending.specs.declared.data.DataToSend.{DataToSend}
-use Rattle.queue_sending.specs.declared.data.Produced.{Produced}
-use Rattle.queue_sending.specs.declared.data.Produced.the-variants as produced
-use Rattle.queue_runs.specs.Calls.{Call, reset, restore, Answer, called, sent, readied, number, flag, count, truth, Shown}
+use Rattle.queue_runs.specs.Calls.{Call, reset, restore, called, Shown}
+use Rattle.queue_runs.specs.Fragments.{dataIn}
 use Rattle.queue_runs.specs.Run.{State, step, run}
 use Rattle.queue_runs.specs.Meaning.{AllTyped}
 use Rattle.queue_runs.specs.Creation.{Arguments}
@@ -27,25 +26,15 @@ pub record Afresh (d : DataToSend) : Type 0 where
 
 -- ------------------------------------------------------------------ the fragments of a stream
 
--- The fragment of stream k in an answer, if it is one.
-abbrev pub dataSent : ℕ → Produced → List DataToSend
-dataSent k (produced.Nothing n) = []
-dataSent k (produced.Fragment n d) = pick (eqb (key-id (d .«data» .«stream_key») .0) k) (d ∷ []) []
-dataSent k (produced.Refused n) = []
-
-abbrev pub dataIn : ℕ → Answer → List DataToSend
-dataIn k (called a) = []
-dataIn k (sent a) = dataSent k a
-dataIn k (readied r) = []
-dataIn k (number a) = []
-dataIn k (flag a) = []
-dataIn k (count n) = []
-dataIn k (truth b) = []
+-- Those of stream k.
+abbrev pub ofStream : ℕ → List DataToSend → List DataToSend
+ofStream k [] = []
+ofStream k (d ∷ ds) = pick (eqb (key-id (d .«data» .«stream_key») .0) k) (d ∷ ofStream k ds) (ofStream k ds)
 
 -- The fragments of stream k that calls have shown, in order.
 unfoldable pub fragments : ℕ → List Shown → List DataToSend
 fragments k [] = []
-fragments k (o ∷ os) = dataIn k (o .answer) ++ fragments k os
+fragments k (o ∷ os) = ofStream k (dataIn (o .answer)) ++ fragments k os
 
 -- The first one, if any, starts afresh.
 abbrev pub FirstAfresh : List DataToSend → Type 0
