@@ -105,9 +105,12 @@ module _ (ws st : List ℕ) (p : ℕ) (m : Item) (l : length ws ≡ 20768) (h : 
     long = whole;
     limit-in = lay .limit-in;
     end-in = lay .end-in;
-    front-in = lay .front-in;
+    upto-in = lay .upto-in;
+    from-in = lay .from-in;
+    beside = lay .beside;
     inside = row-inside;
     clear = λ x b s. rw (place-kept x s, sizes x) (lay .clear x b (omega (arith, sizes x)));
+    aside = λ x b s. rw (place-kept x s, sizes x) (lay .aside x b (omega (arith, sizes x)));
     apart = λ i j a b ne s t. rw (place-kept i s, place-kept j t, sizes i, sizes j) (lay .apart i j a b ne (omega (arith, sizes i)) (omega (arith, sizes j)));
     used-is = used-kept ∙ lay .used-is ∙ sym (sum-same (sizeOf ws) (sizeOf us) 1024 (λ j b. sizes j));
   })

@@ -4,7 +4,7 @@ use mathlib.Core.Logic.{_⊎_, inl, inr, ⊎-elim}
 use mathlib.Core.List.{List}
 use Prim.Native.Nat.{ℕ, _+_, _-_, _≤_, _<_}
 use native.Mathlib.Omega.{arith}
-use borrow.Author.Tests.{le-ltb, lt-leb, eq-eqb, ne-eqb, ltb-false, leb-false, eqb-false}
+use borrow.Author.Tests.{lt-ltb, le-ltb, lt-leb, eq-eqb, ne-eqb, ltb-false, leb-false, eqb-false}
 use lib.Dec.{ltb, leb, eqb}
 use lib.ListN.{length}
 use Rattle.queue_words.specs.Flags.{pick}
@@ -13,13 +13,13 @@ use Rattle.queue_words.specs.declared.header.Gaps.{Gaps}
 use Rattle.queue_words.specs.declared.header.Totals.{Totals}
 use Rattle.queue_words.specs.Items.{putLength}
 use Rattle.payload_store.specs.Words.{usedOf, gapsOf, placeOf, sizeOf, putBytes}
-use Rattle.payload_store.specs.Gaps.{gaps, past, gapsLeft}
+use Rattle.payload_store.specs.Gaps.{gaps, gapsLeft}
 use Rattle.payload_store.specs.Dropping.{dropCode, gapsThen, dropped, dropPayload}
-use Rattle.payload_store.specs.Good.{payloadOf, sumTo, Good}
+use Rattle.payload_store.specs.Good.{payloadOf, sumTo, ClearOf, Good}
 use Rattle.payload_store.specs.Promise.{Dropped}
-use Rattle.payload_store.proofs.Cases.{by-index, pick-else}
+use Rattle.payload_store.proofs.Cases.{by-index, by-lt, pick-else}
 use Rattle.payload_store.proofs.Laws.{size-length, size-same, size-other, size-place, bytes-length, bytes-place, bytes-size, bytes-used, bytes-gaps}
-use Rattle.payload_store.proofs.Clear.{Ordered, past-cases}
+use Rattle.payload_store.proofs.Clear.{Ordered, lay-ordered}
 use Rattle.payload_store.proofs.Sums.{sum-one, sum-has, sum-both}
 
 pub record DropOk (ws : List ℕ) (i : ℕ) : Type 0 where
@@ -49,7 +49,7 @@ module _ (ws ws1 ws2 : List ℕ) (i code size place : ℕ) (t : Totals) (g : Gap
       let z : dropCode ws i ≡ 0 = omega arith in
       (sym z, rw (eq-eqb (dropCode ws i) 0 z) (rw (e2, e1, ee, eg, eu, et, es, ep)))
 
-  then-all : t .used ≡ size → gaps 0 (g .limit) 0 ≡ gapsThen ws i g
+  then-all : t .used ≡ size → gaps 0 (g .limit) 0 0 ≡ gapsThen ws i g
   unfolding gapsThen
   then-all q = let z : usedOf ws ≡ sizeOf ws i = rw (et, es) at q in rw (eq-eqb (usedOf ws) (sizeOf ws i) z)
 
@@ -57,58 +57,82 @@ module _ (ws ws1 ws2 : List ℕ) (i code size place : ℕ) (t : Totals) (g : Gap
   unfolding gapsThen
   then-some q = rw (ne-eqb (usedOf ws) (sizeOf ws i) (λ z. q (ap (λ (x : Totals). x .used) et ∙ (z ∙ sym es))))
 
-  pub drop-all : t .used ≡ size → ws2 ≡ putBytes ws1 0 (gaps 0 (g .limit) 0) → (0 ≡ dropCode ws i) × (ws2 ≡ dropPayload ws i)
-  drop-all q e2 = drop-done 0 (gaps 0 (g .limit) 0) (omega arith) (then-all q) e2
+  pub drop-all : t .used ≡ size → ws2 ≡ putBytes ws1 0 (gaps 0 (g .limit) 0 0) → (0 ≡ dropCode ws i) × (ws2 ≡ dropPayload ws i)
+  drop-all q e2 = drop-done 0 (gaps 0 (g .limit) 0 0) (omega arith) (then-all q) e2
 
   pub drop-some : (t .used ≡ size → ⊥) → ws2 ≡ putBytes ws1 (t .used - size) g → (0 ≡ dropCode ws i) × (ws2 ≡ dropPayload ws i)
   drop-some q e2 = drop-done (t .used - size) g refl (then-some q) e2
 
+-- every payload but row r's lies below a, or at or above b
+abbrev ClearBut : List ℕ → ℕ → ℕ → ℕ → Type 0
+ClearBut ws r a b = (i : ℕ) → i < 1024 → (r ≡ i → ⊥) → 1 ≤ sizeOf ws i → (placeOf ws i + sizeOf ws i ≤ a) ⊎ (b ≤ placeOf ws i)
+
 -- gaps that every payload but row r's is clear of
 record Clear (ws st : List ℕ) (r : ℕ) (g : Gaps) : Type 0 where
   order : Ordered g (length st)
-  others : (i : ℕ) → i < 1024 → (r ≡ i → ⊥) → 1 ≤ sizeOf ws i → ((g .front ≤ placeOf ws i) × (placeOf ws i + sizeOf ws i ≤ g .end)) ⊎ (g .limit ≤ placeOf ws i)
+  beside : (g .upto ≤ g .end) ⊎ ((g .limit ≤ g .from) × (g .from < g .upto))
+  others : ClearBut ws r (g .end) (g .limit)
+  asides : ClearBut ws r (g .from) (g .upto)
 
 module _ (ws st : List ℕ) (r : ℕ) (l : Good ws st) (h : r < 1024) (live : 1 ≤ sizeOf ws r) where
   abbrev g : Gaps
   g = gapsOf ws
 
+  abbrev p : ℕ
+  p = placeOf ws r
+
+  abbrev top : ℕ
+  top = placeOf ws r + sizeOf ws r
+
+  order-is : Ordered g (length st)
+  order-is = lay-ordered ws st g l
+
   same-clear : Clear ws st r g
-  same-clear = record { order = record { limit-in = l .limit-in; end-in = l .end-in; front-in = l .front-in }; others = λ i hi ne s. l .clear i hi s }
+  same-clear = record { order = order-is; beside = l .beside; others = λ i hi ne s. l .clear i hi s; asides = λ i hi ne s. l .aside i hi s }
 
-  -- row r's payload begins at the limit: the others there lie above it
-  limit-clear : (v : ℕ) → placeOf ws r ≡ g .limit → (v ≡ g .limit) ⊎ (v ≡ g .limit + sizeOf ws r) → Clear ws st r (gaps (g .end) v (g .front))
-  limit-clear v e c = ⊎-elim (λ z. rw z same-clear)
-      (λ z. record {
-        order = record { limit-in = omega (arith, l .inside r h); end-in = omega (arith, l .end-in); front-in = l .front-in };
-        others = λ i hi ne s. ⊎-elim (λ a. inl a)
-            (λ a. ⊎-elim (λ b. inr (omega arith)) (λ b. absurd (omega arith)) (l .apart r i h hi ne live s))
-            (l .clear i hi s);
-      })
-      c
+  -- row r's payload begins at the upper end of a gap: the others there lie above it
+  grown : (a b : ℕ) → p ≡ b → ClearOf ws a b → ClearBut ws r a top
+  grown a b e c i hi ne s = ⊎-elim (λ x. inl x)
+      (λ x. ⊎-elim (λ y. inr y) (λ y. absurd (omega arith)) (l .apart r i h hi ne live s))
+      (c i hi s)
 
-  -- or at the front
-  front-clear : (v : ℕ) → (placeOf ws r ≡ g .limit → ⊥) → placeOf ws r ≡ g .front → (v ≡ g .front) ⊎ (v ≡ g .front + sizeOf ws r) → Clear ws st r (gaps (g .end) (g .limit) v)
-  front-clear v ne e c = ⊎-elim (λ z. rw z same-clear)
-      (λ z. record {
-        order = record {
-          limit-in = l .limit-in;
-          end-in = l .end-in;
-          front-in = ⊎-elim (λ a. omega (arith, a .1)) (λ a. absurd (ne (omega (arith, l .end-in, l .front-in)))) (l .clear r h live);
-        };
-        others = λ i hi nr s. ⊎-elim
-            (λ a. ⊎-elim (λ b. inl (omega arith, a .1)) (λ b. absurd (omega (arith, a .0))) (l .apart r i h hi nr live s))
-            (λ a. inr a)
-            (l .clear i hi s);
-      })
-      c
+  limit-clear : p ≡ g .limit → Clear ws st r (gaps (g .end) top (g .from) (g .upto))
+  limit-clear e = record {
+    order = record { limit-in = l .inside r h; end-in = omega (arith, l .end-in); upto-in = l .upto-in; from-in = l .from-in };
+    beside = ⊎-elim (λ a. inl a) (λ a. ⊎-elim (λ b. inr (b, a .1)) (λ b. absurd (omega (arith, a .0, a .1))) (l .aside r h live)) (l .beside);
+    others = grown (g .end) (g .limit) e (l .clear);
+    asides = λ i hi ne s. l .aside i hi s;
+  }
+
+  upto-clear : (p ≡ g .limit → ⊥) → p ≡ g .upto → Clear ws st r (gaps (g .end) (g .limit) (g .from) top)
+  upto-clear ne e = record {
+    order = record { limit-in = l .limit-in; end-in = l .end-in; upto-in = l .inside r h; from-in = omega (arith, l .from-in) };
+    beside = ⊎-elim
+        (λ a. ⊎-elim (λ b. inl b) (λ b. absurd (ne (omega (arith, l .end-in)))) (l .clear r h live))
+        (λ a. inr (a .0, omega (arith, a .1)))
+        (l .beside);
+    others = λ i hi nr s. l .clear i hi s;
+    asides = grown (g .from) (g .upto) e (l .aside);
+  }
+
+  -- or elsewhere: it is the second gap then
+  new-clear : Clear ws st r (gaps (g .end) (g .limit) p top)
+  new-clear = record {
+    order = record { limit-in = l .limit-in; end-in = l .end-in; upto-in = l .inside r h; from-in = omega arith };
+    beside = ⊎-elim (λ a. inl a) (λ a. inr (a, omega arith)) (l .clear r h live);
+    others = λ i hi nr s. l .clear i hi s;
+    asides = λ i hi nr s. ⊎-elim (λ a. inr a) (λ a. inl a) (l .apart r i h hi nr live s);
+  }
 
   left-clear : Clear ws st r (gapsLeft g (placeOf ws r) (sizeOf ws r))
   unfolding gapsLeft
-  left-clear = by-index (placeOf ws r) (g .limit)
-      (λ e. rw (eq-eqb (placeOf ws r) (g .limit) e) (limit-clear (past (g .limit) (sizeOf ws r)) e (past-cases (g .limit) (sizeOf ws r))))
-      (λ ne. by-index (placeOf ws r) (g .front)
-      (λ e. rw (ne-eqb (placeOf ws r) (g .limit) ne, eq-eqb (placeOf ws r) (g .front) e) (front-clear (past (g .front) (sizeOf ws r)) ne e (past-cases (g .front) (sizeOf ws r))))
-      (λ nf. rw (ne-eqb (placeOf ws r) (g .limit) ne, ne-eqb (placeOf ws r) (g .front) nf) same-clear))
+  left-clear = by-lt (18446744073709551615 - p) (sizeOf ws r)
+      (λ o. rw (lt-ltb (18446744073709551615 - p) (sizeOf ws r) o) same-clear)
+      (λ o. by-index p (g .limit)
+      (λ e. rw (le-ltb (18446744073709551615 - p) (sizeOf ws r) o, eq-eqb p (g .limit) e) (limit-clear e))
+      (λ ne. by-index p (g .upto)
+      (λ e. rw (le-ltb (18446744073709551615 - p) (sizeOf ws r) o, ne-eqb p (g .limit) ne, eq-eqb p (g .upto) e) (upto-clear ne e))
+      (λ nu. rw (le-ltb (18446744073709551615 - p) (sizeOf ws r) o, ne-eqb p (g .limit) ne, ne-eqb p (g .upto) nu) new-clear)))
 
 module _ (ws st : List ℕ) (r : ℕ) (e : Gaps) (g : Good ws st) (h : r < 1024) (eo : Clear ws st r e) where
   abbrev ws′ : List ℕ
@@ -136,19 +160,25 @@ module _ (ws st : List ℕ) (r : ℕ) (e : Gaps) (g : Good ws st) (h : r < 1024)
   unfolding payloadOf
   other-bytes j ne = rw (po j, so j ne)
 
+  kept : (a b : ℕ) → ClearBut ws r a b → ClearOf ws′ a b
+  kept a b c i hi s =
+      let ne = not-row i s in
+      ⊎-elim (λ x. inl (omega (arith, po i, so i ne))) (λ x. inr (omega (arith, po i))) (c i hi ne (omega (arith, so i ne)))
+
   drop-lay : Dropped ws st r ws′
   drop-lay = record {
     good = rw (bytes-gaps (putLength ws r 0) (usedOf ws - sizeOf ws r) e ll) (record {
       long = bytes-length (putLength ws r 0) (usedOf ws - sizeOf ws r) e ∙ ll;
       limit-in = eo .order .limit-in;
       end-in = eo .order .end-in;
-      front-in = eo .order .front-in;
+      upto-in = eo .order .upto-in;
+      from-in = eo .order .from-in;
+      beside = eo .beside;
       inside = λ i hi. by-index r i
           (λ q. omega (arith, ap (sizeOf ws′) q, sn, po i, g .inside i hi))
           (λ ne. omega (arith, po i, so i ne, g .inside i hi));
-      clear = λ i hi s. let ne = not-row i s in
-          ⊎-elim (λ a. inl (omega (arith, po i, a .0), omega (arith, po i, so i ne, a .1))) (λ a. inr (omega (arith, po i)))
-          (eo .others i hi ne (omega (arith, so i ne)));
+      clear = kept (e .end) (e .limit) (eo .others);
+      aside = kept (e .from) (e .upto) (eo .asides);
       apart = λ i j hi hj ne si sj.
           let ni = not-row i si in let nj = not-row j sj in
           ⊎-elim (λ l. inl (omega (arith, po i, so i ni, po j, so j nj))) (λ l. inr (omega (arith, po i, so i ni, po j, so j nj)))
@@ -161,11 +191,13 @@ module _ (ws st : List ℕ) (r : ℕ) (e : Gaps) (g : Good ws st) (h : r < 1024)
     others = other-bytes;
   }
 
--- where nothing is used any more, any gaps in their order do
-none-clear : (ws st : List ℕ) (r : ℕ) (g : Gaps) → Good ws st → r < 1024 → usedOf ws ≡ sizeOf ws r → Ordered g (length st) → Clear ws st r (gaps 0 (g .limit) 0)
+-- where nothing is used any more, any gap in the store does
+none-clear : (ws st : List ℕ) (r : ℕ) (g : Gaps) → Good ws st → r < 1024 → usedOf ws ≡ sizeOf ws r → Ordered g (length st) → Clear ws st r (gaps 0 (g .limit) 0 0)
 none-clear ws st r g l h q o = record {
-  order = record { limit-in = o .limit-in; end-in = omega arith; front-in = omega arith };
+  order = record { limit-in = o .limit-in; end-in = omega arith; upto-in = omega arith; from-in = omega arith };
+  beside = inl (omega arith);
   others = λ i hi ne s. absurd (omega (arith, q, l .used-is, sum-both (sizeOf ws) r i 1024 h hi ne));
+  asides = λ i hi ne s. inr (omega arith);
 }
 
 -- THE THEOREM of dropping
@@ -178,6 +210,6 @@ drop-law ws st r g h s =
     let c = left-clear ws st r g h s in (
       z,
       rw (eq-eqb (dropCode ws r) 0 z) (by-index (usedOf ws) (sizeOf ws r)
-          (λ q. rw (eq-eqb (usedOf ws) (sizeOf ws r) q) (drop-lay ws st r (gaps 0 (f .limit) 0) g h (none-clear ws st r f g h q (c .order))))
+          (λ q. rw (eq-eqb (usedOf ws) (sizeOf ws r) q) (drop-lay ws st r (gaps 0 (f .limit) 0 0) g h (none-clear ws st r f g h q (c .order))))
           (λ q. rw (ne-eqb (usedOf ws) (sizeOf ws r) q) (drop-lay ws st r f g h c))),
     )

@@ -137,7 +137,7 @@ unfolding placed
 placed-frame ws st g i bs l h =
     let n = length bs in
     let at = g .end in
-    let f = gaps (at + n) (g .limit) (g .front) in
+    let f = gaps (at + n) (g .limit) (g .from) (g .upto) in
     let l1 : length (putPlace ws i at) ≡ 20768 = place-length ws i at ∙ l in
     let l2 : length (putLength (putPlace ws i at) i n) ≡ 20768 = size-length (putPlace ws i at) i n ∙ l1 in
     frame-both ws (putLength (putPlace ws i at) i n) (putBytes (putLength (putPlace ws i at) i n) (usedOf ws + n) f)
@@ -155,7 +155,7 @@ elsewhere-frame ws st g i bs l h = go (leb (length bs) (room f))
     t = together ws st
 
     p : Gaps
-    p = gaps (usedOf (t .words)) (length st) 0
+    p = gaps (usedOf (t .words)) (length st) 0 0
 
     go : (a : Bool) → Frame ws (pick a (placed ws st f i bs) (placed (t .words) (t .store) p i bs) .words)
     go true = placed-frame ws st f i bs l h
@@ -202,7 +202,7 @@ elsewhere-done : (ws st : List ℕ) (g : Gaps) (i : ℕ) (bs : List ℕ) → put
 unfolding putElsewhere placed
 elsewhere-done ws st g i bs = go (leb (length bs) (room (found ws (length st) (length bs) g)))
   where
-    go : (a : Bool) → pick a (placed ws st (found ws (length st) (length bs) g) i bs) (placed (together ws st .words) (together ws st .store) (gaps (usedOf (together ws st .words)) (length st) 0) i bs) .answer ≡ 0
+    go : (a : Bool) → pick a (placed ws st (found ws (length st) (length bs) g) i bs) (placed (together ws st .words) (together ws st .store) (gaps (usedOf (together ws st .words)) (length st) 0 0) i bs) .answer ≡ 0
     go true = refl
     go false = refl
 

@@ -9,23 +9,30 @@ use lib.Seq.{length-take-le}
 use Rattle.queue_words.specs.declared.header.Gaps.{Gaps}
 use Rattle.payload_store.specs.Words.{usedOf, gapsOf, placeOf, sizeOf}
 use Rattle.payload_store.specs.Gaps.{gaps}
-use Rattle.payload_store.specs.Good.{payloadOf, Lay, Good}
+use Rattle.payload_store.specs.Good.{payloadOf, ClearOf, Lay, Good}
 use Rattle.payload_store.specs.Promise.{SamePlaces}
 use Rattle.payload_store.proofs.Sums.{sum-same, sum-zero}
 use Rattle.payload_store.proofs.Together.{together-law}
 
 -- a new queue: no row has a payload, and nothing is used
-pub new-good : (ws st : List ℕ) → length ws ≡ 20768 → ((i : ℕ) → i < 1024 → placeOf ws i ≡ 0) → ((i : ℕ) → i < 1024 → sizeOf ws i ≡ 0) → usedOf ws ≡ 0 → gapsOf ws ≡ gaps 0 0 0 → Good ws st
+pub new-good : (ws st : List ℕ) → length ws ≡ 20768 → ((i : ℕ) → i < 1024 → placeOf ws i ≡ 0) → ((i : ℕ) → i < 1024 → sizeOf ws i ≡ 0) → usedOf ws ≡ 0 → gapsOf ws ≡ gaps 0 0 0 0 → Good ws st
 new-good ws st l p s u e = rw e (record {
   long = l;
   limit-in = omega arith;
   end-in = omega arith;
-  front-in = omega arith;
+  upto-in = omega arith;
+  from-in = omega arith;
+  beside = inl (omega arith);
   inside = λ i h. omega (arith, p i h, s i h);
   clear = λ i h q. absurd (omega (arith, s i h));
+  aside = λ i h q. absurd (omega (arith, s i h));
   apart = λ i j hi hj ne si sj. absurd (omega (arith, s i hi));
   used-is = u ∙ sym (sum-zero (sizeOf ws) 1024 s);
 })
+
+same-clear : (ws ws′ : List ℕ) → SamePlaces ws ws′ → (a b : ℕ) → ClearOf ws a b → ClearOf ws′ a b
+same-clear ws ws′ k a b c i h q =
+    ⊎-elim (λ x. inl (omega (arith, k .places i h, k .sizes i h))) (λ x. inr (omega (arith, k .places i h))) (c i h (omega (arith, k .sizes i h)))
 
 -- the invariant and the payloads are told by places, lengths, used bytes and gaps
 pub good-same : (ws ws′ st : List ℕ) → SamePlaces ws ws′ → Good ws st → Good ws′ st
@@ -33,11 +40,12 @@ good-same ws ws′ st k g = rw (k .gaps) (record {
   long = k .long ∙ g .long;
   limit-in = g .limit-in;
   end-in = g .end-in;
-  front-in = g .front-in;
+  upto-in = g .upto-in;
+  from-in = g .from-in;
+  beside = g .beside;
   inside = λ i h. omega (arith, k .places i h, k .sizes i h, g .inside i h);
-  clear = λ i h q.
-      ⊎-elim (λ a. inl (omega (arith, k .places i h, a .0), omega (arith, k .places i h, k .sizes i h, a .1))) (λ a. inr (omega (arith, k .places i h)))
-      (g .clear i h (omega (arith, k .sizes i h)));
+  clear = same-clear ws ws′ k (gapsOf ws .end) (gapsOf ws .limit) (g .clear);
+  aside = same-clear ws ws′ k (gapsOf ws .from) (gapsOf ws .upto) (g .aside);
   apart = λ i j hi hj ne si sj.
       ⊎-elim (λ l. inl (omega (arith, k .places i hi, k .sizes i hi, k .places j hj))) (λ l. inr (omega (arith, k .places i hi, k .sizes j hj, k .places j hj)))
       (g .apart i j hi hj ne (omega (arith, k .sizes i hi)) (omega (arith, k .sizes j hj)));

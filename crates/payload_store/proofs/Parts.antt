@@ -22,7 +22,7 @@ part-in store src l at n en h e =
     rw (e, m, drop-of-length-le (take n (drop at store)) k, append-nil, drop-drop)
 
 pub placed-is : (ws st ws1 ws2 ws3 st1 bs : List ℕ) (g : Gaps) (i : ℕ) (t : Totals) → t ≡ totalsAt ws → st1 ≡ written st (g .end) bs
-    → ws1 ≡ putPlace ws i (g .end) → ws2 ≡ putLength ws1 i (length bs) → ws3 ≡ putBytes ws2 (t .used + length bs) (gaps (g .end + length bs) (g .limit) (g .front))
+    → ws1 ≡ putPlace ws i (g .end) → ws2 ≡ putLength ws1 i (length bs) → ws3 ≡ putBytes ws2 (t .used + length bs) (gaps (g .end + length bs) (g .limit) (g .from) (g .upto))
     → outcome 0 ws3 st1 ≡ placed ws st g i bs
 unfolding placed
 placed-is ws st ws1 ws2 ws3 st1 bs g i t et es e1 e2 e3 = rw (e3, e2, e1, es, et)

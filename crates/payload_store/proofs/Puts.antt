@@ -90,7 +90,7 @@ module _ (ws st : List ℕ) (g : Gaps) (r : ℕ) (bs : List ℕ) (l : Lay ws st 
   n = length bs
 
   abbrev g′ : Gaps
-  g′ = gaps (g .end + n) (g .limit) (g .front)
+  g′ = gaps (g .end + n) (g .limit) (g .from) (g .upto)
 
   abbrev ws′ : List ℕ
   ws′ = putBytes (putLength (putPlace ws r (g .end)) r n) (usedOf ws + n) g′
@@ -112,7 +112,7 @@ module _ (ws st : List ℕ) (g : Gaps) (r : ℕ) (bs : List ℕ) (l : Lay ws st 
 
   -- another payload lies below the new one, or above it
   beside : (j : ℕ) → j < 1024 → 1 ≤ sizeOf ws j → (placeOf ws j + sizeOf ws j ≤ g .end) ⊎ (g .end + n ≤ placeOf ws j)
-  beside j hj s = ⊎-elim (λ a. inl (a .1)) (λ a. inr (omega (arith, roomy))) (l .clear j hj s)
+  beside j hj s = ⊎-elim (λ a. inl a) (λ a. inr (omega (arith, roomy))) (l .clear j hj s)
 
   apart-put : Apart ws′
   apart-put i j hi hj ne si sj =
@@ -135,14 +135,18 @@ module _ (ws st : List ℕ) (g : Gaps) (r : ℕ) (bs : List ℕ) (l : Lay ws st 
     long = after-length ws r (g .end) n (usedOf ws + n) g′ (l .long) h;
     limit-in = omega (arith, written-length st (g .end) bs fits, l .limit-in);
     end-in = roomy;
-    front-in = omega (arith, l .front-in);
+    upto-in = omega (arith, written-length st (g .end) bs fits, l .upto-in);
+    from-in = l .from-in;
+    beside = ⊎-elim (λ a. inl (omega arith)) (λ a. inr a) (l .beside);
     inside = λ i hi. by-index r i
         (λ e. omega (arith, ap (placeOf ws′) e, ap (sizeOf ws′) e, pn, sn, written-length st (g .end) bs fits, fits))
         (λ ne. omega (arith, po i ne, so i ne, l .inside i hi, written-length st (g .end) bs fits));
     clear = λ i hi s. by-index r i
-        (λ e. inl (omega (arith, ap (placeOf ws′) e, pn, l .front-in), omega (arith, ap (placeOf ws′) e, ap (sizeOf ws′) e, pn, sn)))
-        (λ ne. ⊎-elim (λ a. inl (omega (arith, po i ne, a .0), omega (arith, po i ne, so i ne, a .1))) (λ a. inr (omega (arith, po i ne)))
-        (l .clear i hi (omega (arith, so i ne))));
+        (λ e. inl (omega (arith, ap (placeOf ws′) e, ap (sizeOf ws′) e, pn, sn)))
+        (λ ne. ⊎-elim (λ a. inl (omega (arith, po i ne, so i ne))) (λ a. inr (omega (arith, po i ne))) (l .clear i hi (omega (arith, so i ne))));
+    aside = λ i hi s. by-index r i
+        (λ e. ⊎-elim (λ a. inr (omega (arith, ap (placeOf ws′) e, pn))) (λ a. inl (omega (arith, ap (placeOf ws′) e, ap (sizeOf ws′) e, pn, sn, a .0, roomy))) (l .beside))
+        (λ ne. ⊎-elim (λ a. inl (omega (arith, po i ne, so i ne))) (λ a. inr (omega (arith, po i ne))) (l .aside i hi (omega (arith, so i ne))));
     apart = apart-put;
     used-is = omega (
       arith,
@@ -246,7 +250,7 @@ elsewhere-law ws st r bs g h dead fits =
     (λ a. let m = together-law ws st (gapsOf ws) g in
     let t = together ws st in
     let u : usedOf (t .words) ≡ usedOf ws = ap (λ (x : Totals). x .used) (m .totals) in
-    let p = gaps (usedOf (t .words)) (length st) 0 in
+    let p = gaps (usedOf (t .words)) (length st) 0 0 in
     let e : placed (t .words) (t .store) p r bs ≡ putElsewhere ws st (gapsOf ws) r bs =
     out-moved ws st bs r (gapsOf ws) f refl (placed (t .words) (t .store) p r bs) (t .words) (t .store) (t .cursor) (totalsAt (t .words)) a refl refl refl in
     rw (← e) (after-moving ws st t r bs (placed (t .words) (t .store) p r bs) m

@@ -188,10 +188,10 @@ module _ (ws st bs : List ℕ) (i : ℕ) (g f : Gaps) (ef : f ≡ found ws (leng
   out-found o a eo = rw (← ef, le-leb (length bs) (room f) a) eo
 
   pub out-moved : (o : Outcome) (ws1 st1 : List ℕ) (cur : ℕ) (t : Totals) → f .limit - f .end < length bs → pack ws1 st1 cur ≡ together ws st → t ≡ totalsAt ws1
-      → o ≡ placed ws1 st1 (gaps (t .used) (length st) 0) i bs → o ≡ putElsewhere ws st g i bs
+      → o ≡ placed ws1 st1 (gaps (t .used) (length st) 0 0) i bs → o ≡ putElsewhere ws st g i bs
   unfolding putElsewhere
   out-moved o ws1 st1 cur t a em et eo =
-      rw (← ef, lt-leb (length bs) (room f) a, ← em) (eo ∙ ap (λ (x : Totals). placed ws1 st1 (gaps (x .used) (length st) 0) i bs) et)
+      rw (← ef, lt-leb (length bs) (room f) a, ← em) (eo ∙ ap (λ (x : Totals). placed ws1 st1 (gaps (x .used) (length st) 0 0) i bs) et)
 
 pub room-after : (ws st ws1 st1 : List ℕ) (cur : ℕ) (t : Totals) (i n : ℕ) → pack ws1 st1 cur ≡ together ws st → t ≡ totalsAt ws1 → i < 1024 → usedOf ws + n ≤ length st
     → (i < 1024) × (t .used + n ≤ length st1) × (usedOf ws1 + n ≤ length st1)
@@ -221,8 +221,8 @@ module _ (ws st bs : List ℕ) (i code : ℕ) (ec : code ≡ putCode ws (length 
 
 module _ (ws : List ℕ) (len i n code : ℕ) (t : Totals) (ec : code ≡ putCode ws len i n) (et : t ≡ totalsAt ws) where
   -- the gaps are in their order
-  pub order-end : code ≡ 0 → (t .gaps .front ≤ t .gaps .end) × (t .gaps .end ≤ t .gaps .limit)
-  order-end e = let p = put-zero ws len i n (sym ec ∙ e) .0 .ordered in rw et (p .front-in, p .end-in)
+  pub order-end : code ≡ 0 → (t .gaps .from ≤ t .gaps .upto) × (t .gaps .end ≤ t .gaps .limit)
+  order-end e = let p = put-zero ws len i n (sym ec ∙ e) .0 .ordered in rw et (p .from-in, p .end-in)
 
   pub room-end : (g : Gaps) → code ≡ 0 → g ≡ gapFor (t .gaps) n → (i < 1024) × (g .end + n ≤ len) × (usedOf ws + n ≤ len)
   room-end g e eg =

@@ -196,9 +196,12 @@ finish ws₀ st₀ at s g p =
         long = m .long;
         limit-in = omega (arith, m .same);
         end-in = omega (arith, m .cur-in);
-        front-in = omega arith;
+        upto-in = omega arith;
+        from-in = omega arith;
+        beside = inl (omega arith);
         inside = λ i h. omega (arith, m .inside i h, m .same);
-        clear = λ i h l. inl (omega arith, omega (arith, below i h l));
+        clear = λ i h l. inl (omega (arith, below i h l));
+        aside = λ i h l. inr (omega arith);
         apart = m .apart;
         used-is = u ∙ (g .used-is ∙ sym (sum-same (sizeOf ws₀) (sizeOf (s .words)) 1024 (λ j h. m .sizes j)));
       };

@@ -14,7 +14,7 @@ dropCode ws i = pick (leb 1024 i) 16 (pick (eqb (sizeOf ws i) 0) 16 (pick (ltb (
 
 -- the gaps grow by row i's payload; where nothing is used any more, they begin at 0
 unfoldable pub gapsThen : List ℕ → ℕ → Gaps → Gaps
-gapsThen ws i g = pick (eqb (usedOf ws) (sizeOf ws i)) (gaps 0 (g .limit) 0) g
+gapsThen ws i g = pick (eqb (usedOf ws) (sizeOf ws i)) (gaps 0 (g .limit) 0 0) g
 
 -- row i has none
 unfoldable pub dropped : List ℕ → ℕ → List ℕ

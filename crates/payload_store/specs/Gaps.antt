@@ -1,38 +1,43 @@
 -- The known gaps of the store: whether they lie in it, which one a payload goes to, what a dropped payload adds. Assumes nothing.
-use mathlib.Core.Bool.{Bool, true}
+use mathlib.Core.Bool.{Bool, true, false}
 use Prim.Native.Nat.{ℕ, _+_, _-_}
 use lib.Dec.{ltb, leb, eqb}
 use Rattle.queue_words.specs.Flags.{pick}
 use Rattle.queue_words.specs.declared.header.Gaps.{Gaps}
 
-abbrev pub gaps : ℕ → ℕ → ℕ → Gaps
-gaps e l f = record { end = e; limit = l; front = f }
+abbrev pub gaps : ℕ → ℕ → ℕ → ℕ → Gaps
+gaps e l f u = record { end = e; limit = l; from = f; upto = u }
 
--- the bytes of the gap at the end
+-- the bytes of the gap at the end, and those of the second one
 abbrev pub room : Gaps → ℕ
 room g = g .limit - g .end
 
--- the front becomes the gap at the end; all payloads lie behind it then
+abbrev pub spare : Gaps → ℕ
+spare g = g .upto - g .from
+
+-- the second gap becomes the gap at the end, and there is no other
 abbrev pub turned : Gaps → Gaps
-turned g = gaps 0 (g .front) 0
+turned g = gaps (g .from) (g .upto) 0 0
 
--- the gaps lie outside a store of len bytes, or out of their order
+-- a gap lies outside a store of len bytes, or ends before its start
 unfoldable pub gapsWrong : Gaps → ℕ → Bool
-gapsWrong g len = pick (ltb len (g .limit)) true (pick (ltb (g .limit) (g .end)) true (ltb (g .end) (g .front)))
+gapsWrong g len = pick (ltb len (g .limit)) true (pick (ltb (g .limit) (g .end)) true (pick (ltb len (g .upto)) true (ltb (g .upto) (g .from))))
 
--- the gap that n bytes go to: the front where it suffices and has as many bytes as lie behind it, or where the end does not suffice
+-- the second gap lies below the other, and has as many bytes as there are between them
+unfoldable pub near : Gaps → Bool
+near g = pick (ltb (g .end) (g .upto)) false (leb (g .end - g .upto) (spare g))
+
+-- the gap that n bytes go to: the second one where it suffices and is near, or where the one at the end does not suffice
 unfoldable pub gapFor : Gaps → ℕ → Gaps
 gapFor g n =
-    pick (ltb (g .front) n) g
-    (pick (leb (g .end - g .front) (g .front)) (turned g)
+    pick (ltb (spare g) n) g
+    (pick (near g) (turned g)
     (pick (leb n (room g)) g (turned g)))
 
--- n bytes past `at`, or `at` where a word has no room for that
-unfoldable pub past : ℕ → ℕ → ℕ
-past at n = pick (ltb (18446744073709551615 - at) n) at (at + n)
-
--- the gaps once the n bytes from p on are free: they grow where those begin at `limit` or at `front`
+-- the gaps once the n bytes from p on are free: one grows where those begin at its upper end, else they are the second one; as they are, where a word has no room for p + n
 unfoldable pub gapsLeft : Gaps → ℕ → ℕ → Gaps
 gapsLeft g p n =
-    pick (eqb p (g .limit)) (gaps (g .end) (past (g .limit) n) (g .front))
-    (pick (eqb p (g .front)) (gaps (g .end) (g .limit) (past (g .front) n)) g)
+    pick (ltb (18446744073709551615 - p) n) g
+    (pick (eqb p (g .limit)) (gaps (g .end) (p + n) (g .from) (g .upto))
+    (pick (eqb p (g .upto)) (gaps (g .end) (g .limit) (g .from) (p + n))
+    (gaps (g .end) (g .limit) p (p + n))))

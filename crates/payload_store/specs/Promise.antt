@@ -16,7 +16,7 @@ use Rattle.payload_store.specs.Good.{payloadOf, Lay, Good}
 
 -- moved together: every row has its length and its payload, and the payloads lie without a gap
 pub record Together (ws st : List ℕ) (t : Pack) : Type 0 where
-  pub lay : Lay (t .words) (t .store) (gaps (usedOf ws) (length st) 0)
+  pub lay : Lay (t .words) (t .store) (gaps (usedOf ws) (length st) 0 0)
   pub cursor-is : t .cursor ≡ usedOf ws
   pub totals : totalsAt (t .words) ≡ totalsAt ws
   pub same : length (t .store) ≡ length st

@@ -21,12 +21,12 @@ unfoldable pub lookAt : List ℕ → ℕ → ℕ → Ahead
 lookAt ws len c = lookRow ws len (least ws c 1024)
 
 -- the first gap of n bytes up from c, over at most k payloads; none: an empty one
-unfoldable pub search : List ℕ → ℕ → ℕ → ℕ → ℕ → ℕ → Gaps
-search ws len n f c zero = gaps c c f
-search ws len n f c (suc k) =
-    pick (leb n (lookAt ws len c .limit - c)) (gaps c (lookAt ws len c .limit) f) (search ws len n f (lookAt ws len c .after) k)
+unfoldable pub search : List ℕ → ℕ → ℕ → ℕ → ℕ → Gaps
+search ws len n c zero = gaps c c 0 0
+search ws len n c (suc k) =
+    pick (leb n (lookAt ws len c .limit - c)) (gaps c (lookAt ws len c .limit) 0 0) (search ws len n (lookAt ws len c .after) k)
 
 -- up from the end, then up from 0
 unfoldable pub found : List ℕ → ℕ → ℕ → Gaps → Gaps
 found ws len n g =
-    pick (leb n (room (search ws len n (g .front) (g .end) 4))) (search ws len n (g .front) (g .end) 4) (search ws len n 0 0 4)
+    pick (leb n (room (search ws len n (g .end) 4))) (search ws len n (g .end) 4) (search ws len n 0 4)

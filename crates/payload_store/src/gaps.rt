@@ -1,14 +1,15 @@
 // The known gaps of the store: which one a payload goes to, and what a dropped payload adds to them.
 //
-// From `end` up to `limit` no payload lies, nor below `front`. What lies elsewhere lies from `front` up to `end`, or at or
-// above `limit`. Where messages leave in the order in which they came, the payload dropped begins at `limit` or at `front`,
-// and the gaps grow with it: the store is a ring, and nothing is searched or moved.
+// No payload lies from `end` up to `limit`, nor from `from` up to `upto`, and the two gaps are apart. Where messages leave in
+// the order in which they came, the payload dropped begins at `limit` or at `upto`, and the gaps grow with it: the store is a
+// ring, and nothing is searched or moved. A payload dropped elsewhere begins the second gap anew: so it is with those behind a
+// message that stays, and the gap that grows there is taken once the other is used up.
 ghost use mathlib.Core.Path.{_≡_};
 ghost use Prim.Native.Nat.{_≤_};
-ghost use Rattle.payload_store.specs.Gaps.{gapsWrong, gapFor, past, gapsLeft};
+ghost use Rattle.payload_store.specs.Gaps.{gapsWrong, near, gapFor, gapsLeft};
 use queue_words::header::Gaps;
 
-// Do the gaps lie outside a store of len bytes, or out of their order?
+// Does a gap lie outside a store of len bytes, or end before its start?
 pub fn gaps_wrong(g: Gaps, len: u64) -> bool
     ensures { λ r. ⌜ r ≡ gapsWrong g len ⌝ }
 {
@@ -18,61 +19,76 @@ pub fn gaps_wrong(g: Gaps, len: u64) -> bool
     if g.end > g.limit {
         return true;
     }
-    g.front > g.end
+    if g.upto > len {
+        return true;
+    }
+    g.from > g.upto
 }
 
-// The gap that n bytes go to: the one at the end, or the front. The front comes first once it has as many bytes as lie behind
-// it: so few messages stay in few bytes of the store. It may have too few bytes.
+// Does the second gap lie below the first, with as many bytes as there are between them?
+fn near(g: Gaps) -> bool
+    requires { ⌜ g .from ≤ g .upto ⌝ }
+    ensures { λ r. ⌜ r ≡ near g ⌝ }
+{
+    if g.upto > g.end {
+        return false;
+    }
+    g.end - g.upto <= g.upto - g.from
+}
+
+// The gap that n bytes go to, with none beside it where it is the second one. The second one comes first where it is near: so
+// few messages stay in few bytes of the store. The gap may have too few bytes.
 pub fn gap_for(g: Gaps, n: u64) -> Gaps
-    requires { ⌜ (g .front ≤ g .end) × (g .end ≤ g .limit) ⌝ }
+    requires { ⌜ (g .from ≤ g .upto) × (g .end ≤ g .limit) ⌝ }
     ensures { λ r. ⌜ r ≡ gapFor g n ⌝ }
 {
-    if g.front < n {
+    if g.upto - g.from < n {
         return g;
     }
-    let front = Gaps {
-        end: 0,
-        limit: g.front,
-        front: 0,
+    let turned = Gaps {
+        end: g.from,
+        limit: g.upto,
+        from: 0,
+        upto: 0,
     };
-    if g.end - g.front <= g.front {
-        return front;
+    let close = near(g);
+    if close {
+        return turned;
     }
     if n <= g.limit - g.end {
         return g;
     }
-    front
+    turned
 }
 
-// n bytes past `at`; where a word has no room for that, `at`.
-fn past(at: u64, n: u64) -> u64
-    ensures { λ r. ⌜ r ≡ past at n ⌝ }
-{
-    if n > u64::MAX - at {
-        return at;
-    }
-    at + n
-}
-
-// The gaps once the n bytes from `place` on are free.
+// The gaps once the n bytes from `place` on are free; as they are, where a word has no room for where those end.
 pub fn gaps_left(g: Gaps, place: u64, n: u64) -> Gaps
     ensures { λ r. ⌜ r ≡ gapsLeft g place n ⌝ }
 {
+    if n > u64::MAX - place {
+        return g;
+    }
+    let top = place + n;
     if place == g.limit {
-        let limit = past(g.limit, n);
         return Gaps {
             end: g.end,
-            limit: limit,
-            front: g.front,
+            limit: top,
+            from: g.from,
+            upto: g.upto,
         };
     }
-    if place == g.front {
-        let front = past(g.front, n);
+    if place == g.upto {
         return Gaps {
             end: g.end,
             limit: g.limit,
-            front: front,
+            from: g.from,
+            upto: top,
         };
     }
-    g
+    Gaps {
+        end: g.end,
+        limit: g.limit,
+        from: place,
+        upto: top,
+    }
 }

@@ -233,7 +233,8 @@ fn place_payload(
         Gaps {
             end: g.end + n,
             limit: g.limit,
-            front: g.front,
+            from: g.from,
+            upto: g.upto,
         },
     );
     0
@@ -264,7 +265,8 @@ fn put_elsewhere(
         Gaps {
             end: t.used,
             limit: len,
-            front: 0,
+            from: 0,
+            upto: 0,
         },
         i,
         payload,
@@ -383,7 +385,8 @@ pub fn drop_payload(queue: &mut [u64; QUEUE_WORDS], i: usize) -> u8
             Gaps {
                 end: 0,
                 limit: g.limit,
-                front: 0,
+                from: 0,
+                upto: 0,
             },
         );
         return 0;

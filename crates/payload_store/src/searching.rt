@@ -39,10 +39,10 @@ fn look(queue: &[u64; QUEUE_WORDS], len: u64, from: u64) -> Ahead
     }
 }
 
-// The first gap of n bytes up from `from`; where a few looks show none, an empty one. `front` stays the front.
-fn search(queue: &[u64; QUEUE_WORDS], len: u64, n: u64, front: u64, from: u64) -> Gaps
+// The first gap of n bytes up from `from`; where a few looks show none, an empty one.
+fn search(queue: &[u64; QUEUE_WORDS], len: u64, n: u64, from: u64) -> Gaps
     requires { ⌜ Fits (now queue) len × (from ≤ len) ⌝ }
-    ensures { λ r. ⌜ r ≡ search (now (queue .entry)) len n front from 4 ⌝ }
+    ensures { λ r. ⌜ r ≡ search (now (queue .entry)) len n from 4 ⌝ }
 {
     let mut at = from;
     let mut left = LOOKS;
@@ -52,7 +52,8 @@ fn search(queue: &[u64; QUEUE_WORDS], len: u64, n: u64, front: u64, from: u64) -
             return Gaps {
                 end: at,
                 limit: next.limit,
-                front: front,
+                from: 0,
+                upto: 0,
             };
         }
         at = next.after;
@@ -61,7 +62,8 @@ fn search(queue: &[u64; QUEUE_WORDS], len: u64, n: u64, front: u64, from: u64) -
     Gaps {
         end: at,
         limit: at,
-        front: front,
+        from: 0,
+        upto: 0,
     }
 }
 
@@ -70,9 +72,9 @@ pub fn find_gap(queue: &[u64; QUEUE_WORDS], len: u64, n: u64, g: Gaps) -> Gaps
     requires { ⌜ Fits (now queue) len × (g .end ≤ len) ⌝ }
     ensures { λ r. ⌜ r ≡ found (now (queue .entry)) len n g ⌝ }
 {
-    let up = search(queue, len, n, g.front, g.end);
+    let up = search(queue, len, n, g.end);
     if n <= up.limit - up.end {
         return up;
     }
-    search(queue, len, n, 0, 0)
+    search(queue, len, n, 0)
 }

@@ -29,7 +29,7 @@ newTotals = record {
   waiting = 0;
   free = 0;
   used = 0;
-  gaps = record { end = 0; limit = 0; front = 0 };
+  gaps = record { end = 0; limit = 0; from = 0; upto = 0 };
 }
 
 -- no stream waits, none is remembered

@@ -68,7 +68,8 @@ fn write_new(queue: &mut [u64; QUEUE_WORDS], o: Options)
             gaps: Gaps {
                 end: 0,
                 limit: 0,
-                front: 0,
+                from: 0,
+                upto: 0,
             },
         },
     );

@@ -55,7 +55,7 @@ totals-words t f = λ p. record {
   waiting = t .waiting;
   free = t .free;
   used = t .used;
-  gaps = record { end = t .gaps .end; limit = t .gaps .limit; front = t .gaps .front };
+  gaps = record { end = t .gaps .end; limit = t .gaps .limit; from = t .gaps .from; upto = t .gaps .upto };
 }
 
 known-words : (k : Known) → FitsKnown k → knownOf (knownWords k) ≡ k
@@ -153,7 +153,7 @@ whole-put-totals ws t = row-put-length ws 7 (totalsWords t)
 
 pub whole-put-scheduler : (ws : List ℕ) (s : SchedulerState) → length (putScheduler ws s) ≡ length ws
 unfolding putScheduler
-whole-put-scheduler ws s = row-put-length ws 17 (schedulerWords s)
+whole-put-scheduler ws s = row-put-length ws 18 (schedulerWords s)
 
 pub whole-put-known : (ws : List ℕ) (i : ℕ) (k : Known) → length (putKnown ws i k) ≡ length ws
 unfolding putKnown
@@ -195,7 +195,7 @@ totals-at-put ws t l f = ap totalsOf (row-put-same ws 7 (totalsWords t) (omega a
 
 pub scheduler-at-put : (ws : List ℕ) (s : SchedulerState) → length ws ≡ 20768 → schedulerAt (putScheduler ws s) ≡ s
 unfolding schedulerAt putScheduler
-scheduler-at-put ws s l = ap schedulerOf (row-put-same ws 17 (schedulerWords s) (omega arith))
+scheduler-at-put ws s l = ap schedulerOf (row-put-same ws 18 (schedulerWords s) (omega arith))
 
 pub known-at-put : (ws : List ℕ) (i : ℕ) (k : Known) → length ws ≡ 20768 → i < 256 → FitsKnown k → knownAt (putKnown ws i k) i ≡ k
 unfolding knownAt putKnown
@@ -241,11 +241,11 @@ active-at-put-other ws i a j ne =
 
 pub totals-put-options : (ws : List ℕ) (o : Options) → totalsAt (putOptions ws o) ≡ totalsAt ws
 unfolding totalsAt putOptions
-totals-put-options ws o = ap totalsOf (row-put-other ws 0 (optionsWords o) 7 10 (inl (omega arith)))
+totals-put-options ws o = ap totalsOf (row-put-other ws 0 (optionsWords o) 7 11 (inl (omega arith)))
 
 pub scheduler-put-options : (ws : List ℕ) (o : Options) → schedulerAt (putOptions ws o) ≡ schedulerAt ws
 unfolding schedulerAt putOptions
-scheduler-put-options ws o = ap schedulerOf (row-put-other ws 0 (optionsWords o) 17 3 (inl (omega arith)))
+scheduler-put-options ws o = ap schedulerOf (row-put-other ws 0 (optionsWords o) 18 3 (inl (omega arith)))
 
 pub known-put-options : (ws : List ℕ) (o : Options) (j : ℕ) → knownAt (putOptions ws o) j ≡ knownAt ws j
 unfolding knownAt putOptions
@@ -271,7 +271,7 @@ options-put-totals ws t = ap optionsOf (row-put-other ws 7 (totalsWords t) 0 7 (
 
 pub scheduler-put-totals : (ws : List ℕ) (t : Totals) → schedulerAt (putTotals ws t) ≡ schedulerAt ws
 unfolding schedulerAt putTotals
-scheduler-put-totals ws t = ap schedulerOf (row-put-other ws 7 (totalsWords t) 17 3 (inl (omega arith)))
+scheduler-put-totals ws t = ap schedulerOf (row-put-other ws 7 (totalsWords t) 18 3 (inl (omega arith)))
 
 pub known-put-totals : (ws : List ℕ) (t : Totals) (j : ℕ) → knownAt (putTotals ws t) j ≡ knownAt ws j
 unfolding knownAt putTotals
@@ -293,27 +293,27 @@ active-put-totals ws t j = ap activeOf (row-put-other ws 7 (totalsWords t) (1948
 
 pub options-put-scheduler : (ws : List ℕ) (s : SchedulerState) → optionsAt (putScheduler ws s) ≡ optionsAt ws
 unfolding optionsAt putScheduler
-options-put-scheduler ws s = ap optionsOf (row-put-other ws 17 (schedulerWords s) 0 7 (inr (omega arith)))
+options-put-scheduler ws s = ap optionsOf (row-put-other ws 18 (schedulerWords s) 0 7 (inr (omega arith)))
 
 pub totals-put-scheduler : (ws : List ℕ) (s : SchedulerState) → totalsAt (putScheduler ws s) ≡ totalsAt ws
 unfolding totalsAt putScheduler
-totals-put-scheduler ws s = ap totalsOf (row-put-other ws 17 (schedulerWords s) 7 10 (inr (omega arith)))
+totals-put-scheduler ws s = ap totalsOf (row-put-other ws 18 (schedulerWords s) 7 11 (inr (omega arith)))
 
 pub known-put-scheduler : (ws : List ℕ) (s : SchedulerState) (j : ℕ) → knownAt (putScheduler ws s) j ≡ knownAt ws j
 unfolding knownAt putScheduler
-known-put-scheduler ws s j = ap knownOf (row-put-other ws 17 (schedulerWords s) (32 + j * 2) 2 (inl (omega arith)))
+known-put-scheduler ws s j = ap knownOf (row-put-other ws 18 (schedulerWords s) (32 + j * 2) 2 (inl (omega arith)))
 
 pub stream-put-scheduler : (ws : List ℕ) (s : SchedulerState) (j : ℕ) → streamAt (putScheduler ws s) j ≡ streamAt ws j
 unfolding streamAt putScheduler
-stream-put-scheduler ws s j = ap streamOf (row-put-other ws 17 (schedulerWords s) (544 + j * 10) 9 (inl (omega arith)))
+stream-put-scheduler ws s j = ap streamOf (row-put-other ws 18 (schedulerWords s) (544 + j * 10) 9 (inl (omega arith)))
 
 pub item-put-scheduler : (ws : List ℕ) (s : SchedulerState) (j : ℕ) → itemAt (putScheduler ws s) j ≡ itemAt ws j
 unfolding itemAt putScheduler
-item-put-scheduler ws s j = ap itemOf (row-put-other ws 17 (schedulerWords s) (3104 + j * 16) 15 (inl (omega arith)))
+item-put-scheduler ws s j = ap itemOf (row-put-other ws 18 (schedulerWords s) (3104 + j * 16) 15 (inl (omega arith)))
 
 pub active-put-scheduler : (ws : List ℕ) (s : SchedulerState) (j : ℕ) → activeAt (putScheduler ws s) j ≡ activeAt ws j
 unfolding activeAt putScheduler
-active-put-scheduler ws s j = ap activeOf (row-put-other ws 17 (schedulerWords s) (19488 + j * 5) 5 (inl (omega arith)))
+active-put-scheduler ws s j = ap activeOf (row-put-other ws 18 (schedulerWords s) (19488 + j * 5) 5 (inl (omega arith)))
 
 -- AFTER A STORE OF A KNOWN STREAM
 
@@ -323,11 +323,11 @@ options-put-known ws i k = ap optionsOf (row-put-other ws (32 + i * 2) (knownWor
 
 pub totals-put-known : (ws : List ℕ) (i : ℕ) (k : Known) → totalsAt (putKnown ws i k) ≡ totalsAt ws
 unfolding totalsAt putKnown
-totals-put-known ws i k = ap totalsOf (row-put-other ws (32 + i * 2) (knownWords k) 7 10 (inr (omega arith)))
+totals-put-known ws i k = ap totalsOf (row-put-other ws (32 + i * 2) (knownWords k) 7 11 (inr (omega arith)))
 
 pub scheduler-put-known : (ws : List ℕ) (i : ℕ) (k : Known) → schedulerAt (putKnown ws i k) ≡ schedulerAt ws
 unfolding schedulerAt putKnown
-scheduler-put-known ws i k = ap schedulerOf (row-put-other ws (32 + i * 2) (knownWords k) 17 3 (inr (omega arith)))
+scheduler-put-known ws i k = ap schedulerOf (row-put-other ws (32 + i * 2) (knownWords k) 18 3 (inr (omega arith)))
 
 pub stream-put-known : (ws : List ℕ) (i : ℕ) (k : Known) (j : ℕ) → i < 256 → streamAt (putKnown ws i k) j ≡ streamAt ws j
 unfolding streamAt putKnown
@@ -349,11 +349,11 @@ options-put-stream ws i s = ap optionsOf (row-put-other ws (544 + i * 10) (strea
 
 pub totals-put-stream : (ws : List ℕ) (i : ℕ) (s : OutgoingStream) → totalsAt (putStream ws i s) ≡ totalsAt ws
 unfolding totalsAt putStream
-totals-put-stream ws i s = ap totalsOf (row-put-other ws (544 + i * 10) (streamWords s) 7 10 (inr (omega arith)))
+totals-put-stream ws i s = ap totalsOf (row-put-other ws (544 + i * 10) (streamWords s) 7 11 (inr (omega arith)))
 
 pub scheduler-put-stream : (ws : List ℕ) (i : ℕ) (s : OutgoingStream) → schedulerAt (putStream ws i s) ≡ schedulerAt ws
 unfolding schedulerAt putStream
-scheduler-put-stream ws i s = ap schedulerOf (row-put-other ws (544 + i * 10) (streamWords s) 17 3 (inr (omega arith)))
+scheduler-put-stream ws i s = ap schedulerOf (row-put-other ws (544 + i * 10) (streamWords s) 18 3 (inr (omega arith)))
 
 pub known-put-stream : (ws : List ℕ) (i : ℕ) (s : OutgoingStream) (j : ℕ) → j < 256 → knownAt (putStream ws i s) j ≡ knownAt ws j
 unfolding knownAt putStream
@@ -375,11 +375,11 @@ options-put-item ws i m = ap optionsOf (row-put-other ws (3104 + i * 16) (itemWo
 
 pub totals-put-item : (ws : List ℕ) (i : ℕ) (m : Item) → totalsAt (putItem ws i m) ≡ totalsAt ws
 unfolding totalsAt putItem
-totals-put-item ws i m = ap totalsOf (row-put-other ws (3104 + i * 16) (itemWords m) 7 10 (inr (omega arith)))
+totals-put-item ws i m = ap totalsOf (row-put-other ws (3104 + i * 16) (itemWords m) 7 11 (inr (omega arith)))
 
 pub scheduler-put-item : (ws : List ℕ) (i : ℕ) (m : Item) → schedulerAt (putItem ws i m) ≡ schedulerAt ws
 unfolding schedulerAt putItem
-scheduler-put-item ws i m = ap schedulerOf (row-put-other ws (3104 + i * 16) (itemWords m) 17 3 (inr (omega arith)))
+scheduler-put-item ws i m = ap schedulerOf (row-put-other ws (3104 + i * 16) (itemWords m) 18 3 (inr (omega arith)))
 
 pub known-put-item : (ws : List ℕ) (i : ℕ) (m : Item) (j : ℕ) → j < 256 → knownAt (putItem ws i m) j ≡ knownAt ws j
 unfolding knownAt putItem
@@ -401,11 +401,11 @@ options-put-active ws i a = ap optionsOf (row-put-other ws (19488 + i * 5) (acti
 
 pub totals-put-active : (ws : List ℕ) (i : ℕ) (a : ActiveStreamInfo) → totalsAt (putActive ws i a) ≡ totalsAt ws
 unfolding totalsAt putActive
-totals-put-active ws i a = ap totalsOf (row-put-other ws (19488 + i * 5) (activeWords a) 7 10 (inr (omega arith)))
+totals-put-active ws i a = ap totalsOf (row-put-other ws (19488 + i * 5) (activeWords a) 7 11 (inr (omega arith)))
 
 pub scheduler-put-active : (ws : List ℕ) (i : ℕ) (a : ActiveStreamInfo) → schedulerAt (putActive ws i a) ≡ schedulerAt ws
 unfolding schedulerAt putActive
-scheduler-put-active ws i a = ap schedulerOf (row-put-other ws (19488 + i * 5) (activeWords a) 17 3 (inr (omega arith)))
+scheduler-put-active ws i a = ap schedulerOf (row-put-other ws (19488 + i * 5) (activeWords a) 18 3 (inr (omega arith)))
 
 pub known-put-active : (ws : List ℕ) (i : ℕ) (a : ActiveStreamInfo) (j : ℕ) → j < 256 → knownAt (putActive ws i a) j ≡ knownAt ws j
 unfolding knownAt putActive
@@ -436,11 +436,11 @@ options-put-next ws i v = ap optionsOf (row-word-other ws (3104 + i * 16 + 14) v
 
 pub totals-put-next : (ws : List ℕ) (i v : ℕ) → totalsAt (putNext ws i v) ≡ totalsAt ws
 unfolding totalsAt putNext
-totals-put-next ws i v = ap totalsOf (row-word-other ws (3104 + i * 16 + 14) v 7 10 (inr (omega arith)))
+totals-put-next ws i v = ap totalsOf (row-word-other ws (3104 + i * 16 + 14) v 7 11 (inr (omega arith)))
 
 pub scheduler-put-next : (ws : List ℕ) (i v : ℕ) → schedulerAt (putNext ws i v) ≡ schedulerAt ws
 unfolding schedulerAt putNext
-scheduler-put-next ws i v = ap schedulerOf (row-word-other ws (3104 + i * 16 + 14) v 17 3 (inr (omega arith)))
+scheduler-put-next ws i v = ap schedulerOf (row-word-other ws (3104 + i * 16 + 14) v 18 3 (inr (omega arith)))
 
 pub known-put-next : (ws : List ℕ) (i v j : ℕ) → j < 256 → knownAt (putNext ws i v) j ≡ knownAt ws j
 unfolding knownAt putNext
@@ -469,11 +469,11 @@ options-put-place ws i v = ap optionsOf (row-word-other ws (3104 + i * 16 + 11) 
 
 pub totals-put-place : (ws : List ℕ) (i v : ℕ) → totalsAt (putPlace ws i v) ≡ totalsAt ws
 unfolding totalsAt putPlace
-totals-put-place ws i v = ap totalsOf (row-word-other ws (3104 + i * 16 + 11) v 7 10 (inr (omega arith)))
+totals-put-place ws i v = ap totalsOf (row-word-other ws (3104 + i * 16 + 11) v 7 11 (inr (omega arith)))
 
 pub scheduler-put-place : (ws : List ℕ) (i v : ℕ) → schedulerAt (putPlace ws i v) ≡ schedulerAt ws
 unfolding schedulerAt putPlace
-scheduler-put-place ws i v = ap schedulerOf (row-word-other ws (3104 + i * 16 + 11) v 17 3 (inr (omega arith)))
+scheduler-put-place ws i v = ap schedulerOf (row-word-other ws (3104 + i * 16 + 11) v 18 3 (inr (omega arith)))
 
 pub known-put-place : (ws : List ℕ) (i v j : ℕ) → j < 256 → knownAt (putPlace ws i v) j ≡ knownAt ws j
 unfolding knownAt putPlace
@@ -502,11 +502,11 @@ options-put-length ws i v = ap optionsOf (row-word-other ws (3104 + i * 16 + 12)
 
 pub totals-put-length : (ws : List ℕ) (i v : ℕ) → totalsAt (putLength ws i v) ≡ totalsAt ws
 unfolding totalsAt putLength
-totals-put-length ws i v = ap totalsOf (row-word-other ws (3104 + i * 16 + 12) v 7 10 (inr (omega arith)))
+totals-put-length ws i v = ap totalsOf (row-word-other ws (3104 + i * 16 + 12) v 7 11 (inr (omega arith)))
 
 pub scheduler-put-length : (ws : List ℕ) (i v : ℕ) → schedulerAt (putLength ws i v) ≡ schedulerAt ws
 unfolding schedulerAt putLength
-scheduler-put-length ws i v = ap schedulerOf (row-word-other ws (3104 + i * 16 + 12) v 17 3 (inr (omega arith)))
+scheduler-put-length ws i v = ap schedulerOf (row-word-other ws (3104 + i * 16 + 12) v 18 3 (inr (omega arith)))
 
 pub known-put-length : (ws : List ℕ) (i v j : ℕ) → j < 256 → knownAt (putLength ws i v) j ≡ knownAt ws j
 unfolding knownAt putLength

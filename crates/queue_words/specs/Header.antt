@@ -1,4 +1,4 @@
--- The header: the options from word 0, the totals from word 7, the scheduler's state from word 17. Assumes nothing.
+-- The header: the options from word 0, the totals from word 7, the scheduler's state from word 18. Assumes nothing.
 use Prim.Native.Nat.{ℕ, _%_, _<_}
 use mathlib.Core.Bool.{Bool, true, false}
 use mathlib.Core.List.{List, [], _∷_}
@@ -33,7 +33,7 @@ abbrev pub optionsWords : Options → List ℕ
 optionsWords o = o .«payload_limit» ∷ o .«default_priority» ∷ bit (o .«handover_with_data»)
     ∷ o .«store_length» ∷ o .«default_threshold» ∷ o .«total_threshold» ∷ bit (o .«strict_restart») ∷ []
 
--- the totals in ten words
+-- the totals in eleven words
 abbrev pub totalsOf : List ℕ → Totals
 totalsOf vs = record {
   interleaving = flag (getD vs 0 0);
@@ -43,13 +43,13 @@ totalsOf vs = record {
   waiting = getD vs 4 0;
   free = getD vs 5 0;
   used = getD vs 6 0;
-  gaps = record { end = getD vs 7 0; limit = getD vs 8 0; front = getD vs 9 0 };
+  gaps = record { end = getD vs 7 0; limit = getD vs 8 0; from = getD vs 9 0; upto = getD vs 10 0 };
 }
 
 -- the words of the totals
 abbrev pub totalsWords : Totals → List ℕ
 totalsWords t = bit (t .interleaving) ∷ t .«next_message_id» .0 ∷ t .total ∷ t .known ∷ t .waiting ∷ t .free ∷ t .used
-    ∷ t .gaps .end ∷ t .gaps .limit ∷ t .gaps .front ∷ []
+    ∷ t .gaps .end ∷ t .gaps .limit ∷ t .gaps .from ∷ t .gaps .upto ∷ []
 
 -- the scheduler's state in three words
 abbrev pub schedulerOf : List ℕ → SchedulerState
@@ -67,16 +67,16 @@ abbrev pub optionsIn : List ℕ → Options → List ℕ
 optionsIn ws o = putRow ws 0 (optionsWords o)
 
 abbrev pub totalsOut : List ℕ → Totals
-totalsOut ws = totalsOf (row ws 7 10)
+totalsOut ws = totalsOf (row ws 7 11)
 
 abbrev pub totalsIn : List ℕ → Totals → List ℕ
 totalsIn ws t = putRow ws 7 (totalsWords t)
 
 abbrev pub schedulerOut : List ℕ → SchedulerState
-schedulerOut ws = schedulerOf (row ws 17 3)
+schedulerOut ws = schedulerOf (row ws 18 3)
 
 abbrev pub schedulerIn : List ℕ → SchedulerState → List ℕ
-schedulerIn ws s = putRow ws 17 (schedulerWords s)
+schedulerIn ws s = putRow ws 18 (schedulerWords s)
 
 -- the options, the totals and the scheduler's state of the words
 unfoldable pub optionsAt : List ℕ → Options

@@ -1,4 +1,4 @@
-// The header: the creation's arguments from word 0, the totals from word 7, the scheduler's state from word 17.
+// The header: the creation's arguments from word 0, the totals from word 7, the scheduler's state from word 18.
 ghost use mathlib.Core.Path.{_≡_};
 ghost use Rattle.queue_words.specs.Header.{isStrict, optionsOut, optionsIn, optionsAt, putOptions, FitsOptions};
 ghost use Rattle.queue_words.specs.Header.{totalsOut, totalsIn, totalsAt, putTotals, FitsTotals};
@@ -10,7 +10,7 @@ const OPTIONS: usize = 0;
 
 const TOTALS: usize = 7;
 
-const SCHEDULER: usize = 17;
+const SCHEDULER: usize = 18;
 
 // Document 02, 6/13: "Creation chooses the rule, as in the Rust or strict." How a whole-queue reset puts a half-sent message back: with its numbers, as dcSCTP does, or as one
 // that was never begun, as RFC 8260 has it.
@@ -42,11 +42,12 @@ pub struct Options {
     pub strict_restart: bool,
 }
 
-// Free bytes of the store that are known: from `end` up to `limit`, where the next payload goes, and those below `front`.
+// Free bytes of the store that are known: those from `end` up to `limit`, where the next payload goes, and those from `from` up to `upto`.
 pub struct Gaps {
     pub end: u64,
     pub limit: u64,
-    pub front: u64,
+    pub from: u64,
+    pub upto: u64,
 }
 
 pub struct Totals {
@@ -130,7 +131,8 @@ fn totals_out(queue: &[u64; QUEUE_WORDS]) -> Totals
         gaps: Gaps {
             end: queue[TOTALS + 7],
             limit: queue[TOTALS + 8],
-            front: queue[TOTALS + 9],
+            from: queue[TOTALS + 9],
+            upto: queue[TOTALS + 10],
         },
     }
 }
@@ -147,7 +149,8 @@ fn totals_in(queue: &mut [u64; QUEUE_WORDS], t: Totals)
     queue[TOTALS + 6] = t.used;
     queue[TOTALS + 7] = t.gaps.end;
     queue[TOTALS + 8] = t.gaps.limit;
-    queue[TOTALS + 9] = t.gaps.front;
+    queue[TOTALS + 9] = t.gaps.from;
+    queue[TOTALS + 10] = t.gaps.upto;
 }
 
 pub fn load_totals(queue: &[u64; QUEUE_WORDS]) -> Totals

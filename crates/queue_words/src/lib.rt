@@ -2,9 +2,9 @@
 //
 //     words               holds                                     rows   words a row, of which used
 //         0 to     6      Options, what the queue was created with     1       7   7
-//         7 to    16      Totals                                       1      10  10
-//        17 to    19      SchedulerState                               1       3   3
-//        20 to    31      nothing
+//         7 to    17      Totals                                       1      11  11
+//        18 to    20      SchedulerState                               1       3   3
+//        21 to    31      nothing
 //        32 to   543      Known, the known streams by rising id      256       2   2
 //       544 to  3103      OutgoingStream, the streams                256      10   9
 //      3104 to 19487      Item, the messages                        1024      16  15

@@ -23,7 +23,7 @@ emptyTotals t id = record {
   waiting = 0;
   free = 0;
   used = 0;
-  gaps = record { end = 0; limit = 0; front = 0 };
+  gaps = record { end = 0; limit = 0; from = 0; upto = 0 };
 }
 
 unfoldable pub emptied : List ℕ → ℕ → List ℕ

@@ -38,7 +38,8 @@ pub fn empty_queue(queue: &mut [u64; QUEUE_WORDS], next_message_id: u32)
             gaps: Gaps {
                 end: 0,
                 limit: 0,
-                front: 0,
+                from: 0,
+                upto: 0,
             },
         },
     );

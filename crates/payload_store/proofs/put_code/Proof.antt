@@ -67,7 +67,7 @@ returns-5 c =
     )
 
 gap-for-requires : tie.Need-gap-for-requires
-gap-for-requires c κs = let o = right-ordered _ _ (sym (c .before .gaps-wrong .ensures) ∙ (c .if5 .left)) in (o .front-in, o .end-in)
+gap-for-requires c κs = let o = right-ordered _ _ (sym (c .before .gaps-wrong .ensures) ∙ (c .if5 .left)) in (o .from-in, o .end-in)
 
 sub-if6 : tie.Need-sub-if6
 sub-if6 c = omega (arith, for-gap _ _ _ _ _ (c .before .before .before .gaps-wrong .ensures) (c .before .before .if5 .left) (c .before .gap-for .ensures))

@@ -7,26 +7,24 @@ use Rattle.payload_store.proofs.gaps.gap_for.Tie as tie
 
 returns : tie.Need-returns
 unfolding gapFor
-returns c =
-    rw
-    (
-    lt-ltb _ _ (c .if1 .taken)
-    )
+returns c = rw (lt-ltb _ _ (c .if1 .taken))
 
 returns-2 : tie.Need-returns-2
 unfolding gapFor
 returns-2 c =
     rw (
-      le-ltb _ _ (c .before .before .before .if1 .left),
-      le-leb _ _ (c .if2 .taken),
+      le-ltb _ _ (c .before .before .if1 .left),
+      ← (c .before .near .ensures),
+      (c .if2 .taken),
     )
 
 returns-3 : tie.Need-returns-3
 unfolding gapFor
 returns-3 c =
     rw (
-      le-ltb _ _ (c .before .before .before .before .before .if1 .left),
-      lt-leb _ _ (c .before .before .if2 .left),
+      le-ltb _ _ (c .before .before .before .before .if1 .left),
+      ← (c .before .before .before .near .ensures),
+      (c .before .before .if2 .left),
       le-leb _ _ (c .if3 .taken),
     )
 
@@ -34,8 +32,9 @@ returns-4 : tie.Need-returns-4
 unfolding gapFor
 returns-4 c =
     rw (
-      le-ltb _ _ (c .before .before .before .before .before .if1 .left),
-      lt-leb _ _ (c .before .before .if2 .left),
+      le-ltb _ _ (c .before .before .before .before .if1 .left),
+      ← (c .before .before .before .near .ensures),
+      (c .before .before .if2 .left),
       lt-leb _ _ (c .if3 .left),
     )
 
@@ -43,8 +42,9 @@ pub gap-for-spec : {M : Type 1} → statement M
 gap-for-spec =
     tie.close
     (tie.spec
-    returns
     (λ c. search needs)
+    returns
+    (λ c κs. search needs)
     returns-2
     (λ c. search needs)
     returns-3

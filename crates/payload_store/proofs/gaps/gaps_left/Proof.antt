@@ -1,33 +1,38 @@
 -- `payload_store::gaps::gaps_left` meets its contract: each return is what its definition says, by what the calls ensure and the tests taken. Assumes nothing.
 use borrow.Author.Needs.{needs}
-use borrow.Author.Tests.{eq-eqb, ne-eqb}
+use borrow.Author.Tests.{eq-eqb, ne-eqb, le-ltb, lt-ltb}
 use Rattle.payload_store.specs.Gaps.{gapsLeft}
 use Rattle.payload_store.proofs.gaps.gaps_left.Statement.{statement}
 use Rattle.payload_store.proofs.gaps.gaps_left.Tie as tie
 
 returns : tie.Need-returns
 unfolding gapsLeft
-returns c =
-    rw (
-      eq-eqb _ _ (c .before .if1 .taken),
-      ← (c .past .ensures),
-    )
+returns c = rw (lt-ltb _ _ (c .if1 .taken))
 
 returns-2 : tie.Need-returns-2
 unfolding gapsLeft
 returns-2 c =
     rw (
-      ne-eqb _ _ (c .before .before .before .if1 .left),
-      eq-eqb _ _ (c .before .if2 .taken),
-      ← (c .past2 .ensures),
+      le-ltb _ _ (c .before .before .if1 .left),
+      eq-eqb _ _ (c .if2 .taken),
     )
 
 returns-3 : tie.Need-returns-3
 unfolding gapsLeft
 returns-3 c =
     rw (
-      ne-eqb _ _ (c .before .before .if1 .left),
-      ne-eqb _ _ (c .if2 .left),
+      le-ltb _ _ (c .before .before .before .before .if1 .left),
+      ne-eqb _ _ (c .before .before .if2 .left),
+      eq-eqb _ _ (c .if3 .taken),
+    )
+
+returns-4 : tie.Need-returns-4
+unfolding gapsLeft
+returns-4 c =
+    rw (
+      le-ltb _ _ (c .before .before .before .before .if1 .left),
+      ne-eqb _ _ (c .before .before .if2 .left),
+      ne-eqb _ _ (c .if3 .left),
     )
 
 pub gaps-left-spec : {M : Type 1} → statement M
@@ -38,4 +43,5 @@ gaps-left-spec =
     returns
     (λ c. search needs)
     returns-2
-    returns-3)
+    returns-3
+    returns-4)

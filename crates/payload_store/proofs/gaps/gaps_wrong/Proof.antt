@@ -7,11 +7,7 @@ use Rattle.payload_store.proofs.gaps.gaps_wrong.Tie as tie
 
 returns : tie.Need-returns
 unfolding gapsWrong
-returns c =
-    rw
-    (
-    lt-ltb _ _ (c .if1 .taken)
-    )
+returns c = rw (lt-ltb _ _ (c .if1 .taken))
 
 returns-2 : tie.Need-returns-2
 unfolding gapsWrong
@@ -25,8 +21,18 @@ returns-3 : tie.Need-returns-3
 unfolding gapsWrong
 returns-3 c =
     rw (
-      le-ltb _ _ (c .before .before .before .if1 .left),
-      le-ltb _ _ (c .before .if2 .left),
+      le-ltb _ _ (c .before .before .before .before .if1 .left),
+      le-ltb _ _ (c .before .before .if2 .left),
+      lt-ltb _ _ (c .if3 .taken),
+    )
+
+returns-4 : tie.Need-returns-4
+unfolding gapsWrong
+returns-4 c =
+    rw (
+      le-ltb _ _ (c .before .before .before .before .before .if1 .left),
+      le-ltb _ _ (c .before .before .before .if2 .left),
+      le-ltb _ _ (c .before .if3 .left),
     )
 
 pub gaps-wrong-spec : {M : Type 1} → statement M
@@ -35,4 +41,5 @@ gaps-wrong-spec =
     (tie.spec
     returns
     returns-2
-    returns-3)
+    returns-3
+    returns-4)

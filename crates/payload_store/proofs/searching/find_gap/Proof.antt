@@ -13,7 +13,7 @@ search-requires : tie.Need-search-requires
 search-requires c κs = (c .pre)
 
 sub-if1 : tie.Need-sub-if1
-sub-if1 c = omega (arith, search-gap _ _ _ _ _ _ _ (c .before .search .ensures) ((c .before .before .pre) .0) ((c .before .before .pre) .1))
+sub-if1 c = omega (arith, search-gap _ _ _ _ _ _ (c .before .search .ensures) ((c .before .before .pre) .0) ((c .before .before .pre) .1))
 
 returns : tie.Need-returns
 unfolding found

@@ -10,10 +10,10 @@ use Rattle.payload_store.proofs.searching.search.Statement.{statement}
 use Rattle.payload_store.proofs.searching.search.Tie as tie
 
 abbrev Inv-loop : tie.InvT-loop
-Inv-loop queue len n front from at₀ left₀ at left = (at ≤ len) × (left ≤ 4) × (search queue len n front at left ≡ search queue len n front from 4)
+Inv-loop queue len n from at₀ left₀ at left = (at ≤ len) × (left ≤ 4) × (search queue len n at left ≡ search queue len n from 4)
 
 abbrev μ-loop : tie.MeasureT-loop
-μ-loop queue len n front from at₀ left₀ at left = left
+μ-loop queue len n from at₀ left₀ at left = left
 
 loop-holds : tie.Need-loop-holds Inv-loop μ-loop
 loop-holds c = ((c .pre .1), omega arith, refl)
@@ -27,18 +27,18 @@ sub-if1 c =
     omega (arith, ap (λ (x : Ahead). x .limit) (c .before .look .ensures), s .above)
 
 returns : tie.Need-returns Inv-loop μ-loop
-returns c = turn-here _ _ _ _ _ _ _ (c .before .before .look .ensures) (c .before .before .before .loop-test .taken) (c .if1 .taken) ∙ (c .before .before .before .before .loop .inv .2)
+returns c = turn-here _ _ _ _ _ _ (c .before .before .look .ensures) (c .before .before .before .loop-test .taken) (c .if1 .taken) ∙ (c .before .before .before .before .loop .inv .2)
 
 loop-again : tie.Need-loop-again Inv-loop μ-loop
 loop-again c =
     let s = look-seen _ _ _ (c .before .before .before .before .before .pre .0) (c .before .before .before .before .loop .inv .0) in (
       omega (arith, ap (λ (x : Ahead). x .after) (c .before .before .look .ensures), s .in-store),
       omega (arith, (c .before .before .before .before .loop .inv .1)),
-      turn-on _ _ _ _ _ _ _ (c .before .before .look .ensures) (c .before .before .before .loop-test .taken) (c .if1 .left) ∙ (c .before .before .before .before .loop .inv .2),
+      turn-on _ _ _ _ _ _ (c .before .before .look .ensures) (c .before .before .before .loop-test .taken) (c .if1 .left) ∙ (c .before .before .before .before .loop .inv .2),
     )
 
 returns-2 : tie.Need-returns-2 Inv-loop μ-loop
-returns-2 c = sym (search-out _ _ _ _ _ _ (c .loop-test .left)) ∙ (c .before .loop .inv .2)
+returns-2 c = sym (search-out _ _ _ _ _ (c .loop-test .left)) ∙ (c .before .loop .inv .2)
 
 pub search-spec : {M : Type 1} → statement M
 search-spec =
