@@ -1,154 +1,250 @@
 -- Searching a gap: what is found lies in the store, and every payload is clear of it. Assumes nothing.
 use mathlib.Core.Path.{_≡_, refl, sym, ap, _∙_}
 use mathlib.Core.Logic.{_⊎_, inl, inr, ⊎-elim}
-use mathlib.Core.Bool.{Bool, true, false}
 use mathlib.Core.List.{List}
-use Prim.Native.Nat.{ℕ, zero, suc, _+_, _-_, _≤_, _<_}
+use Prim.Native.Nat.{ℕ, zero, suc, _+_, _-_, _*_, _/_, _≤_, _<_}
 use native.Mathlib.Omega.{arith}
-use borrow.Author.Tests.{le-leb, lt-leb}
-use lib.Dec.{leb}
-use lib.ListN.{length}
-use Rattle.queue_words.specs.Flags.{pick}
+use native.Mathlib.Nat.{div-lt-iff-lt-mul, div-mul-le-self}
+use native.Mathlib.Numerals.{add-one}
+use borrow.Author.Tests.{lt-ltb, le-ltb, le-leb, lt-leb, eq-eqb, ne-eqb}
+use lib.ListN.{length, getD, set, replicate, length-set, length-replicate}
+use lib.Seq.{getD-set-same, getD-set-other}
 use Rattle.queue_words.specs.declared.header.Gaps.{Gaps}
-use Rattle.payload_store.specs.declared.searching.Ahead.{Ahead}
+use Rattle.payload_store.specs.declared.searching.Run.{Run}
 use Rattle.payload_store.specs.Words.{placeOf, sizeOf}
-use Rattle.payload_store.specs.Moving.{least, Fits}
-use Rattle.payload_store.specs.Gaps.{gaps, room}
-use Rattle.payload_store.specs.Searching.{looks, lookRow, lookAt, search, found}
+use Rattle.payload_store.specs.Moving.{Fits}
+use Rattle.payload_store.specs.Gaps.{gaps}
+use Rattle.payload_store.specs.Searching.{marked, pieces, touched, touchedTo, run, runOn, runTo, bytesOf, found}
 use Rattle.payload_store.specs.Good.{ClearOf, Lay}
 use Rattle.payload_store.proofs.Cases.{by-index, by-lt}
-use Rattle.payload_store.proofs.Choice.{Least, least-law}
 use Rattle.payload_store.proofs.Clear.{Ordered, lay-with}
 
-module _ (ws : List ℕ) (len : ℕ) where
-  pub look-none : (c : ℕ) → 1024 ≤ least ws c 1024 → lookAt ws len c ≡ looks len len
-  unfolding lookAt lookRow
-  look-none c h = rw (le-leb 1024 (least ws c 1024) h)
+-- marking
+module _ (ms : List ℕ) (a : ℕ) where
+  pub marked-length : (k : ℕ) → length (marked ms a k) ≡ length ms
+  unfolding marked
+  marked-length zero = refl
+  marked-length (suc k) = length-set (marked ms a k) (a + k) 1 ∙ marked-length k
 
-  pub look-some : (c r : ℕ) → r ≡ least ws c 1024 → r < 1024 → lookAt ws len c ≡ looks (placeOf ws r) (placeOf ws r + sizeOf ws r)
-  unfolding lookAt lookRow
-  look-some c r e h = rw (← e, lt-leb 1024 r h)
+  pub mark-step : (ns : List ℕ) (k : ℕ) → ns ≡ marked ms a k → set ns (a + k) 1 ≡ marked ms a (k + 1)
+  unfolding marked
+  mark-step ns k e = rw (add-one, e)
 
-  -- what a look sees: in the store, at or above where it is from
-  pub record Seen (c : ℕ) (l : Ahead) : Type 0 where
-    pub above : c ≤ l .limit
-    pub in-order : l .limit ≤ l .after
-    pub in-store : l .after ≤ len
+  -- a piece has its mark, and keeps it
+  marked-at : (k j : ℕ) → a + k ≤ length ms → a ≤ j → j < a + k → getD (marked ms a k) j 0 ≡ 1
+  unfolding marked
+  marked-at zero j h l q = absurd (omega arith)
+  marked-at (suc k) j h l q = by-index (a + k) j
+      (λ e. rw (← e) (getD-set-same (marked ms a k) (a + k) 1 0 (omega (arith, marked-length k))))
+      (λ ne. getD-set-other (marked ms a k) (a + k) j 1 0 (λ e. ne (sym e)) ∙ marked-at k j (omega arith) l (omega arith))
 
-  pub look-seen : (c : ℕ) → Fits ws len → c ≤ len → Seen c (lookAt ws len c)
-  look-seen c f h = by-lt (least ws c 1024) 1024
-      (λ b. rw (look-some c (least ws c 1024) refl b)
-      (record { above = least-law ws c 1024 (omega arith) .above b; in-order = omega arith; in-store = f .inside (least ws c 1024) b }))
-      (λ b. rw (look-none c b) (record { above = h; in-order = omega arith; in-store = omega arith }))
+  marked-stays : (k j : ℕ) → a + k ≤ length ms → getD ms j 0 ≡ 1 → getD (marked ms a k) j 0 ≡ 1
+  unfolding marked
+  marked-stays zero j h e = e
+  marked-stays (suc k) j h e = by-index (a + k) j
+      (λ q. rw (← q) (getD-set-same (marked ms a k) (a + k) 1 0 (omega (arith, marked-length k))))
+      (λ ne. getD-set-other (marked ms a k) (a + k) j 1 0 (λ e. ne (sym e)) ∙ marked-stays k j (omega arith) e)
 
--- the steps of the search
-module _ (ws : List ℕ) (len n : ℕ) where
-  pub search-here : (c k : ℕ) → 0 < k → n ≤ lookAt ws len c .limit - c → search ws len n c k ≡ gaps c (lookAt ws len c .limit) 0 0
-  unfolding search
-  search-here c zero h a = absurd (omega arith)
-  search-here c (suc k) h a = rw (le-leb n (lookAt ws len c .limit - c) a)
+-- byte x lies in piece x / 4096
+pub piece-low : (x : ℕ) → x / 4096 * 4096 ≤ x
+piece-low x = div-mul-le-self x 4096
 
-  pub search-on : (c k : ℕ) → 0 < k → lookAt ws len c .limit - c < n → search ws len n c k ≡ search ws len n (lookAt ws len c .after) (k - 1)
-  unfolding search
-  search-on c zero h a = absurd (omega arith)
-  search-on c (suc k) h a =
-      let z : k ≡ suc k - 1 = omega arith in
-      rw (lt-leb n (lookAt ws len c .limit - c) a) (ap (search ws len n (lookAt ws len c .after)) z)
+pub piece-high : (x : ℕ) → x < (x / 4096 + 1) * 4096
+piece-high x = (div-lt-iff-lt-mul {k = 4096} {x = x} {y = x / 4096 + 1} (omega arith)) .0 (omega arith)
 
-  pub search-out : (c k : ℕ) → k ≤ 0 → search ws len n c k ≡ gaps c c 0 0
-  unfolding search
-  search-out c zero h = refl
-  search-out c (suc k) h = absurd (omega arith)
+pieces-none : (p n : ℕ) → n ≡ 0 → pieces p n ≡ 0
+unfolding pieces
+pieces-none p n e = rw (eq-eqb n 0 e)
 
-  -- one turn of the loop
-  pub turn-here : (c k : ℕ) (x : Ahead) → x ≡ lookAt ws len c → 0 < k → n ≤ x .limit - c → gaps c (x .limit) 0 0 ≡ search ws len n c k
-  turn-here c k x e h a = rw e (sym (search-here c k h (rw e at a)))
+pieces-some : (p n : ℕ) → (n ≡ 0 → ⊥) → pieces p n ≡ (p + n) / 4096 - p / 4096 + 1
+unfolding pieces
+pieces-some p n e = rw (ne-eqb n 0 e)
 
-  pub turn-on : (c k : ℕ) (x : Ahead) → x ≡ lookAt ws len c → 0 < k → x .limit - c < n → search ws len n (x .after) (k - 1) ≡ search ws len n c k
-  turn-on c k x e h a = rw e (sym (search-on c k h (rw e at a)))
+-- the marks of a payload are among the 512
+pub pieces-in : (p n : ℕ) → p + n ≤ 2097151 → p / 4096 + pieces p n ≤ 512
+pieces-in p n h = by-index n 0
+    (λ e. omega (arith, pieces-none p n e, piece-low p))
+    (λ ne. omega (arith, pieces-some p n ne, piece-low p, piece-low (p + n), piece-high (p + n)))
 
-  -- on any words whose payloads lie in the store
-  pub search-ordered : (c k : ℕ) → Fits ws len → c ≤ len → (search ws len n c k .end ≤ search ws len n c k .limit) × (search ws len n c k .limit ≤ len)
-  search-ordered c zero t h = rw (search-out c 0 (omega arith)) (omega arith, h)
-  search-ordered c (suc k) t h =
-      let s = look-seen ws len c t h in
-      let z : suc k - 1 ≡ k = omega arith in
-      by-lt (lookAt ws len c .limit - c) n
-      (λ a. rw (search-on c (suc k) (omega arith) a, z) (search-ordered (lookAt ws len c .after) k t (s .in-store)))
-      (λ a. rw (search-here c (suc k) (omega arith) a) (s .above, omega (arith, s .in-order, s .in-store)))
+pub piece-up : (p n : ℕ) → p / 4096 ≤ (p + n) / 4096
+piece-up p n = omega (arith, piece-low p, piece-high (p + n))
 
-module _ (ws st : List ℕ) (g : Gaps) (l : Lay ws st g) (c : ℕ) (ci : c ≤ length st) (s : ClearOf ws c c) where
-  fits : Fits ws (length st)
-  fits = record { inside = l .inside }
+-- the steps of mark_row
+pub pieces-fit : (ws ms : List ℕ) (i p n k : ℕ) → p ≡ placeOf ws i → n ≡ sizeOf ws i → k ≡ pieces p n → placeOf ws i + sizeOf ws i ≤ 2097151 → length ms ≡ 512
+    → p / 4096 + k ≤ length ms
+pieces-fit ws ms i p n k ep en ek h l = omega (arith, pieces-in p n (omega arith))
 
-  seen : Seen ws (length st) c (lookAt ws (length st) c)
-  seen = look-seen ws (length st) c fits ci
+pub row-touched : (ws ms ms′ : List ℕ) (i p n k : ℕ) → p ≡ placeOf ws i → n ≡ sizeOf ws i → k ≡ pieces p n → ms′ ≡ marked ms (p / 4096) k → ms′ ≡ touched ws ms i
+unfolding touched
+row-touched ws ms ms′ i p n k ep en ek em = em ∙ rw (ek, ep, en)
 
-  sides-limit : ClearOf ws c (lookAt ws (length st) c .limit)
-  sides-limit i h z =
-      let q = least-law ws c 1024 (omega arith) in
-      ⊎-elim (λ a. inl a)
-      (λ a. inr (rw (look-some ws (length st) c (least ws c 1024) refl (q .some i h z a)) (q .first i h z a)))
-      (s i h z)
+-- the rows
+module _ (ws : List ℕ) (f : Fits ws 2097151) where
+  pub touched-length : (ms : List ℕ) (i : ℕ) → length (touched ws ms i) ≡ length ms
+  unfolding touched
+  touched-length ms i = marked-length ms (placeOf ws i / 4096) (pieces (placeOf ws i) (sizeOf ws i))
 
-  sides-after : ClearOf ws (lookAt ws (length st) c .after) (lookAt ws (length st) c .after)
-  sides-after i h z =
-      let q = least-law ws c 1024 (omega arith) in
-      let r = least ws c 1024 in
-      ⊎-elim (λ a. inl (omega (arith, seen .above, seen .in-order)))
-      (λ a.
-      let b = q .some i h z a in
-      rw (look-some ws (length st) c r refl b) (by-index r i
-      (λ e. inl (omega (arith, ap (placeOf ws) e, ap (sizeOf ws) e)))
-      (λ ne. ⊎-elim (λ x. inr x) (λ x. absurd (omega (arith, q .first i h z a))) (l .apart r i b h ne (q .live b) z))))
-      (s i h z)
+  pub all-length : (n : ℕ) → length (touchedTo ws n) ≡ 512
+  unfolding touchedTo
+  all-length zero = length-replicate {A = ℕ} 512 0
+  all-length (suc n) = touched-length (touchedTo ws n) n ∙ all-length n
 
--- a gap by itself, clear of every payload
-alone : (ws st : List ℕ) (g : Gaps) (c v : ℕ) → Lay ws st g → c ≤ v → v ≤ length st → ClearOf ws c v → Lay ws st (gaps c v 0 0)
-alone ws st g c v l cv vi s =
-    lay-with ws st g (gaps c v 0 0) l (record { limit-in = vi; end-in = cv; upto-in = omega arith; from-in = omega arith }) (inl (omega arith)) s (λ i h z. inr (omega arith))
+  -- every piece that row i's payload touches is marked
+  abbrev Touches : List ℕ → ℕ → Type 0
+  Touches ms i = (k : ℕ) → placeOf ws i / 4096 ≤ k → k ≤ (placeOf ws i + sizeOf ws i) / 4096 → getD ms k 0 ≡ 1
 
--- THE THEOREM of the search: whatever is found, every payload is clear of it
-pub search-lay : (ws st : List ℕ) (g : Gaps) (n c k : ℕ) → Lay ws st g → c ≤ length st → ClearOf ws c c → Lay ws st (search ws (length st) n c k)
-search-lay ws st g n c zero l ci s = rw (search-out ws (length st) n c 0 (omega arith)) (alone ws st g c c l (omega arith) ci s)
-search-lay ws st g n c (suc k) l ci s =
-    let v = seen ws st g l c ci s in
-    let z : suc k - 1 ≡ k = omega arith in
-    by-lt (lookAt ws (length st) c .limit - c) n
-    (λ a. rw (search-on ws (length st) n c (suc k) (omega arith) a, z)
-    (search-lay ws st g n (lookAt ws (length st) c .after) k l (v .in-store) (sides-after ws st g l c ci s)))
-    (λ a. rw (search-here ws (length st) n c (suc k) (omega arith) a)
-    (alone ws st g c (lookAt ws (length st) c .limit) l (v .above) (omega (arith, v .in-order, v .in-store)) (sides-limit ws st g l c ci s)))
+  touches-own : (ms : List ℕ) (i : ℕ) → i < 1024 → length ms ≡ 512 → 1 ≤ sizeOf ws i → Touches (touched ws ms i) i
+  unfolding touched
+  touches-own ms i h l s k a b =
+      let c = pieces-some (placeOf ws i) (sizeOf ws i) (λ e. omega arith) in
+      marked-at ms (placeOf ws i / 4096) (pieces (placeOf ws i) (sizeOf ws i)) k
+      (omega (arith, pieces-in (placeOf ws i) (sizeOf ws i) (f .inside i h))) a (omega arith)
 
-pub found-lay : (ws st : List ℕ) (g : Gaps) (n : ℕ) → Lay ws st g → Lay ws st (found ws (length st) n g)
-unfolding found
-found-lay ws st g n l = go (leb n (room (search ws (length st) n (g .end) 4)))
-  where
-    up : Lay ws st (search ws (length st) n (g .end) 4)
-    up =
-        search-lay ws st g n (g .end) 4 l (omega (arith, l .end-in, l .limit-in))
-        (λ i h s. ⊎-elim (λ a. inl a) (λ a. inr (omega (arith, l .end-in))) (l .clear i h s))
+  touches-stay : (ms : List ℕ) (i j : ℕ) → i < 1024 → length ms ≡ 512 → Touches ms j → Touches (touched ws ms i) j
+  unfolding touched
+  touches-stay ms i j h l t k a b =
+      marked-stays ms (placeOf ws i / 4096) (pieces (placeOf ws i) (sizeOf ws i)) k
+      (omega (arith, pieces-in (placeOf ws i) (sizeOf ws i) (f .inside i h))) (t k a b)
 
-    low : Lay ws st (search ws (length st) n 0 4)
-    low = search-lay ws st g n 0 4 l (omega arith) (λ i h s. inr (omega arith))
+  touches-all : (n i : ℕ) → n ≤ 1024 → i < n → 1 ≤ sizeOf ws i → Touches (touchedTo ws n) i
+  unfolding touchedTo
+  touches-all zero i h l s = absurd (omega arith)
+  touches-all (suc n) i h l s = by-index n i
+      (λ e. rw (← e) (touches-own (touchedTo ws n) n (omega arith) (all-length n) (rw (← e) at s)))
+      (λ ne. touches-stay (touchedTo ws n) n i (omega arith) (all-length n) (touches-all n i (omega arith) (omega arith) s))
 
-    go : (t : Bool) → Lay ws st (pick t (search ws (length st) n (g .end) 4) (search ws (length st) n 0 4))
-    go true = up
-    go false = low
+-- what the runs are, among the first n pieces
+pub record Runs (ms : List ℕ) (n : ℕ) (r : Run) : Type 0 where
+  pub start-in : r .start ≤ n
+  pub start-free : (k : ℕ) → r .start ≤ k → k < n → getD ms k 0 ≡ 0
+  pub upto-in : r .upto ≤ n
+  pub from-in : r .from ≤ r .upto
+  pub some : (r .upto ≡ 0) ⊎ (r .from < r .upto)
+  pub free : (k : ℕ) → r .from ≤ k → k < r .upto → getD ms k 0 ≡ 0
 
--- on any words whose payloads lie in the store
-pub found-ordered : (ws : List ℕ) (len n : ℕ) (g : Gaps) → Fits ws len → g .end ≤ len → (found ws len n g .end ≤ found ws len n g .limit) × (found ws len n g .limit ≤ len)
-unfolding found
-found-ordered ws len n g t h = go (leb n (room (search ws len n (g .end) 4)))
-  where
-    go : (b : Bool) → ((pick b (search ws len n (g .end) 4) (search ws len n 0 4)) .end ≤ (pick b (search ws len n (g .end) 4) (search ws len n 0 4)) .limit)
-        × ((pick b (search ws len n (g .end) 4) (search ws len n 0 4)) .limit ≤ len)
-    go true = search-ordered ws len n (g .end) 4 t h
-    go false = search-ordered ws len n 0 4 t (omega arith)
+module _ (ms : List ℕ) (n : ℕ) (r : Run) (g : Runs ms n r) where
+  runs-marked : Runs ms (suc n) (run (r .from) (r .upto) (n + 1))
+  runs-marked = record {
+    start-in = omega arith;
+    start-free = λ k a b. absurd (omega arith);
+    upto-in = omega (arith, g .upto-in);
+    from-in = g .from-in;
+    some = g .some;
+    free = g .free;
+  }
+
+  -- the run that goes on is free up to here
+  on : getD ms n 0 ≡ 0 → (k : ℕ) → r .start ≤ k → k < suc n → getD ms k 0 ≡ 0
+  on e k a b = by-index k n (λ q. rw q e) (λ ne. g .start-free k a (omega arith))
+
+  runs-same : getD ms n 0 ≡ 0 → Runs ms (suc n) r
+  runs-same e = record {
+    start-in = omega (arith, g .start-in);
+    start-free = on e;
+    upto-in = omega (arith, g .upto-in);
+    from-in = g .from-in;
+    some = g .some;
+    free = g .free;
+  }
+
+  runs-longer : getD ms n 0 ≡ 0 → Runs ms (suc n) (run (r .start) (n + 1) (r .start))
+  runs-longer e = record {
+    start-in = omega (arith, g .start-in);
+    start-free = on e;
+    upto-in = omega arith;
+    from-in = omega (arith, g .start-in);
+    some = inr (omega (arith, g .start-in));
+    free = λ k a b. on e k a (omega arith);
+  }
+
+  runs-on : Runs ms (suc n) (runOn r (getD ms n 0) n)
+  unfolding runOn
+  runs-on = by-lt 0 (getD ms n 0)
+      (λ a. rw (lt-ltb 0 (getD ms n 0) a) runs-marked)
+      (λ a. let e : getD ms n 0 ≡ 0 = omega arith in
+      by-lt (r .upto - r .from) (n + 1 - r .start)
+      (λ b. rw (le-ltb 0 (getD ms n 0) a, lt-leb (n + 1 - r .start) (r .upto - r .from) b) (runs-longer e))
+      (λ b. rw (le-ltb 0 (getD ms n 0) a, le-leb (n + 1 - r .start) (r .upto - r .from) b) (runs-same e)))
+
+pub runs-law : (ms : List ℕ) (n : ℕ) → Runs ms n (runTo ms n)
+unfolding runTo
+runs-law ms zero = record {
+  start-in = omega arith;
+  start-free = λ k a b. absurd (omega arith);
+  upto-in = omega arith;
+  from-in = omega arith;
+  some = inl refl;
+  free = λ k a b. absurd (omega arith);
+}
+runs-law ms (suc n) = runs-on ms n (runTo ms n) (runs-law ms n)
 
 -- the same of a result
-pub found-gap : (ws : List ℕ) (len n : ℕ) (g f : Gaps) → f ≡ found ws len n g → Fits ws len → g .end ≤ len → (f .end ≤ f .limit) × (f .limit ≤ len)
-found-gap ws len n g f e t h = rw e (found-ordered ws len n g t h)
+pub run-before : (ms : List ℕ) (n : ℕ) (r : Run) → r ≡ runTo ms n → (r .start ≤ n) × (r .from ≤ r .upto)
+run-before ms n r e = let g = runs-law ms n in rw e (g .start-in, g .from-in)
 
-pub search-gap : (ws : List ℕ) (len n c k : ℕ) (g : Gaps) → g ≡ search ws len n c k → Fits ws len → c ≤ len → g .end ≤ g .limit
-search-gap ws len n c k g e t h = rw e (search-ordered ws len n c k t h .0)
+-- every payload is clear of a run
+run-clear : (ws : List ℕ) (n : ℕ) (r : Run) → Fits ws 2097151 → Runs (touchedTo ws 1024) n r → ClearOf ws (r .from * 4096) (r .upto * 4096)
+run-clear ws n r f g i h s =
+    let p = placeOf ws i in
+    let e = placeOf ws i + sizeOf ws i in
+    let t = touches-all ws f 1024 i (omega arith) h s in
+    by-lt p (r .upto * 4096)
+    (λ a. by-lt (r .from * 4096) e
+    (λ b. ⊎-elim (λ z. absurd (omega arith))
+    (λ z. by-lt (r .from) (p / 4096)
+    (λ c. absurd (omega (arith, t (p / 4096) (omega arith) (piece-up p (sizeOf ws i)), g .free (p / 4096) (omega arith) (omega (arith, piece-low p)))))
+    (λ c. absurd (omega (arith, t (r .from) c (omega (arith, piece-high e)), g .free (r .from) (omega arith) z))))
+    (g .some))
+    (λ b. inl b))
+    (λ a. inr a)
+
+found-none : (ws : List ℕ) (len : ℕ) → 2097152 ≤ len → found ws len ≡ gaps 0 0 0 0
+unfolding found
+found-none ws len h = rw (le-leb 2097152 len h)
+
+found-some : (ws : List ℕ) (len : ℕ) → len < 2097152 → found ws len ≡ bytesOf (runTo (touchedTo ws 1024) (len / 4096))
+unfolding found
+found-some ws len h = rw (lt-leb 2097152 len h)
+
+-- the steps of find_gap, and its ways out
+pub fits-pieces : (ws : List ℕ) (len : ℕ) → Fits ws len → len < 2097152 → Fits ws 2097151
+fits-pieces ws len f h = record { inside = λ i b. omega (arith, f .inside i b) }
+
+pub run-small : (ms : List ℕ) (len : ℕ) (r : Run) → r ≡ runTo ms (len / 4096) → len < 2097152 → (r .from ≤ 512) × (r .upto ≤ 512)
+run-small ms len r e h =
+    let g = runs-law ms (len / 4096) in
+    rw e (omega (arith, g .from-in, g .upto-in, piece-low len), omega (arith, g .upto-in, piece-low len))
+
+pub out-large : (ws : List ℕ) (len : ℕ) → 2097152 ≤ len → gaps 0 0 0 0 ≡ found ws len
+out-large ws len h = sym (found-none ws len h)
+
+pub out-run : (ws ms : List ℕ) (len n : ℕ) (r : Run) → len < 2097152 → ms ≡ touchedTo ws 1024 → n ≡ len / 4096 → r ≡ runTo ms n → bytesOf r ≡ found ws len
+out-run ws ms len n r h em en er = rw (er, en, em) (sym (found-some ws len h))
+
+-- on any words
+found-ordered : (ws : List ℕ) (len : ℕ) → Ordered (found ws len) len
+found-ordered ws len = by-lt len 2097152
+    (λ h. let g = runs-law (touchedTo ws 1024) (len / 4096) in
+    rw (found-some ws len h) (record {
+      limit-in = omega (arith, g .upto-in, piece-low len);
+      end-in = omega (arith, g .from-in);
+      upto-in = omega arith;
+      from-in = omega arith;
+    }))
+    (λ h. rw (found-none ws len h) (record { limit-in = omega arith; end-in = omega arith; upto-in = omega arith; from-in = omega arith }))
+
+-- the same of a result
+pub found-gap : (ws : List ℕ) (len : ℕ) (f : Gaps) → f ≡ found ws len → (f .end ≤ f .limit) × (f .limit ≤ len)
+found-gap ws len f e = let o = found-ordered ws len in rw e (o .end-in, o .limit-in)
+
+-- THE THEOREM of the search: whatever is found, every payload is clear of it
+pub found-lay : (ws st : List ℕ) (g : Gaps) → Lay ws st g → Lay ws st (found ws (length st))
+found-lay ws st g l = by-lt (length st) 2097152
+    (λ h. let o = found-ordered ws (length st) in
+    let f = fits-pieces ws (length st) (record { inside = l .inside }) h in
+    let c = run-clear ws (length st / 4096) (runTo (touchedTo ws 1024) (length st / 4096)) f (runs-law (touchedTo ws 1024) (length st / 4096)) in
+    let e = found-some ws (length st) h in
+    lay-with ws st g (found ws (length st)) l o (rw e (inl (omega arith))) (rw e c) (rw e (λ i b s. inr (omega arith))))
+    (λ h. let o = found-ordered ws (length st) in
+    let e = found-none ws (length st) h in
+    lay-with ws st g (found ws (length st)) l o (rw e (inl (omega arith))) (rw e (λ i b s. inr (omega arith))) (rw e (λ i b s. inr (omega arith))))

@@ -144,12 +144,12 @@ placed-frame ws st g i bs l h =
     (frame-both ws (putPlace ws i at) (putLength (putPlace ws i at) i n) (place-frame ws l i at h) (length-frame (putPlace ws i at) l1 i n h))
     (bytes-frame (putLength (putPlace ws i at) i n) l2 (usedOf ws + n) f)
 
-elsewhere-frame : (ws st : List ℕ) (g : Gaps) (i : ℕ) (bs : List ℕ) → length ws ≡ 20768 → i < 1024 → Frame ws (putElsewhere ws st g i bs .words)
+elsewhere-frame : (ws st : List ℕ) (i : ℕ) (bs : List ℕ) → length ws ≡ 20768 → i < 1024 → Frame ws (putElsewhere ws st i bs .words)
 unfolding putElsewhere
-elsewhere-frame ws st g i bs l h = go (leb (length bs) (room f))
+elsewhere-frame ws st i bs l h = go (leb (length bs) (room f))
   where
     f : Gaps
-    f = found ws (length st) (length bs) g
+    f = found ws (length st)
 
     t : Pack
     t = together ws st
@@ -175,9 +175,9 @@ put-frame ws st i bs l = go (eqb code 0) refl (eqb code 1) refl
     f = gapFor (gapsOf ws) (length bs)
 
     go : (a : Bool) → eqb code 0 ≡ a → (b : Bool) → eqb code 1 ≡ b
-        → Frame ws (pick a (placed ws st f i bs) (pick b (putElsewhere ws st (gapsOf ws) i bs) (outcome code ws st)) .words)
+        → Frame ws (pick a (placed ws st f i bs) (pick b (putElsewhere ws st i bs) (outcome code ws st)) .words)
     go true ea b eb = placed-frame ws st f i bs l (put-zero ws (length st) i (length bs) (eqb-true code 0 ea) .0 .row)
-    go false ea true eb = elsewhere-frame ws st (gapsOf ws) i bs l (ok-before ws (length st) i (length bs) code refl (eqb-true code 1 eb) .row)
+    go false ea true eb = elsewhere-frame ws st i bs l (ok-before ws (length st) i (length bs) code refl (eqb-true code 1 eb) .row)
     go false ea false eb = frame-none ws
 
 pub drop-frame : (ws : List ℕ) (i : ℕ) → length ws ≡ 20768 → Frame ws (dropPayload ws i)
@@ -198,11 +198,11 @@ drop-frame ws i l = go (eqb (dropCode ws i) 0) refl
     go false ea = frame-none ws
 
 -- a put elsewhere is never refused
-elsewhere-done : (ws st : List ℕ) (g : Gaps) (i : ℕ) (bs : List ℕ) → putElsewhere ws st g i bs .answer ≡ 0
+elsewhere-done : (ws st : List ℕ) (i : ℕ) (bs : List ℕ) → putElsewhere ws st i bs .answer ≡ 0
 unfolding putElsewhere placed
-elsewhere-done ws st g i bs = go (leb (length bs) (room (found ws (length st) (length bs) g)))
+elsewhere-done ws st i bs = go (leb (length bs) (room (found ws (length st))))
   where
-    go : (a : Bool) → pick a (placed ws st (found ws (length st) (length bs) g) i bs) (placed (together ws st .words) (together ws st .store) (gaps (usedOf (together ws st .words)) (length st) 0 0) i bs) .answer ≡ 0
+    go : (a : Bool) → pick a (placed ws st (found ws (length st)) i bs) (placed (together ws st .words) (together ws st .store) (gaps (usedOf (together ws st .words)) (length st) 0 0) i bs) .answer ≡ 0
     go true = refl
     go false = refl
 
@@ -215,9 +215,9 @@ put-refused ws st i bs = go (eqb code 0) (eqb code 1)
     code = putCode ws (length st) i (length bs)
 
     full : Bool → Bool → Outcome
-    full a b = pick a (placed ws st (gapFor (gapsOf ws) (length bs)) i bs) (pick b (putElsewhere ws st (gapsOf ws) i bs) (outcome code ws st))
+    full a b = pick a (placed ws st (gapFor (gapsOf ws) (length bs)) i bs) (pick b (putElsewhere ws st i bs) (outcome code ws st))
 
     go : (a b : Bool) → (full a b .answer ≡ 0 → ⊥) → (full a b .words ≡ ws) × (full a b .store ≡ st)
     go true b n = absurd (n refl)
-    go false true n = absurd (n (elsewhere-done ws st (gapsOf ws) i bs))
+    go false true n = absurd (n (elsewhere-done ws st i bs))
     go false false n = (refl, refl)

@@ -242,20 +242,20 @@ after-moving ws st t r bs o m p = record {
 }
 
 -- elsewhere: in the gap that is found, or after moving together
-elsewhere-law : (ws st : List ℕ) (r : ℕ) (bs : List ℕ) → Good ws st → r < 1024 → sizeOf ws r ≡ 0 → usedOf ws + length bs ≤ length st → Put ws st r bs (putElsewhere ws st (gapsOf ws) r bs)
+elsewhere-law : (ws st : List ℕ) (r : ℕ) (bs : List ℕ) → Good ws st → r < 1024 → sizeOf ws r ≡ 0 → usedOf ws + length bs ≤ length st → Put ws st r bs (putElsewhere ws st r bs)
 elsewhere-law ws st r bs g h dead fits =
-    let f = found ws (length st) (length bs) (gapsOf ws) in
-    let l = found-lay ws st (gapsOf ws) (length bs) g in
+    let f = found ws (length st) in
+    let l = found-lay ws st (gapsOf ws) g in
     by-lt (room f) (length bs)
     (λ a. let m = together-law ws st (gapsOf ws) g in
     let t = together ws st in
     let u : usedOf (t .words) ≡ usedOf ws = ap (λ (x : Totals). x .used) (m .totals) in
     let p = gaps (usedOf (t .words)) (length st) 0 0 in
-    let e : placed (t .words) (t .store) p r bs ≡ putElsewhere ws st (gapsOf ws) r bs =
-    out-moved ws st bs r (gapsOf ws) f refl (placed (t .words) (t .store) p r bs) (t .words) (t .store) (t .cursor) (totalsAt (t .words)) a refl refl refl in
+    let e : placed (t .words) (t .store) p r bs ≡ putElsewhere ws st r bs =
+    out-moved ws st bs r f refl (placed (t .words) (t .store) p r bs) (t .words) (t .store) (t .cursor) (totalsAt (t .words)) a refl refl refl in
     rw (← e) (after-moving ws st t r bs (placed (t .words) (t .store) p r bs) m
     (placed-law (t .words) (t .store) p r bs (rw u (m .lay)) h (m .sizes r ∙ dead) (omega (arith, u)))))
-    (λ a. let e : placed ws st f r bs ≡ putElsewhere ws st (gapsOf ws) r bs = out-found ws st bs r (gapsOf ws) f refl (placed ws st f r bs) a refl in
+    (λ a. let e : placed ws st f r bs ≡ putElsewhere ws st r bs = out-found ws st bs r f refl (placed ws st f r bs) a refl in
     rw (← e) (placed-law ws st f r bs l h dead (omega (arith, l .end-in))))
 
 -- THE THEOREM of putting
@@ -265,7 +265,7 @@ put-law ws st r bs g h dead fits =
     let l = for-lay ws st (gapsOf ws) (length bs) g in
     by-lt (room f) (length bs)
     (λ a. let c = code-elsewhere ws st r (length bs) g h dead fits a in
-    let e : putElsewhere ws st (gapsOf ws) r bs ≡ putPayload ws st r bs = out-elsewhere ws st bs r 1 (sym c) (putElsewhere ws st (gapsOf ws) r bs) (totalsAt ws) refl refl refl in
+    let e : putElsewhere ws st r bs ≡ putPayload ws st r bs = out-elsewhere ws st bs r 1 (sym c) (putElsewhere ws st r bs) refl refl in
     rw (← e) (elsewhere-law ws st r bs g h dead fits))
     (λ a. let c = code-end ws st r (length bs) g h dead fits a in
     let e : placed ws st f r bs ≡ putPayload ws st r bs = out-end ws st bs r 0 (sym c) (placed ws st f r bs) (totalsAt ws) f refl refl refl refl in

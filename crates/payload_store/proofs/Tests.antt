@@ -177,18 +177,18 @@ unfolding together
 together-kept ws st ws1 st1 cur e = rw e (turns-kept (pack ws st 0) (length st))
 
 -- the gap that is found lies in the store
-pub room-found : (ws : List ℕ) (len n i : ℕ) (g f : Gaps) → f ≡ found ws len n g → i < 1024 → n ≤ f .limit - f .end → Fits ws len → g .end ≤ len → usedOf ws + n ≤ len
+pub room-found : (ws : List ℕ) (len n i : ℕ) (f : Gaps) → f ≡ found ws len → i < 1024 → n ≤ f .limit - f .end → usedOf ws + n ≤ len
     → (i < 1024) × (f .end + n ≤ len) × (usedOf ws + n ≤ len)
-room-found ws len n i g f ef h a t b u = (h, omega (arith, found-gap ws len n g f ef t b .0, found-gap ws len n g f ef t b .1), u)
+room-found ws len n i f ef h a u = (h, omega (arith, found-gap ws len f ef .0, found-gap ws len f ef .1), u)
 
 -- the ways out of put_elsewhere
-module _ (ws st bs : List ℕ) (i : ℕ) (g f : Gaps) (ef : f ≡ found ws (length st) (length bs) g) where
-  pub out-found : (o : Outcome) → length bs ≤ f .limit - f .end → o ≡ placed ws st f i bs → o ≡ putElsewhere ws st g i bs
+module _ (ws st bs : List ℕ) (i : ℕ) (f : Gaps) (ef : f ≡ found ws (length st)) where
+  pub out-found : (o : Outcome) → length bs ≤ f .limit - f .end → o ≡ placed ws st f i bs → o ≡ putElsewhere ws st i bs
   unfolding putElsewhere
   out-found o a eo = rw (← ef, le-leb (length bs) (room f) a) eo
 
   pub out-moved : (o : Outcome) (ws1 st1 : List ℕ) (cur : ℕ) (t : Totals) → f .limit - f .end < length bs → pack ws1 st1 cur ≡ together ws st → t ≡ totalsAt ws1
-      → o ≡ placed ws1 st1 (gaps (t .used) (length st) 0 0) i bs → o ≡ putElsewhere ws st g i bs
+      → o ≡ placed ws1 st1 (gaps (t .used) (length st) 0 0) i bs → o ≡ putElsewhere ws st i bs
   unfolding putElsewhere
   out-moved o ws1 st1 cur t a em et eo =
       rw (← ef, lt-leb (length bs) (room f) a, ← em) (eo ∙ ap (λ (x : Totals). placed ws1 st1 (gaps (x .used) (length st) 0 0) i bs) et)
@@ -208,11 +208,9 @@ module _ (ws st bs : List ℕ) (i code : ℕ) (ec : code ≡ putCode ws (length 
       rw (eq-eqb (putCode ws (length st) i (length bs)) 0 (sym ec ∙ e))
       (eo ∙ (ap (λ (x : Gaps). placed ws st x i bs) eg ∙ ap (λ (x : Totals). placed ws st (gapFor (x .gaps) (length bs)) i bs) et))
 
-  pub out-elsewhere : (o : Outcome) (t : Totals) → code ≡ 1 → t ≡ totalsAt ws → o ≡ putElsewhere ws st (t .gaps) i bs → o ≡ putPayload ws st i bs
+  pub out-elsewhere : (o : Outcome) → code ≡ 1 → o ≡ putElsewhere ws st i bs → o ≡ putPayload ws st i bs
   unfolding putPayload
-  out-elsewhere o t e et eo =
-      rw (ne-eqb (putCode ws (length st) i (length bs)) 0 (λ z. omega arith), eq-eqb (putCode ws (length st) i (length bs)) 1 (sym ec ∙ e))
-      (eo ∙ ap (λ (x : Totals). putElsewhere ws st (x .gaps) i bs) et)
+  out-elsewhere o e eo = rw (ne-eqb (putCode ws (length st) i (length bs)) 0 (λ z. omega arith), eq-eqb (putCode ws (length st) i (length bs)) 1 (sym ec ∙ e)) eo
 
   pub out-refused : (code ≡ 0 → ⊥) → (code ≡ 1 → ⊥) → outcome code ws st ≡ putPayload ws st i bs
   unfolding putPayload
@@ -229,10 +227,8 @@ module _ (ws : List ℕ) (len i n code : ℕ) (t : Totals) (ec : code ≡ putCod
       let p = put-zero ws len i n (sym ec ∙ e) in
       (p .0 .row, rw (eg, et) (p .1), p .0 .room)
 
-  pub room-elsewhere : code ≡ 1 → (i < 1024) × Fits ws len × (t .gaps .end ≤ len) × (usedOf ws + n ≤ len)
-  room-elsewhere e =
-      let p = put-one ws len i n (sym ec ∙ e) in
-      (p .0 .row, p .1 .fits, rw et (omega (arith, p .0 .ordered .end-in, p .0 .ordered .limit-in)), p .0 .room)
+pub room-elsewhere : (ws : List ℕ) (len i n code : ℕ) → code ≡ putCode ws len i n → code ≡ 1 → (i < 1024) × Fits ws len × (usedOf ws + n ≤ len)
+room-elsewhere ws len i n code ec e = let p = put-one ws len i n (sym ec ∙ e) in (p .0 .row, p .1 .fits, p .0 .room)
 
 pub ok-before : (ws : List ℕ) (len i n code : ℕ) → code ≡ putCode ws len i n → code ≡ 1 → PutOk ws len i n
 ok-before ws len i n code ec e = put-one ws len i n (sym ec ∙ e) .0

@@ -65,15 +65,15 @@ placed ws st g i bs =
     (putBytes (putLength (putPlace ws i (g .end)) i (length bs)) (usedOf ws + length bs) (gaps (g .end + length bs) (g .limit) (g .from) (g .upto)))
     (written st (g .end) bs)
 
--- where the known gaps g have no room: in a gap that is found, or behind the other payloads, moved together
-unfoldable pub putElsewhere : List ℕ → List ℕ → Gaps → ℕ → List ℕ → Outcome
-putElsewhere ws st g i bs =
-    pick (leb (length bs) (room (found ws (length st) (length bs) g))) (placed ws st (found ws (length st) (length bs) g) i bs)
+-- where the known gaps have no room: in a gap that is found, or behind the other payloads, moved together
+unfoldable pub putElsewhere : List ℕ → List ℕ → ℕ → List ℕ → Outcome
+putElsewhere ws st i bs =
+    pick (leb (length bs) (room (found ws (length st)))) (placed ws st (found ws (length st)) i bs)
     (placed (together ws st .words) (together ws st .store) (gaps (usedOf (together ws st .words)) (length st) 0 0) i bs)
 
 -- the whole call; refused, it leaves words and store as they were
 unfoldable pub putPayload : List ℕ → List ℕ → ℕ → List ℕ → Outcome
 putPayload ws st i bs =
     pick (eqb (putCode ws (length st) i (length bs)) 0) (placed ws st (gapFor (gapsOf ws) (length bs)) i bs)
-    (pick (eqb (putCode ws (length st) i (length bs)) 1) (putElsewhere ws st (gapsOf ws) i bs)
+    (pick (eqb (putCode ws (length st) i (length bs)) 1) (putElsewhere ws st i bs)
     (outcome (putCode ws (length st) i (length bs)) ws st))

@@ -1,32 +1,50 @@
 -- Searching a gap: what the code finds, for any words. Assumes nothing.
 use mathlib.Core.List.{List}
-use Prim.Native.Nat.{ℕ, zero, suc, _+_, _-_}
-use lib.Dec.{leb}
+use Prim.Native.Nat.{ℕ, zero, suc, _+_, _-_, _*_, _/_}
+use lib.Dec.{ltb, leb, eqb}
+use lib.ListN.{getD, set, replicate}
 use Rattle.queue_words.specs.Flags.{pick}
 use Rattle.queue_words.specs.declared.header.Gaps.{Gaps}
-use Rattle.payload_store.specs.declared.searching.Ahead.{Ahead}
+use Rattle.payload_store.specs.declared.searching.Run.{Run}
 use Rattle.payload_store.specs.Words.{placeOf, sizeOf}
-use Rattle.payload_store.specs.Moving.{least}
-use Rattle.payload_store.specs.Gaps.{gaps, room}
+use Rattle.payload_store.specs.Gaps.{gaps}
 
-abbrev pub looks : ℕ → ℕ → Ahead
-looks l a = record { limit = l; after = a }
+-- k pieces from a on are marked
+unfoldable pub marked : List ℕ → ℕ → ℕ → List ℕ
+marked ms a zero = ms
+marked ms a (suc k) = set (marked ms a k) (a + k) 1
 
--- the payload of row r; no row: the store's end
-unfoldable pub lookRow : List ℕ → ℕ → ℕ → Ahead
-lookRow ws len r = pick (leb 1024 r) (looks len len) (looks (placeOf ws r) (placeOf ws r + sizeOf ws r))
+-- how many pieces of 4,096 bytes a payload touches, the one at its end among them
+unfoldable pub pieces : ℕ → ℕ → ℕ
+pieces place size = pick (eqb size 0) 0 ((place + size) / 4096 - place / 4096 + 1)
 
--- the first payload at or above c
-unfoldable pub lookAt : List ℕ → ℕ → ℕ → Ahead
-lookAt ws len c = lookRow ws len (least ws c 1024)
+-- the marks with those of row i's payload
+unfoldable pub touched : List ℕ → List ℕ → ℕ → List ℕ
+touched ws ms i = marked ms (placeOf ws i / 4096) (pieces (placeOf ws i) (sizeOf ws i))
 
--- the first gap of n bytes up from c, over at most k payloads; none: an empty one
-unfoldable pub search : List ℕ → ℕ → ℕ → ℕ → ℕ → Gaps
-search ws len n c zero = gaps c c 0 0
-search ws len n c (suc k) =
-    pick (leb n (lookAt ws len c .limit - c)) (gaps c (lookAt ws len c .limit) 0 0) (search ws len n (lookAt ws len c .after) k)
+-- with those of the first n rows
+unfoldable pub touchedTo : List ℕ → ℕ → List ℕ
+touchedTo ws zero = replicate 512 0
+touchedTo ws (suc n) = touched ws (touchedTo ws n) n
 
--- up from the end, then up from 0
-unfoldable pub found : List ℕ → ℕ → ℕ → Gaps → Gaps
-found ws len n g =
-    pick (leb n (room (search ws len n (g .end) 4))) (search ws len n (g .end) 4) (search ws len n 0 4)
+abbrev pub run : ℕ → ℕ → ℕ → Run
+run f u o = record { from = f; upto = u; start = o }
+
+-- the longest run without a mark, and where the run that goes on began, with piece k, which has the mark m
+unfoldable pub runOn : Run → ℕ → ℕ → Run
+runOn r m k =
+    pick (ltb 0 m) (run (r .from) (r .upto) (k + 1))
+    (pick (leb (k + 1 - r .start) (r .upto - r .from)) r (run (r .start) (k + 1) (r .start)))
+
+-- among the first n pieces
+unfoldable pub runTo : List ℕ → ℕ → Run
+runTo ms zero = run 0 0 0
+runTo ms (suc n) = runOn (runTo ms n) (getD ms n 0) n
+
+-- the bytes of a run
+abbrev pub bytesOf : Run → Gaps
+bytesOf r = gaps (r .from * 4096) (r .upto * 4096) 0 0
+
+-- the longest run of pieces that no payload touches; a store of more than 512 pieces is not searched
+unfoldable pub found : List ℕ → ℕ → Gaps
+found ws len = pick (leb 2097152 len) (gaps 0 0 0 0) (bytesOf (runTo (touchedTo ws 1024) (len / 4096)))

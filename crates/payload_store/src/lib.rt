@@ -241,19 +241,13 @@ fn place_payload(
 }
 
 // Puts a payload into row i where the known gaps have no room: into a gap that is found, or behind the others, moved together.
-fn put_elsewhere(
-    queue: &mut [u64; QUEUE_WORDS],
-    store: &mut [u8],
-    g: Gaps,
-    i: usize,
-    payload: &[u8],
-) -> u8
-    requires { ⌜ (i < 1024) × Fits (now queue) (length (now store)) × (g .end ≤ length (now store)) × (usedOf (now queue) + length (now payload) ≤ length (now store)) ⌝ }
-    ensures { λ r. ⌜ outcome r (now (queue .exit)) (now (store .exit)) ≡ putElsewhere (now (queue .entry)) (now (store .entry)) g i (now (payload .entry)) ⌝ }
+fn put_elsewhere(queue: &mut [u64; QUEUE_WORDS], store: &mut [u8], i: usize, payload: &[u8]) -> u8
+    requires { ⌜ (i < 1024) × Fits (now queue) (length (now store)) × (usedOf (now queue) + length (now payload) ≤ length (now store)) ⌝ }
+    ensures { λ r. ⌜ outcome r (now (queue .exit)) (now (store .exit)) ≡ putElsewhere (now (queue .entry)) (now (store .entry)) i (now (payload .entry)) ⌝ }
 {
     let len = store.len() as u64;
     let n = payload.len() as u64;
-    let f = find_gap(&*queue, len, n, g);
+    let f = find_gap(&*queue, len);
     if n <= f.limit - f.end {
         return place_payload(queue, store, f, i, payload);
     }
@@ -284,7 +278,7 @@ pub fn put_payload(queue: &mut [u64; QUEUE_WORDS], store: &mut [u8], i: usize, p
         return place_payload(queue, store, g, i, payload);
     }
     if code == 1 {
-        return put_elsewhere(queue, store, t.gaps, i, payload);
+        return put_elsewhere(queue, store, i, payload);
     }
     code
 }

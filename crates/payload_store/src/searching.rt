@@ -1,80 +1,139 @@
-// Searching a gap: where the known gaps have no room for a payload, the payloads are passed in the order of their places, a few
-// of them, up from the end and then up from 0.
+// Searching a gap, where the known gaps have no room for a payload: the pieces of the store that payloads touch are marked, row by
+// row, and the longest run of pieces without a mark is the gap. What is smaller than a piece, or lies across two, is not found.
 ghost use mathlib.Core.Path.{_≡_};
-ghost use Prim.Native.Nat.{_≤_};
+ghost use Prim.Native.Nat.{_+_, _<_, _≤_};
+ghost use lib.ListN.{length, replicate};
+ghost use Rattle.payload_store.specs.Words.{placeOf, sizeOf};
 ghost use Rattle.payload_store.specs.Moving.{Fits};
-ghost use Rattle.payload_store.specs.Searching.{lookAt, search, found};
-use crate::least_row;
+ghost use Rattle.payload_store.specs.Searching.{marked, pieces, touched, touchedTo, runOn, runTo, found};
 use queue_words::QUEUE_WORDS;
 use queue_words::header::Gaps;
 use queue_words::items::load_length;
 use queue_words::items::load_place;
 
-// So many payloads are looked at, up from a place.
-const LOOKS: u64 = 4;
+const PIECE: u64 = 4096;
 
-// The first payload at or above a place: where it begins and where it ends.
-pub struct Ahead {
-    pub limit: u64,
-    pub after: u64,
+// So many pieces are looked at: a store that has more is not searched.
+const PIECES: usize = 512;
+
+const SEARCHED: u64 = 2097152;
+
+// The longest run of pieces without a mark so far, and where the run that goes on began.
+pub struct Run {
+    pub from: usize,
+    pub upto: usize,
+    pub start: usize,
 }
 
-// Where there is none, the store's end stands for it.
-fn look(queue: &[u64; QUEUE_WORDS], len: u64, from: u64) -> Ahead
-    requires { ⌜ Fits (now queue) len ⌝ }
-    ensures { λ r. ⌜ r ≡ lookAt (now (queue .entry)) len from ⌝ }
+// Marks n pieces from `at` on.
+fn mark(marks: &mut [u8], at: usize, n: usize)
+    requires { ⌜ at + n ≤ length (now marks) ⌝ }
+    ensures { λ _. ⌜ now (marks .exit) ≡ marked (now (marks .entry)) at n ⌝ }
 {
-    let r = least_row(queue, from);
-    if r >= 1024 {
-        return Ahead {
-            limit: len,
-            after: len,
+    let mut k = 0;
+    while k < n {
+        marks[at + k] = 1;
+        k += 1;
+    }
+}
+
+// How many pieces a payload touches, the one at its end among them.
+fn pieces(place: u64, size: u64) -> u64
+    requires { ⌜ place + size ≤ 2097151 ⌝ }
+    ensures { λ r. ⌜ r ≡ pieces place size ⌝ }
+{
+    if size == 0 {
+        return 0;
+    }
+    (place + size) / PIECE - place / PIECE + 1
+}
+
+// Marks the pieces that row i's payload touches.
+fn mark_row(queue: &[u64; QUEUE_WORDS], marks: &mut [u8], i: usize)
+    requires { ⌜ (i < 1024) × (placeOf (now queue) i + sizeOf (now queue) i ≤ 2097151) × (length (now marks) ≡ 512) ⌝ }
+    ensures { λ _. ⌜ now (marks .exit) ≡ touched (now (queue .entry)) (now (marks .entry)) i ⌝ }
+{
+    let place = load_place(queue, i);
+    let size = load_length(queue, i);
+    let n = pieces(place, size);
+    let first = place / PIECE;
+    mark(marks, first as usize, n as usize);
+}
+
+// Marks the pieces that any payload touches.
+fn mark_all(queue: &[u64; QUEUE_WORDS], marks: &mut [u8])
+    requires { ⌜ Fits (now queue) 2097151 × (now marks ≡ replicate 512 0) ⌝ }
+    ensures { λ _. ⌜ now (marks .exit) ≡ touchedTo (now (queue .entry)) 1024 ⌝ }
+{
+    let mut i = 0;
+    while i < 1024 {
+        mark_row(queue, marks, i);
+        i += 1;
+    }
+}
+
+// The runs with piece k, which has this mark.
+fn run_on(r: Run, mark: u8, k: usize) -> Run
+    requires { ⌜ (k < 512) × (r .start ≤ k) × (r .from ≤ r .upto) ⌝ }
+    ensures { λ s. ⌜ s ≡ runOn r mark k ⌝ }
+{
+    let next = k + 1;
+    if mark > 0 {
+        return Run {
+            from: r.from,
+            upto: r.upto,
+            start: next,
         };
     }
-    let place = load_place(queue, r);
-    let size = load_length(queue, r);
-    Ahead {
-        limit: place,
-        after: place + size,
+    if next - r.start <= r.upto - r.from {
+        return r;
+    }
+    Run {
+        from: r.start,
+        upto: next,
+        start: r.start,
     }
 }
 
-// The first gap of n bytes up from `from`; where a few looks show none, an empty one.
-fn search(queue: &[u64; QUEUE_WORDS], len: u64, n: u64, from: u64) -> Gaps
-    requires { ⌜ Fits (now queue) len × (from ≤ len) ⌝ }
-    ensures { λ r. ⌜ r ≡ search (now (queue .entry)) len n from 4 ⌝ }
+// The longest run among the first n pieces.
+fn longest(marks: &[u8], n: usize) -> Run
+    requires { ⌜ (n ≤ 512) × (length (now marks) ≡ 512) ⌝ }
+    ensures { λ r. ⌜ r ≡ runTo (now (marks .entry)) n ⌝ }
 {
-    let mut at = from;
-    let mut left = LOOKS;
-    while left > 0 {
-        let next = look(queue, len, at);
-        if n <= next.limit - at {
-            return Gaps {
-                end: at,
-                limit: next.limit,
-                from: 0,
-                upto: 0,
-            };
-        }
-        at = next.after;
-        left -= 1;
+    let mut r = Run {
+        from: 0,
+        upto: 0,
+        start: 0,
+    };
+    let mut k = 0;
+    while k < n {
+        r = run_on(r, marks[k], k);
+        k += 1;
     }
+    r
+}
+
+// The gap that is found; it may be empty, or have too few bytes.
+pub fn find_gap(queue: &[u64; QUEUE_WORDS], len: u64) -> Gaps
+    requires { ⌜ Fits (now queue) len ⌝ }
+    ensures { λ r. ⌜ r ≡ found (now (queue .entry)) len ⌝ }
+{
+    if len >= SEARCHED {
+        return Gaps {
+            end: 0,
+            limit: 0,
+            from: 0,
+            upto: 0,
+        };
+    }
+    let mut marks = [0u8; PIECES];
+    mark_all(queue, &mut marks);
+    let n = len / PIECE;
+    let r = longest(&marks, n as usize);
     Gaps {
-        end: at,
-        limit: at,
+        end: r.from as u64 * PIECE,
+        limit: r.upto as u64 * PIECE,
         from: 0,
         upto: 0,
     }
-}
-
-// A gap for n bytes, up from the end or up from 0; it may have too few bytes.
-pub fn find_gap(queue: &[u64; QUEUE_WORDS], len: u64, n: u64, g: Gaps) -> Gaps
-    requires { ⌜ Fits (now queue) len × (g .end ≤ len) ⌝ }
-    ensures { λ r. ⌜ r ≡ found (now (queue .entry)) len n g ⌝ }
-{
-    let up = search(queue, len, n, g.end);
-    if n <= up.limit - up.end {
-        return up;
-    }
-    search(queue, len, n, 0)
 }

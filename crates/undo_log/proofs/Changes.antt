@@ -43,7 +43,7 @@ abbrev totals : ℕ
 totals = 7
 
 abbrev scheduler : ℕ
-scheduler = 17
+scheduler = 18
 
 -- an index behind the header that is in none of the three: a stream's row; length, offset and next place of a message; a row of the scheduler's
 abbrev Far : ℕ → ℕ → ℕ → ℕ → Type 0

@@ -14,10 +14,10 @@ returns : tie.Need-returns
 returns c = out-end _ _ _ _ _ (c .before .before .before .before .before .before .before .before .before .put-code .ensures) _ _ _ (c .before .before .before .before .before .before .if1 .taken) (c .before .before .before .before .before .before .before .load-totals .ensures) (c .before .before .before .before .before .gap-for .ensures) (c .before .before .place-payload .ensures)
 
 put-elsewhere-requires : tie.Need-put-elsewhere-requires
-put-elsewhere-requires c κs = room-elsewhere _ _ _ _ _ _ (c .before .before .before .before .before .before .put-code .ensures) (c .before .before .before .before .load-totals .ensures) (c .before .before .if2 .taken)
+put-elsewhere-requires c κs = room-elsewhere _ _ _ _ _ (c .before .before .before .before .before .before .put-code .ensures) (c .before .before .if2 .taken)
 
 returns-2 : tie.Need-returns-2
-returns-2 c = out-elsewhere _ _ _ _ _ (c .before .before .before .before .before .before .before .before .before .put-code .ensures) _ _ (c .before .before .before .before .before .if2 .taken) (c .before .before .before .before .before .before .before .load-totals .ensures) (c .before .before .put-elsewhere .ensures)
+returns-2 c = out-elsewhere _ _ _ _ _ (c .before .before .before .before .before .before .before .before .before .put-code .ensures) _ (c .before .before .before .before .before .if2 .taken) (c .before .before .put-elsewhere .ensures)
 
 returns-3 : tie.Need-returns-3
 returns-3 c = out-refused _ _ _ _ _ (c .before .before .before .before .put-code .ensures) (c .before .if1 .left) (c .if2 .left)
