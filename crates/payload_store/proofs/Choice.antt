@@ -21,23 +21,23 @@ pub record Least (ws : List ℕ) (cur n b : ℕ) : Type 0 where
   pub first : (j : ℕ) → j < n → 1 ≤ sizeOf ws j → cur ≤ placeOf ws j → placeOf ws b ≤ placeOf ws j
 
 module _ (ws : List ℕ) (cur b i : ℕ) where
-  choose-dead : sizeOf ws i ≡ 0 → choose ws cur b i ≡ b
+  pub choose-dead : sizeOf ws i ≡ 0 → choose ws cur b i ≡ b
   unfolding choose
   choose-dead e = rw (eq-eqb _ _ e)
 
-  choose-low : (sizeOf ws i ≡ 0 → ⊥) → placeOf ws i < cur → choose ws cur b i ≡ b
+  pub choose-low : (sizeOf ws i ≡ 0 → ⊥) → placeOf ws i < cur → choose ws cur b i ≡ b
   unfolding choose
   choose-low n l = rw (ne-eqb _ _ n, lt-ltb _ _ l)
 
-  choose-new : (sizeOf ws i ≡ 0 → ⊥) → cur ≤ placeOf ws i → 1024 ≤ b → choose ws cur b i ≡ i
+  pub choose-new : (sizeOf ws i ≡ 0 → ⊥) → cur ≤ placeOf ws i → 1024 ≤ b → choose ws cur b i ≡ i
   unfolding choose
   choose-new n l h = rw (ne-eqb _ _ n, le-ltb _ _ l, le-leb _ _ h)
 
-  choose-less : (sizeOf ws i ≡ 0 → ⊥) → cur ≤ placeOf ws i → b < 1024 → placeOf ws i < placeOf ws b → choose ws cur b i ≡ i
+  pub choose-less : (sizeOf ws i ≡ 0 → ⊥) → cur ≤ placeOf ws i → b < 1024 → placeOf ws i < placeOf ws b → choose ws cur b i ≡ i
   unfolding choose
   choose-less n l h q = rw (ne-eqb _ _ n, le-ltb _ _ l, lt-leb _ _ h, lt-ltb _ _ q)
 
-  choose-more : (sizeOf ws i ≡ 0 → ⊥) → cur ≤ placeOf ws i → b < 1024 → placeOf ws b ≤ placeOf ws i → choose ws cur b i ≡ b
+  pub choose-more : (sizeOf ws i ≡ 0 → ⊥) → cur ≤ placeOf ws i → b < 1024 → placeOf ws b ≤ placeOf ws i → choose ws cur b i ≡ b
   unfolding choose
   choose-more n l h q = rw (ne-eqb _ _ n, le-ltb _ _ l, lt-leb _ _ h, le-ltb _ _ q)
 

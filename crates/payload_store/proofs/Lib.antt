@@ -6,6 +6,7 @@ pub mod Moves
 pub mod Parts
 pub mod Blocks
 pub mod Choice
+pub mod Groups
 pub mod Clear
 pub mod Found
 pub mod Tests

@@ -1,6 +1,8 @@
 -- Moving the payloads together: what the code does, for any words and any store. Assumes nothing.
 use mathlib.Core.List.{List}
-use Prim.Native.Nat.{ℕ, zero, suc, _+_, _≤_, _<_}
+use mathlib.Core.Path.{_≡_}
+use mathlib.Core.Logic.{_⊎_}
+use Prim.Native.Nat.{ℕ, zero, suc, _+_, _*_, _≤_, _<_}
 use lib.Dec.{ltb, leb, eqb}
 use lib.ListN.{length, getD, set}
 use Rattle.queue_words.specs.Flags.{pick}
@@ -19,6 +21,28 @@ choose ws cur b i =
 unfoldable pub least : List ℕ → ℕ → ℕ → ℕ
 least ws cur zero = 1024
 least ws cur (suc n) = choose ws cur (least ws cur n) n
+
+-- among the n rows from a on
+unfoldable pub leastIn : List ℕ → ℕ → ℕ → ℕ → ℕ
+leastIn ws cur a zero = 1024
+leastIn ws cur a (suc n) = choose ws cur (leastIn ws cur a n) (a + n)
+
+-- of two rows (1024: none) the one whose payload comes first
+unfoldable pub better : List ℕ → ℕ → ℕ → ℕ
+better ws b c = pick (leb 1024 c) b (pick (leb 1024 b) c (pick (ltb (placeOf ws c) (placeOf ws b)) c b))
+
+-- what is kept of group g, the 32 rows from g * 32 on: nothing, a row that lies below the cursor, or its least row
+abbrev pub Hint : List ℕ → ℕ → ℕ → ℕ → Type 0
+Hint ws cur g b = (1024 < b) ⊎ (((b < 1024) × (placeOf ws b < cur)) ⊎ (leastIn ws cur (g * 32) 32 ≡ b))
+
+pub record Hints (ws : List ℕ) (cur : ℕ) (ks : List ℕ) : Type 0 where
+  pub long : length ks ≡ 32
+  pub each : (g : ℕ) → g < 32 → Hint ws cur g (getD ks g 0)
+
+-- of the first n groups the least rows are kept
+pub record Exact (ws : List ℕ) (cur n : ℕ) (ks : List ℕ) : Type 0 where
+  pub long : length ks ≡ 32
+  pub each : (g : ℕ) → g < n → leastIn ws cur (g * 32) 32 ≡ getD ks g 0
 
 -- k bytes from `from` on, copied upwards, one by one, to `to`
 unfoldable pub moved : List ℕ → ℕ → ℕ → ℕ → List ℕ

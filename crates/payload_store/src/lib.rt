@@ -6,6 +6,7 @@
 // order of their places. Every public function is total: words that no queue has get the answer 16, and nothing is changed.
 mod copying;
 mod gaps;
+mod nearest;
 mod searching;
 
 ghost use mathlib.Core.Path.{_≡_};
@@ -13,7 +14,7 @@ ghost use mathlib.Core.List.{_++_};
 ghost use Prim.Native.Nat.{_+_, _<_, _≤_};
 ghost use lib.ListN.{length, take, drop};
 ghost use Rattle.payload_store.specs.Words.{usedOf, putBytes};
-ghost use Rattle.payload_store.specs.Moving.{choose, least, moved, pack, together, Fits};
+ghost use Rattle.payload_store.specs.Moving.{choose, moved, pack, together, Fits, Hints};
 ghost use Rattle.payload_store.specs.Putting.{rowFits, allFit, putCode, outcome, written, placed, putElsewhere, putPayload};
 ghost use Rattle.payload_store.specs.Reading.{readCode, readPart};
 ghost use Rattle.payload_store.specs.Dropping.{dropCode, dropPayload};
@@ -21,6 +22,10 @@ use copying::copy;
 use gaps::gap_for;
 use gaps::gaps_left;
 use gaps::gaps_wrong;
+use nearest::GROUP;
+use nearest::GROUPS;
+use nearest::UNKNOWN;
+use nearest::next_row;
 use queue_words::QUEUE_WORDS;
 use queue_words::header::Gaps;
 use queue_words::header::load_totals;
@@ -65,19 +70,6 @@ fn choose_row(queue: &[u64; QUEUE_WORDS], cursor: u64, best: usize, i: usize) ->
     best
 }
 
-// The row whose payload comes first at or above the cursor; 1024 for none.
-fn least_row(queue: &[u64; QUEUE_WORDS], cursor: u64) -> usize
-    ensures { λ r. ⌜ r ≡ least (now (queue .entry)) cursor 1024 ⌝ }
-{
-    let mut best = 1024;
-    let mut i = 0;
-    while i < 1024 {
-        best = choose_row(queue, cursor, best, i);
-        i += 1;
-    }
-    best
-}
-
 // n bytes from `from` on go down to `to`, the lowest first: the two parts may overlap.
 fn move_down(store: &mut [u8], from: usize, to: usize, n: usize)
     requires { ⌜ (from + n ≤ length (now store)) × (to ≤ from) ⌝ }
@@ -90,9 +82,10 @@ fn move_down(store: &mut [u8], from: usize, to: usize, n: usize)
     }
 }
 
-// Moves the payloads together, towards 0, in the order of their places. Answers where they end.
-fn move_together(queue: &mut [u64; QUEUE_WORDS], store: &mut [u8]) -> u64
-    requires { ⌜ Fits (now queue) (length (now store)) ⌝ }
+// Moves the payloads together, towards 0, in the order of their places; by what is kept of the groups of rows, at first nothing.
+// Answers where they end.
+fn move_all(queue: &mut [u64; QUEUE_WORDS], store: &mut [u8], kept: &mut [u64]) -> u64
+    requires { ⌜ Fits (now queue) (length (now store)) × Hints (now queue) 0 (now kept) ⌝ }
     ensures { λ r. ⌜ pack (now (queue .exit)) (now (store .exit)) r ≡ together (now (queue .entry)) (now (store .entry)) ⌝ }
 {
     whole(queue);
@@ -100,7 +93,7 @@ fn move_together(queue: &mut [u64; QUEUE_WORDS], store: &mut [u8]) -> u64
     let mut cursor = 0u64;
     let mut k = 0;
     while k < len {
-        let r = least_row(queue, cursor);
+        let r = next_row(&*queue, cursor, kept);
         if r >= 1024 {
             return cursor;
         }
@@ -108,10 +101,19 @@ fn move_together(queue: &mut [u64; QUEUE_WORDS], store: &mut [u8]) -> u64
         let n = load_length(queue, r);
         move_down(store, from as usize, cursor as usize, n as usize);
         store_place(queue, r, cursor);
+        kept[r / GROUP] = UNKNOWN;
         cursor += n;
         k += 1;
     }
     cursor
+}
+
+fn move_together(queue: &mut [u64; QUEUE_WORDS], store: &mut [u8]) -> u64
+    requires { ⌜ Fits (now queue) (length (now store)) ⌝ }
+    ensures { λ r. ⌜ pack (now (queue .exit)) (now (store .exit)) r ≡ together (now (queue .entry)) (now (store .entry)) ⌝ }
+{
+    let mut kept = [UNKNOWN; GROUPS];
+    move_all(queue, store, &mut kept)
 }
 
 // A test of all rows half done: whether the rows so far fit, and how many of the used bytes are left for the others.
