@@ -30,8 +30,9 @@ extern "C" {
 /* The layout that a host with this header is compiled for: the words of a queue, of an event, of the event list and of an out-array, what
  * each place means, and the arguments of the functions. It moves when one of these does. In layout 1, whose header has no such number, an
  * event had two words; a list for 2,305 of those is refused here (DSQ_EVENT_LIST_SHORT), not written past. In layout 2 dsq_create had no
- * restart_rule; nothing but a comparison of the layouts tells a host compiled for it. */
-#define DSQ_LAYOUT 3
+ * restart_rule; nothing but a comparison of the layouts tells a host compiled for it. In layout 3 the header of the words was shorter by
+ * one word: words of a queue that were kept from it are not read right here. */
+#define DSQ_LAYOUT 4
 
 /* The words of a queue, and of the list of events: DSQ_MAX_EVENTS places of DSQ_PLACE_WORDS words. */
 #define DSQ_QUEUE_WORDS 20768

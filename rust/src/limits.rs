@@ -16,7 +16,7 @@ pub const MAX_TIME: u64 = 4_611_686_018_427_387_903;
 pub const MAX_PLANNED: usize = 32;
 
 /// The layout of words, events and arguments that this crate is written for.
-pub(crate) const LAYOUT: u64 = 3;
+pub(crate) const LAYOUT: u64 = 4;
 /// Words of a queue's state.
 pub(crate) const QUEUE_WORDS: usize = 20_768;
 /// No call reports more events.

@@ -173,7 +173,7 @@ fn the_lengths_and_places_are_the_proved_ones() {
 
 /// The layout, and a sum over what the header declares. Whoever changes a declaration decides whether a host compiled before would be wrong
 /// with it. Then the layout moves, here and in the header, limits.rs and send_queue_c. What is only added has a new sum and no new layout.
-const LAYOUT: (u64, u32) = (3, 3_601_810_940);
+const LAYOUT: (u64, u32) = (4, 3_804_457_469);
 
 #[test]
 fn the_layout_goes_with_what_the_header_declares() {

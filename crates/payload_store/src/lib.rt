@@ -2,8 +2,9 @@
 //
 // A message's row says where its payload lies and how long it is; 0 says that it has none. The totals say how many bytes are
 // used, and two gaps of the store (src/gaps). A new payload goes to one of them. Where neither has room and the free bytes
-// suffice, a gap is searched (src/searching), and where none is found near, the payloads are first moved together, in the
-// order of their places. Every public function is total: words that no queue has get the answer 16, and nothing is changed.
+// suffice, a gap is searched (src/searching), and where none that is found has room, the payloads are first moved together, in
+// the order of their places (src/nearest). Every public function is total: words that no queue has get the answer 16, and
+// nothing is changed.
 mod copying;
 mod gaps;
 mod nearest;

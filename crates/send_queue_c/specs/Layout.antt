@@ -5,5 +5,6 @@ use Prim.Native.Nat.{ℕ}
 --   1  an event is two words, kind and number; no function tells this number
 --   2  an event is three words: "Kinds 1 and 2 now carry it as a third number" (document 02, 2/13)
 --   3  creation takes the rule of a restart behind its other arguments (document 02, 6/13); the options are seven words, and the header's words behind them move
+--   4  the totals are eleven words, and the header's words behind them move
 abbrev pub layout : ℕ
-layout = 3
+layout = 4

@@ -3,7 +3,7 @@ ghost use mathlib.Core.Path.{_≡_};
 ghost use Rattle.send_queue_c.specs.Layout.{layout};
 
 // DSQ_LAYOUT of c/send_queue.h.
-pub const LAYOUT: u64 = 3;
+pub const LAYOUT: u64 = 4;
 
 // A host compares it with the number that it was compiled with.
 #[no_mangle]
