@@ -1,5 +1,5 @@
 -- The last fragment of a message: what the words then stand for. Assumes nothing.
-use mathlib.Core.Path.{_≡_, refl, sym, ap, _∙_, subst}
+use mathlib.Core.Path.{_≡_, refl, sym, ap, ap₂, _∙_, subst}
 use mathlib.Core.Bool.{Bool}
 use mathlib.Core.List.{List, [], _∷_}
 use Prim.Native.Nat.{ℕ, _+_, _-_, _≤_, _<_}
@@ -24,8 +24,8 @@ use Rattle.queue_model.specs.Streams.{put-stream, stream-key, head-size, weight
 use Rattle.queue_model.specs.Produce.{end-pending, next-size}
 use Rattle.stream_scheduler.specs.Link.{entryAt, modelScheduler}
 use Rattle.stream_scheduler.specs.Rows.{weightOf}
-use Rattle.stream_scheduler.specs.Words.{acceptAt}
-use Rattle.queue_streams.specs.Waiting.{headSize, parametersFor, rescheduled}
+use Rattle.stream_scheduler.specs.Anew.{acceptLast}
+use Rattle.queue_streams.specs.Waiting.{headSize, parametersFor}
 use Rattle.message_chains.specs.Heads.{released, withoutHead}
 use Rattle.message_chains.specs.Dropping.{endPending}
 use Rattle.queue_sending.specs.Fragment.{nextFirst, waitingOn, finished}
@@ -38,9 +38,9 @@ use Rattle.queue_state.proofs.Splits.{by-index}
 use Rattle.queue_state.proofs.Frames.{Same, row-below, row-fits}
 use Rattle.queue_state.proofs.Singles.{Alike, alike-untouched}
 use Rattle.queue_state.proofs.Heads.{HeadLeft, head-left, head-linked}
-use Rattle.queue_state.proofs.Rooms.{AllKnown, KnownTo, Let, accept-known, rescheduled-link, head-is, weight-is}
+use Rattle.queue_state.proofs.Rooms.{AllKnown, Let, last-known, head-is, weight-is}
 use Rattle.queue_state.proofs.Twice.{State, is-open, is-pending, is-paused, is-resetting, state}
-use Rattle.queue_state.proofs.Alikes.{alike-same, alike-both}
+use Rattle.queue_state.proofs.Alikes.{alike-same}
 use Rattle.linked_sending.proofs.Looking.{Choice}
 use Rattle.linked_sending.proofs.Numbering.{Renumbered, renumbered, stream-fits}
 
@@ -111,7 +111,7 @@ pub record Finished (ws st : List ℕ) (g : Shape ws st) (at : ℕ) (c : Choice 
       → modelScheduler us ≡ set-bytes-remaining (idAt ws (c .pos)) (next-size (pauseOf (endPending (streamAt ws (rowAt ws (c .pos)) .«pause_state»))) (each (itemIn ws st) (c .rest))) (weight-of (totalsAt ws .interleaving) w) (accept (entryAt ws at) n (modelScheduler ws))
   pub streams : streamsIn us st ≡ put-stream (streamOf (idAt ws (c .pos)) (withoutHead (numberedStream (streamAt ws (rowAt ws (c .pos))) (itemAt ws (c .first))) (endPending (streamAt ws (rowAt ws (c .pos)) .«pause_state»)) (nextOf ws (c .first)) n) (each (itemIn ws st) (c .rest))) (streamsIn ws st)
 
-module _ (ws st : List ℕ) (g : Shape ws st) (known : AllKnown ws st) (at : ℕ) (c : Choice ws st g at) (n : ℕ) where
+module _ (ws st : List ℕ) (g : Shape ws st) (known : AllKnown ws st) (at : ℕ) (c : Choice ws st g at) (n : ℕ) (all : (entryAt ws at) .bytes-remaining ≤ n) where
   abbrev s : OutgoingStream
   s = streamAt ws (rowAt ws (c .pos))
 
@@ -130,70 +130,40 @@ module _ (ws st : List ℕ) (g : Shape ws st) (known : AllKnown ws st) (at : ℕ
   below : c .pos < 256
   below = omega (arith, c .known, g .known-fits)
 
-  -- the scheduler, handing out
-  abbrev u1 : List ℕ
-  u1 = (acceptAt ws at n) .next
-
-  one : Let ws st g ((acceptAt ws at n) .next) (accept (entryAt ws at) n (modelScheduler ws))
-  one = accept-known ws st g known at n (c .listed)
-
-  abbrev g1 : Shape ((acceptAt ws at n) .next) st
-  g1 = one .unmoved .shape
-
-  alike1 : Alike ws u1
-  alike1 = alike-untouched ws u1 (one .unmoved .shape .long ∙ sym (g .long)) (one .untouched)
-
-  places1 : g1 .q (c .pos) ≡ c .first ∷ c .rest
-  places1 = one .unmoved .q-is (c .pos) ∙ c .places-are
-
-  known1 : c .pos < totalsAt u1 .known
-  known1 = omega (arith, c .known, alike1 .known)
-
-  id-known : KnownTo (streamsIn u1 st) id
-  id-known = rw (one .unmoved .streams) (_, c .found-in)
-
-  item1 : itemAt u1 (c .first) ≡ m
-  item1 = alike1 .items (c .first) (c .first-fits)
-
   -- what is behind the message
-  linked1 : Linked (nextOf u1) (nextOf u1 (c .first)) (c .rest)
-  linked1 = head-linked u1 st g1 (c .pos) known1 (c .first) (c .rest) places1 .2
-
-  next-is : m′ .next ≡ nextOf u1 (c .first)
-  next-is = renumbered s m .next-same ∙ sym (ap (λ (y : Item). y .next) item1)
+  linked : Linked (nextOf ws) (nextOf ws (c .first)) (c .rest)
+  linked = head-linked ws st g (c .pos) (c .known) (c .first) (c .rest) (c .places-are) .2
 
   rest-fits : (y : ℕ) → 1 ≤ count y (c .rest) → y < 1024
   rest-fits y h =
       let k : 1 ≤ count y (c .first ∷ c .rest) = omega arith in
       row-fits (g .q) (g .fr) y (c .pos) (g .split) below (rw (c .places-are) k)
 
-  items1 : each (itemIn u1 st) (c .rest) ≡ each (itemIn ws st) (c .rest)
-  items1 = each-frame (itemIn ws st) (itemIn u1 st) (c .rest) (λ y h. alike-same ws st u1 alike1 y (rest-fits y h) .item-same)
-
   -- the stream waits with it, or not
   abbrev first2 : ℕ
   first2 = nextFirst (endPending (s′ .«pause_state»)) (m′ .next)
 
-  abbrev u2 : List ℕ
-  u2 = rescheduled u1 (totalsAt u1 .interleaving) id first2 (s′ .priority)
+  size2 : headSize ws first2 ≡ next-size (pauseOf (endPending (s .«pause_state»))) (each (itemIn ws st) (c .rest))
+  size2 =
+      let h : headSize ws (m′ .next) ≡ head-size (each (itemIn ws st) (c .rest)) = rw (renumbered s m .next-same) (head-is ws st g (nextOf ws (c .first)) (c .rest) linked) in
+      rw (renumbered s m .state-same) (behind-is ws (endPending (s .«pause_state»)) (m′ .next) (each (itemIn ws st) (c .rest)) h)
 
-  two : Let u1 st g1 u2 (set-bytes-remaining id (headSize u1 first2) (weightOf (parametersFor (totalsAt u1 .interleaving) (s′ .priority))) (modelScheduler u1))
-  two = rescheduled-link u1 st g1 (one .known) id id-known (totalsAt u1 .interleaving) first2 (s′ .priority) (rw (renumbered s m .priority-same) (Laws.stream-at-fits ws (rowAt ws (c .pos)) .priority-fits))
+  -- the scheduler
+  abbrev u2 : List ℕ
+  u2 = (acceptLast ws at id n (headSize ws first2) (parametersFor (totalsAt ws .interleaving) (s′ .priority))) .next
+
+  two : Let ws st g u2 (set-bytes-remaining id (headSize ws first2) (weightOf (parametersFor (totalsAt ws .interleaving) (s′ .priority))) (accept (entryAt ws at) n (modelScheduler ws)))
+  two = last-known ws st g known at n (headSize ws first2) (totalsAt ws .interleaving) (s′ .priority) (c .listed) all (rw (renumbered s m .priority-same) (Laws.stream-at-fits ws (rowAt ws (c .pos)) .priority-fits))
 
   abbrev g2 : Shape u2 st
   g2 = two .unmoved .shape
 
   alike2 : Alike ws u2
-  alike2 = alike-both ws u1 u2 alike1 (alike-untouched u1 u2 (two .unmoved .shape .long ∙ sym (g1 .long)) (two .untouched))
-
-  size2 : headSize u1 first2 ≡ next-size (pauseOf (endPending (s .«pause_state»))) (each (itemIn ws st) (c .rest))
-  size2 =
-      let h : headSize u1 (m′ .next) ≡ head-size (each (itemIn ws st) (c .rest)) = rw next-is (head-is u1 st g1 (nextOf u1 (c .first)) (c .rest) linked1 ∙ ap head-size items1) in
-      rw (renumbered s m .state-same) (behind-is u1 (endPending (s .«pause_state»)) (m′ .next) (each (itemIn ws st) (c .rest)) h)
+  alike2 = alike-untouched ws u2 (two .unmoved .shape .long ∙ sym (g .long)) (two .untouched)
 
   -- the message leaves
   places2 : g2 .q (c .pos) ≡ c .first ∷ c .rest
-  places2 = two .unmoved .q-is (c .pos) ∙ places1
+  places2 = two .unmoved .q-is (c .pos) ∙ c .places-are
 
   known2 : c .pos < totalsAt u2 .known
   known2 = omega (arith, c .known, alike2 .known)
@@ -233,31 +203,29 @@ module _ (ws st : List ℕ) (g : Shape ws st) (known : AllKnown ws st) (at : ℕ
       let d : idAt u2 (c .pos) ≡ idAt ws (c .pos) = ap (λ (k : Known). k .id .0) table2 in
       let e : streamOf (idAt u2 (c .pos)) s3 (each (itemIn u2 st) (c .rest)) ≡ streamOf (idAt ws (c .pos)) (withoutHead s′ (endPending (s .«pause_state»)) (nextOf ws (c .first)) n) (each (itemIn ws st) (c .rest)) = rw (d, next2, items2) in
       three .streams ∙ ap (λ (y : Stream). put-stream y (streamsIn u2 st)) e
-      ∙ ap (put-stream (streamOf (idAt ws (c .pos)) (withoutHead s′ (endPending (s .«pause_state»)) (nextOf ws (c .first)) n) (each (itemIn ws st) (c .rest)))) (two .unmoved .streams ∙ one .unmoved .streams)
-
-  il1 : totalsAt u1 .interleaving ≡ totalsAt ws .interleaving
-  il1 = ap (λ (t : Totals). t .interleaving) (one .untouched .same-totals)
+      ∙ ap (put-stream (streamOf (idAt ws (c .pos)) (withoutHead s′ (endPending (s .«pause_state»)) (nextOf ws (c .first)) n) (each (itemIn ws st) (c .rest)))) (two .unmoved .streams)
 
   totals2 : totalsAt u2 ≡ totalsAt ws
-  totals2 = two .untouched .same-totals ∙ one .untouched .same-totals
+  totals2 = two .untouched .same-totals
 
   scheduler3 : (w : Stream) → w .priority ≡ s .priority → modelScheduler u3 ≡ set-bytes-remaining (idAt ws (c .pos)) (next-size (pauseOf (endPending (s .«pause_state»))) (each (itemIn ws st) (c .rest))) (weight-of (totalsAt ws .interleaving) w) (accept (entryAt ws at) n (modelScheduler ws))
   scheduler3 w e =
-      let f : weightOf (parametersFor (totalsAt u1 .interleaving) (s′ .priority)) ≡ weight-of (totalsAt ws .interleaving) w = rw il1 (weight-is (totalsAt ws .interleaving) (s′ .priority) w (e ∙ sym (renumbered s m .priority-same))) in
-      let k : set-bytes-remaining id (headSize u1 first2) (weightOf (parametersFor (totalsAt u1 .interleaving) (s′ .priority))) (modelScheduler u1) ≡ set-bytes-remaining (idAt ws (c .pos)) (next-size (pauseOf (endPending (s .«pause_state»))) (each (itemIn ws st) (c .rest))) (weight-of (totalsAt ws .interleaving) w) (accept (entryAt ws at) n (modelScheduler ws)) = rw (c .id-is, size2, f, one .scheduler) in
+      let f : weightOf (parametersFor (totalsAt ws .interleaving) (s′ .priority)) ≡ weight-of (totalsAt ws .interleaving) w = weight-is (totalsAt ws .interleaving) (s′ .priority) w (e ∙ sym (renumbered s m .priority-same)) in
+      let k : set-bytes-remaining id (headSize ws first2) (weightOf (parametersFor (totalsAt ws .interleaving) (s′ .priority))) (accept (entryAt ws at) n (modelScheduler ws)) ≡ set-bytes-remaining (idAt ws (c .pos)) (next-size (pauseOf (endPending (s .«pause_state»))) (each (itemIn ws st) (c .rest))) (weight-of (totalsAt ws .interleaving) w) (accept (entryAt ws at) n (modelScheduler ws)) = rw (c .id-is, size2, f) in
       three .schedules ∙ two .scheduler ∙ k
 
-  are : u3 ≡ finished ((acceptAt ws at n) .next) id (rowAt ws (c .pos)) s′ m′ n
+  are : u3 ≡ finished ws at id (rowAt ws (c .pos)) s′ m′ n
   unfolding finished waitingOn
   are =
       let e : s′ .first ≡ c .first = renumbered s m .first-same ∙ c .first-is in
       let f : m′ .next ≡ nextOf u2 (c .first) = renumbered s m .next-same ∙ sym next2 in
-      rw (row2, e, ← f, renumbered s m .state-same)
+      ap (λ (r : ℕ). putStream (released u2 (c .first) n) r s3) row2
+      ∙ ap₂ (λ (x : ℕ) (y : OutgoingStream). putStream (released u2 x n) (rowAt ws (c .pos)) y) (sym e) (ap₂ (λ (x y : ℕ). withoutHead s′ x y n) (ap endPending (sym (renumbered s m .state-same))) (sym f))
 
-  pub the-finished : Finished ws st g at c n (finished ((acceptAt ws at n) .next) ((entryAt ws at) .stream-id) (rowAt ws (c .pos)) (numberedStream (streamAt ws (rowAt ws (c .pos))) (itemAt ws (c .first))) (numberedItem (streamAt ws (rowAt ws (c .pos))) (itemAt ws (c .first))) n)
+  pub the-finished : Finished ws st g at c n (finished ws at ((entryAt ws at) .stream-id) (rowAt ws (c .pos)) (numberedStream (streamAt ws (rowAt ws (c .pos))) (itemAt ws (c .first))) (numberedItem (streamAt ws (rowAt ws (c .pos))) (itemAt ws (c .first))) n)
   the-finished = subst (Finished ws st g at c n) are (record {
     shape = three .after .shape;
-    options = three .options ∙ two .untouched .same-options ∙ one .untouched .same-options;
+    options = three .options ∙ two .untouched .same-options;
     total = three .total ∙ ap (λ (t : Totals). t .total - n) totals2;
     interleaving = three .interleaving ∙ ap (λ (t : Totals). t .interleaving) totals2;
     next-id = three .next-id ∙ ap (λ (t : Totals). t .«next_message_id») totals2;

@@ -155,11 +155,11 @@ module _ (ws st : List ℕ) (g : Good ws st) (at : ℕ) (c : Choice ws st (g .sh
         let r = renumbered s m in
         rw (counters-are, b, r .amount-same, r .priority-same, end-state (s .«pause_state»), r .threshold-same)
 
-    last-model : model (finished ((acceptAt ws at n) .next) id (rowAt ws (c .pos)) s′ m′ n) st ≡ handed-out-last (model ws st) (entryAt ws at) t i is n
+    last-model : (entryAt ws at) .bytes-remaining ≤ n → model (finished ws at id (rowAt ws (c .pos)) s′ m′ n) st ≡ handed-out-last (model ws st) (entryAt ws at) t i is n
     unfolding handed-out-last model
-    last-model =
-        let w = the-finished ws st sh (all-known ws st (g .well)) at c n in
-        let us : List ℕ = finished ((acceptAt ws at n) .next) id (rowAt ws (c .pos)) s′ m′ n in
+    last-model all =
+        let w = the-finished ws st sh (all-known ws st (g .well)) at c n all in
+        let us : List ℕ = finished ws at id (rowAt ws (c .pos)) s′ m′ n in
         let e : t .priority ≡ s .priority = ap (λ (y : Stream). y .priority) (stream-is ws st sh (c .pos) (c .known)) in
         let d : t .id ≡ idAt ws (c .pos) = ap (λ (y : Stream). y .id) (stream-is ws st sh (c .pos) (c .known)) in
         let p : pauseOf (endPending (s .«pause_state»)) ≡ end-pending (t .pause-state) = end-state (s .«pause_state») ∙ ap end-pending (sym (ap (λ (y : Stream). y .pause-state) (stream-is ws st sh (c .pos) (c .known)))) in
@@ -176,32 +176,36 @@ module _ (ws st : List ℕ) (g : Good ws st) (at : ℕ) (c : Choice ws st (g .sh
     unfolding rest
     rest′ = rw (renumbered s m .length-same, renumbered s m .offset-same)
 
+    -- The last bytes are all that the scheduler has of the message.
+    all-sent : Chosen (model ws st) (entryAt ws at) t i is → n ≡ rest m → (entryAt ws at) .bytes-remaining ≤ n
+    all-sent h z = omega (arith, h .choice-size, rest-is ws st g at c)
+
     -- The words after a fragment of n bytes.
-    sent-model : model (writtenSent ws at id (rowAt ws (c .pos)) s′ m′ n) st ≡ handed-out (model ws st) (entryAt ws at) t i is n
+    sent-model : Chosen (model ws st) (entryAt ws at) t i is → model (writtenSent ws at id (rowAt ws (c .pos)) s′ m′ n) st ≡ handed-out (model ws st) (entryAt ws at) t i is n
     unfolding writtenSent handed-out
-    sent-model =
+    sent-model h =
         let e : remaining i ≡ rest m = rest-is ws st g at c in
         by-index n (rest m)
-        (λ z. rw (rest′, e, eq-eqb n (rest m) z) last-model)
+        (λ z. rw (rest′, e, eq-eqb n (rest m) z) (last-model (all-sent h z)))
         (λ z. rw (rest′, e, ne-eqb n (rest m) z) part-model)
 
-    sent-shape : Shape (writtenSent ws at id (rowAt ws (c .pos)) s′ m′ n) st
+    sent-shape : Chosen (model ws st) (entryAt ws at) t i is → Shape (writtenSent ws at id (rowAt ws (c .pos)) s′ m′ n) st
     unfolding writtenSent
-    sent-shape = by-index n (rest m)
-        (λ z. rw (rest′, eq-eqb n (rest m) z) (the-finished ws st sh (all-known ws st (g .well)) at c n .shape))
+    sent-shape h = by-index n (rest m)
+        (λ z. rw (rest′, eq-eqb n (rest m) z) (the-finished ws st sh (all-known ws st (g .well)) at c n (all-sent h z) .shape))
         (λ z. rw (rest′, ne-eqb n (rest m) z) (went-on ws st sh (all-known ws st (g .well)) at c n .shape))
 
-    sent-options : optionsAt (writtenSent ws at id (rowAt ws (c .pos)) s′ m′ n) ≡ optionsAt ws
+    sent-options : Chosen (model ws st) (entryAt ws at) t i is → optionsAt (writtenSent ws at id (rowAt ws (c .pos)) s′ m′ n) ≡ optionsAt ws
     unfolding writtenSent
-    sent-options = by-index n (rest m)
-        (λ z. rw (rest′, eq-eqb n (rest m) z) (the-finished ws st sh (all-known ws st (g .well)) at c n .options))
+    sent-options h = by-index n (rest m)
+        (λ z. rw (rest′, eq-eqb n (rest m) z) (the-finished ws st sh (all-known ws st (g .well)) at c n (all-sent h z) .options))
         (λ z. rw (rest′, ne-eqb n (rest m) z) (went-on ws st sh (all-known ws st (g .well)) at c n .options))
 
     sent-good : Chosen (model ws st) (entryAt ws at) t i is → Good (writtenSent ws at id (rowAt ws (c .pos)) s′ m′ n) st
     sent-good h = record {
-      shape = sent-shape;
-      store-is = g .store-is ∙ sym (ap (λ o. o .«store_length») sent-options);
-      well = rw sent-model (handed-well (model ws st) id t i is (g .well) (h .choice-head) (entryAt ws at) refl (h .choice-size) (h .choice-weight) (h .choice-stands) n (rw (rest-is ws st g at c) hn));
+      shape = sent-shape h;
+      store-is = g .store-is ∙ sym (ap (λ o. o .«store_length») (sent-options h));
+      well = rw (sent-model h) (handed-well (model ws st) id t i is (g .well) (h .choice-head) (entryAt ws at) refl (h .choice-size) (h .choice-weight) (h .choice-stands) n (rw (rest-is ws st g at c) hn));
     }
 
     -- ---- what it reports
@@ -314,7 +318,7 @@ module _ (ws st : List ℕ) (g : Good ws st) (at : ℕ) (c : Choice ws st (g .sh
         step-is = rw (not-short n fits);
         sends = record {
           good = sent-good n fits h;
-          next = sent-model n fits;
+          next = sent-model n fits h;
           answer = rw z;
           events = ap (λ k. written (written es₀ 0 vs) k (sent-events (model ws st) t n)) zero ∙ sym (written-append es₀ 0 vs (sent-events (model ws st) t n));
           buffer = refl;

@@ -12,8 +12,9 @@ use Rattle.queue_words.specs.declared.header.Totals.{Totals}
 use Rattle.queue_words.specs.declared.items.Item.{Item}
 use Rattle.queue_words.specs.declared.streams.OutgoingStream.{OutgoingStream}
 use Rattle.payload_store.specs.Reading.{readCode, readPart}
+use Rattle.stream_scheduler.specs.Anew.{acceptLast}
 use Rattle.stream_scheduler.specs.Words.{acceptAt}
-use Rattle.queue_streams.specs.Waiting.{rescheduled}
+use Rattle.queue_streams.specs.Waiting.{headSize, parametersFor}
 use Rattle.message_chains.specs.Amounts.{rest}
 use Rattle.message_chains.specs.Dropping.{endPending}
 use Rattle.message_chains.specs.Heads.{headCode, released, withoutHead, sentNotes}
@@ -36,14 +37,16 @@ unfoldable pub nextFirst : ℕ → ℕ → ℕ
 nextFirst state next = pick (eqb state 2) 1024 next
 
 -- "When a pending stream's message ends or is discarded, it is paused": 1 is pending, 2 paused.
--- "A last fragment ends its stream's waiting": the stream waits with what is behind the message, or not.
-unfoldable pub waitingOn : List ℕ → ℕ → OutgoingStream → ℕ → List ℕ
-waitingOn ws id s next = rescheduled ws (totalsAt ws .interleaving) id (nextFirst (endPending (s .«pause_state»)) next) (s .priority)
+-- "A last fragment ends its stream's waiting [..]; a message behind it, unless the stream is now paused, then makes the stream begin anew": after its n bytes the stream of the row `at`
+-- waits with what is behind the message, or not.
+unfoldable pub waitingOn : List ℕ → ℕ → ℕ → OutgoingStream → ℕ → ℕ → List ℕ
+waitingOn ws at id s next n =
+    (acceptLast ws at id n (headSize ws (nextFirst (endPending (s .«pause_state»)) next)) (parametersFor (totalsAt ws .interleaving) (s .priority))) .next
 
 -- the words after a last fragment of n bytes: the message m is gone from the stream s, which has given its numbers
-unfoldable pub finished : List ℕ → ℕ → ℕ → OutgoingStream → Item → ℕ → List ℕ
-finished ws id row s m n =
-    putStream (released (waitingOn ws id s (m .next)) (s .first) n) row (withoutHead s (endPending (s .«pause_state»)) (m .next) n)
+unfoldable pub finished : List ℕ → ℕ → ℕ → ℕ → OutgoingStream → Item → ℕ → List ℕ
+finished ws at id row s m n =
+    putStream (released (waitingOn ws at id s (m .next) n) (s .first) n) row (withoutHead s (endPending (s .«pause_state»)) (m .next) n)
 
 -- the totals with n bytes fewer
 abbrev pub lessTotal : Totals → ℕ → Totals
@@ -80,7 +83,7 @@ wentOn ws row s m n =
 -- "Handing out moves its start, and the system time, by the cost of the bytes handed out"; "last means that nothing remains": the words after a fragment.
 unfoldable pub writtenSent : List ℕ → ℕ → ℕ → ℕ → OutgoingStream → Item → ℕ → List ℕ
 writtenSent ws at id row s m n =
-    pick (eqb n (rest m)) (finished (acceptAt ws at n .next) id row s m n) (wentOn (acceptAt ws at n .next) row s m n)
+    pick (eqb n (rest m)) (finished ws at id row s m n) (wentOn (acceptAt ws at n .next) row s m n)
 
 -- The fragment of n bytes of the head m of the stream s, after k events; refused, it leaves all as it was.
 unfoldable pub sent : List ℕ → List ℕ → List ℕ → List ℕ → ℕ → ℕ → ℕ → ℕ → OutgoingStream → Item → ℕ → ProducedWith

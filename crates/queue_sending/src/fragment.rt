@@ -17,7 +17,8 @@ use message_chains::heads::sent_events;
 use message_chains::heads::without_head;
 use payload_store::read_code;
 use payload_store::read_payload;
-use queue_streams::waiting::reschedule;
+use queue_streams::waiting::head_size;
+use queue_streams::waiting::parameters_for;
 use queue_words::QUEUE_WORDS;
 use queue_words::active::load_active;
 use queue_words::header::load_totals;
@@ -29,6 +30,7 @@ use queue_words::streams::OutgoingStream;
 use queue_words::streams::load_stream;
 use queue_words::streams::store_stream;
 use stream_scheduler::accept;
+use stream_scheduler::anew::accept_last;
 
 fn least(a: u64, b: u64) -> u64
     ensures { λ r. ⌜ r ≡ leastOf a b ⌝ }
@@ -72,15 +74,25 @@ fn next_first(state: u8, next: u64) -> u64
     next
 }
 
-// After a last fragment of n bytes: the message m is gone from the stream s, which has given its numbers.
-fn finish(queue: &mut [u64; QUEUE_WORDS], id: u16, row: usize, s: OutgoingStream, m: Item, n: u64)
+// After a last fragment of n bytes: the message m is gone from the stream s, which has given its numbers and waits with what is behind.
+fn finish(
+    queue: &mut [u64; QUEUE_WORDS],
+    at: usize,
+    id: u16,
+    row: usize,
+    s: OutgoingStream,
+    m: Item,
+    n: u64,
+)
     requires { ⌜ (row < 256) × (s .first < 1024) ⌝ }
-    ensures { λ _. ⌜ now (queue .exit) ≡ finished (now (queue .entry)) id row s m n ⌝ }
+    ensures { λ _. ⌜ now (queue .exit) ≡ finished (now (queue .entry)) at id row s m n ⌝ }
 {
     let state = end_pending(s.pause_state);
     let t = load_totals(&*queue);
     let first = next_first(state, m.next);
-    reschedule(queue, t.interleaving, id, first, s.priority);
+    let bytes = head_size(&*queue, first);
+    let p = parameters_for(t.interleaving, s.priority);
+    accept_last(queue, at, id, n, bytes, p);
     release(queue, s.first as usize, n);
     let o = without_head(s, state, m.next, n);
     store_stream(queue, row, o);
@@ -114,12 +126,12 @@ fn write_sent(
     requires { ⌜ (row < 256) × (s .first < 1024) ⌝ }
     ensures { λ _. ⌜ now (queue .exit) ≡ writtenSent (now (queue .entry)) at id row s m n ⌝ }
 {
-    accept(queue, at, n);
     let left = remaining(m);
     if n == left {
-        finish(queue, id, row, s, m, n);
+        finish(queue, at, id, row, s, m, n);
         return;
     }
+    accept(queue, at, n);
     go_on(queue, row, s, m, n);
 }
 

@@ -27,6 +27,8 @@ use Rattle.queue_model.proofs.Invariant.Well.{Well}
 use Rattle.stream_scheduler.specs.Link.{GoodScheduler, Room, listed, free, Unlike, Untouched, FitsParameters, entryAt, tableOf, modelScheduler, Steps}
 use Rattle.stream_scheduler.specs.Rows.{weightOf}
 use Rattle.stream_scheduler.specs.Words.{setBytesRemaining, removeStream, acceptAt}
+use Rattle.stream_scheduler.specs.Anew.{acceptLast}
+use Rattle.stream_scheduler.proofs.BeginsAnew.{last-link, untouched-last}
 use Rattle.stream_scheduler.proofs.Handing.{accept-link}
 use Rattle.stream_scheduler.proofs.Index.{table-nil, table-suc, rising-table, table-at, table-none, where-is, at, nowhere}
 use Rattle.stream_scheduler.proofs.Link.{set-link, remove-link}
@@ -277,6 +279,15 @@ module _ (ws st : List ℕ) (g : Shape ws st) (a : AllKnown ws st) where
   accept-known i bytes h =
       let s = accept-link ws (g .schedules) i bytes h in
       let-of ws st g ((acceptAt ws i bytes) .next) (accept (entryAt ws i) bytes (modelScheduler ws)) (untouched-accept ws i bytes) (s .step-good) (s .step-model) (listing-accept (streamsIn ws st) (entryAt ws i) bytes (modelScheduler ws) (row-known i h) a)
+
+  -- A row's last bytes: its stream goes on with so many, or waits no more.
+  pub last-known : (i sent bytes : ℕ) (il : Bool) (p : ℕ) → i < schedulerAt ws .active → (entryAt ws i) .bytes-remaining ≤ sent → p < 65536
+      → Let ws st g ((acceptLast ws i ((entryAt ws i) .stream-id) sent bytes (parametersFor il p)) .next) (set-bytes-remaining ((entryAt ws i) .stream-id) bytes (weightOf (parametersFor il p)) (accept (entryAt ws i) sent (modelScheduler ws)))
+  last-known i sent bytes il p h le f =
+      let id : ℕ = (entryAt ws i) .stream-id in
+      let s = last-link ws (g .schedules) i sent h bytes (parametersFor il p) (fits-parameters il p f) le in
+      let-of ws st g ((acceptLast ws i id sent bytes (parametersFor il p)) .next) (set-bytes-remaining id bytes (weightOf (parametersFor il p)) (accept (entryAt ws i) sent (modelScheduler ws))) (untouched-last ws i id sent bytes (parametersFor il p)) (s .step-good) (s .step-model)
+      (listing-set (streamsIn ws st) id bytes (weightOf (parametersFor il p)) (accept (entryAt ws i) sent (modelScheduler ws)) (row-known i h) (listing-accept (streamsIn ws st) (entryAt ws i) sent (modelScheduler ws) (row-known i h) a))
 
 -- ---- the bytes of a first message
 

@@ -30,14 +30,14 @@ use Rattle.stream_scheduler.proofs.Handing.{accept-link}
 pub record Kept (ws : List ℕ) (r : Outcome) : Type 0 where
   pub if-refused : r .done ≡ false → r .next ≡ ws
 
-kept-done : (ws us : List ℕ) → Kept ws (outcome true us)
+pub kept-done : (ws us : List ℕ) → Kept ws (outcome true us)
 kept-done ws us = record { if-refused = λ e. absurd (holds false (sym e)) }
 
-kept-if : (ws : List ℕ) (b : Bool) (x y : Outcome) → Kept ws x → Kept ws y → Kept ws (if b then x else y)
+pub kept-if : (ws : List ℕ) (b : Bool) (x y : Outcome) → Kept ws x → Kept ws y → Kept ws (if b then x else y)
 kept-if ws true x y k l = k
 kept-if ws false x y k l = l
 
-kept-refused : (ws : List ℕ) → Kept ws (outcome false ws)
+pub kept-refused : (ws : List ℕ) → Kept ws (outcome false ws)
 kept-refused ws = record { if-refused = λ e. refl }
 
 pub kept-remove : (ws : List ℕ) (id : ℕ) → Kept ws (removeStream ws id)
@@ -58,7 +58,7 @@ kept-accept ws at bytes = kept-if ws (ltb 256 ((schedulerAt ws) .active)) _ _ (k
 
 -- ---- the rest of the queue
 
-untouched-same : (ws : List ℕ) → Untouched ws ws
+pub untouched-same : (ws : List ℕ) → Untouched ws ws
 untouched-same ws = record { same-options = refl; same-totals = refl; same-known = λ i h. refl; same-streams = λ i h. refl; same-items = λ i h. refl }
 
 untouched-then : (ws us vs : List ℕ) → Untouched ws us → Untouched us vs → Untouched ws vs
@@ -88,18 +88,18 @@ untouched-row ws i a = record {
   same-items = λ j h. item-put-active ws i a j h;
 }
 
-untouched-both : (ws : List ℕ) (i : ℕ) (a : ActiveStreamInfo) (s : SchedulerState) → Untouched ws (putScheduler (putActive ws i a) s)
+pub untouched-both : (ws : List ℕ) (i : ℕ) (a : ActiveStreamInfo) (s : SchedulerState) → Untouched ws (putScheduler (putActive ws i a) s)
 untouched-both ws i a s = untouched-then ws (putActive ws i a) (putScheduler (putActive ws i a) s) (untouched-row ws i a) (untouched-state (putActive ws i a) s)
 
-untouched-if : (ws : List ℕ) (b : Bool) (us vs : List ℕ) → Untouched ws us → Untouched ws vs → Untouched ws (if b then us else vs)
+pub untouched-if : (ws : List ℕ) (b : Bool) (us vs : List ℕ) → Untouched ws us → Untouched ws vs → Untouched ws (if b then us else vs)
 untouched-if ws true us vs k l = k
 untouched-if ws false us vs k l = l
 
-outcome-if : (ws : List ℕ) (b : Bool) (x y : Outcome) → Untouched ws (x .next) → Untouched ws (y .next) → Untouched ws ((if b then x else y) .next)
+pub outcome-if : (ws : List ℕ) (b : Bool) (x y : Outcome) → Untouched ws (x .next) → Untouched ws (y .next) → Untouched ws ((if b then x else y) .next)
 outcome-if ws true x y k l = k
 outcome-if ws false x y k l = l
 
-untouched-dropped : (ws : List ℕ) (at c t n : ℕ) → Untouched ws (droppedRow ws at c t n)
+pub untouched-dropped : (ws : List ℕ) (at c t n : ℕ) → Untouched ws (droppedRow ws at c t n)
 unfolding droppedRow
 untouched-dropped ws at c t n = untouched-both ws at _ _
 

@@ -14,27 +14,25 @@ use Rattle.queue_words.specs.Active.{activeAt, putActive, FitsActive, parameter
 use Rattle.queue_words.specs.declared.active.SchedulingParameters.{SchedulingParameters}
 use Rattle.queue_words.specs.Header.{optionsAt, schedulerAt, putScheduler}
 use Rattle.queue_words.specs.declared.active.ActiveStreamInfo.{ActiveStreamInfo}
-use Rattle.queue_words.specs.declared.header.Options.{Options}
-use Rattle.queue_words.specs.declared.header.SchedulerState.{SchedulerState}
-use Rattle.queue_words.proofs.Laws.{active-at-fits, scheduler-at-put, options-put-active, options-put-scheduler, whole-put-active, whole-put-scheduler}
+use Rattle.queue_words.proofs.Laws.{active-at-fits}
 use Rattle.stream_scheduler.specs.declared.Peeked.{Peeked}
 use Rattle.stream_scheduler.specs.declared.Peeked.the-variants.{At, Nothing, Broken}
 use Rattle.queue_words.specs.declared.active.SchedulingParameters.the-variants.{RoundRobin, WeightedFairQueuing}
 use Rattle.active_table.specs.Rows.{seek, bestTo}
 use Rattle.stream_scheduler.specs.Rows.{weightOf, weightAt, advanced, scheduledRow}
 use Rattle.stream_scheduler.specs.Words.{Outcome, outcome, currentRow, peekAmong, peekWords, stateOf, droppedRow, rememberedIn, rememberedWord, partRow, acceptRow, acceptAt}
-use Rattle.stream_scheduler.specs.Link.{entryOf, entryAt, tableOf, currentOf, modelScheduler, Unlike, GoodScheduler, Steps, Chooses, row-chosen, none-chosen}
-use Rattle.stream_scheduler.proofs.Index.{table-nil, table-at, table-none, table-set, unlike-same, table-least}
+use Rattle.stream_scheduler.specs.Link.{entryOf, entryAt, tableOf, currentOf, modelScheduler, GoodScheduler, Steps, Chooses, row-chosen, none-chosen}
+use Rattle.stream_scheduler.proofs.Index.{table-nil, table-at, table-none, table-least}
 use Rattle.stream_scheduler.proofs.Search.{Sought, hit, miss, sought, best-is}
-use Rattle.stream_scheduler.proofs.Link.{make, model-of, entry-put, entry-put-other, entry-state, entry-row, id-fits, current-some, current-none, forget-own, dropped-good, dropped-count, dropped-model, none-there, some-there, count, scheduled-row}
+use Rattle.stream_scheduler.proofs.Link.{make, current-some, current-none, forget-own, dropped-good, dropped-count, dropped-model, none-there, some-there, count, row-link, scheduled-row}
 
 -- ---- accept
 
-moved-is : (ws : List ℕ) (at bytes : ℕ) → moved (entryAt ws at) bytes ≡ advanced ((activeAt ws at) .parameters) ((activeAt ws at) .«virtual_start_time») bytes
+pub moved-is : (ws : List ℕ) (at bytes : ℕ) → moved (entryAt ws at) bytes ≡ advanced ((activeAt ws at) .parameters) ((activeAt ws at) .«virtual_start_time») bytes
 unfolding moved advanced entryAt
 moved-is ws at bytes = refl
 
-last-is : (ws : List ℕ) (a : Active) (bytes : ℕ) → accept-last a bytes (modelScheduler ws) ≡
+pub last-is : (ws : List ℕ) (a : Active) (bytes : ℕ) → accept-last a bytes (modelScheduler ws) ≡
     make ((optionsAt ws) .«payload_limit») (forget (a .stream-id) (some (a .stream-id))) (rest-time (moved a bytes) (without-active (a .stream-id) (tableOf (entryAt ws) ((schedulerAt ws) .active)))) (without-active (a .stream-id) (tableOf (entryAt ws) ((schedulerAt ws) .active)))
 unfolding accept-last remove-stream modelScheduler
 last-is ws a bytes = refl
@@ -60,7 +58,7 @@ module _ (ws : List ℕ) (g : GoodScheduler ws) (at bytes : ℕ) (h : at < (sche
   abbrev time : ℕ
   time = advanced ((activeAt ws at) .parameters) ((activeAt ws at) .«virtual_start_time») bytes
 
-  accept-last-link : Steps ws (outcome true (droppedRow ws at 65536 time ((schedulerAt ws) .active))) (accept-last (entryAt ws at) bytes (modelScheduler ws))
+  pub accept-last-link : Steps ws (outcome true (droppedRow ws at 65536 time ((schedulerAt ws) .active))) (accept-last (entryAt ws at) bytes (modelScheduler ws))
   accept-last-link = elim (count ((schedulerAt ws) .active)) [
     | none-there z ↦ absurd (omega arith)
     | some-there m z ↦ (let h′ : at < suc m = subst (λ (x : ℕ). at < x) z h in
@@ -100,35 +98,13 @@ module _ (ws : List ℕ) (g : GoodScheduler ws) (at bytes : ℕ) (h : at < (sche
 
   accept-part-link : Steps ws (outcome true (putScheduler (putActive ws at part) (stateOf (rememberedWord ((activeAt ws at) .«stream_id» .0) ((activeAt ws at) .parameters)) time ((schedulerAt ws) .active)))) (accept-part (entryAt ws at) bytes (modelScheduler ws))
   accept-part-link =
-      let s : SchedulerState = schedulerAt ws in
       let l : ℕ = (optionsAt ws) .«payload_limit» in
-      let few : s .active ≤ 256 = g .few in
-      let us : List ℕ = putActive ws at part in
-      let v : SchedulerState = stateOf (rememberedWord ((activeAt ws at) .«stream_id» .0) ((activeAt ws at) .parameters)) time (s .active) in
-      let ws′ : List ℕ = putScheduler us v in
-      let ev : schedulerAt ws′ ≡ v = scheduler-at-put us v (whole-put-active ws at part ∙ g .long) in
-      let here : entryAt ws′ at ≡ entryOf part = entry-state us v at ∙ entry-put ws at part (g .long) (omega arith) part-fits in
-      let there : (j : ℕ) → (at ≡ j → ⊥) → entryAt ws′ j ≡ entryAt ws j = λ j ne. entry-state us v j ∙ entry-put-other ws at part j ne in
-      let et : tableOf (entryAt ws′) (s .active) ≡ put-active (entryOf part) (tableOf (entryAt ws) (s .active)) = table-set (entryAt ws) (entryAt ws′) (s .active) at (entryOf part) (g .unlike) h part-id here there in
-      let ids : (j : ℕ) → (entryAt ws′ j) .stream-id ≡ (entryAt ws j) .stream-id = λ j. elim (tri at j) [
-        | less o ↦ ap (λ (x : Active). x .stream-id) (there j (λ f. omega arith))
-        | same f ↦ subst (λ (k : ℕ). (entryAt ws′ k) .stream-id ≡ (entryAt ws k) .stream-id) f (ap (λ (x : Active). x .stream-id) here ∙ part-id)
-        | more o ↦ ap (λ (x : Active). x .stream-id) (there j (λ f. omega arith))
-      ] in
-      record {
-        step-done = refl;
-        step-good = record {
-          long = whole-put-scheduler us v ∙ whole-put-active ws at part ∙ g .long;
-          few = subst (λ (x : SchedulerState). x .active ≤ 256) (sym ev) (g .few);
-          unlike = subst (λ (x : SchedulerState). Unlike (entryAt ws′) (x .active)) (sym ev) (unlike-same (entryAt ws) (entryAt ws′) (s .active) (λ j o. ids j) (g .unlike));
-        };
-        step-model =
-            model-of ws′ l v (put-active (entryOf part) (tableOf (entryAt ws) (s .active))) (ap (λ (o : Options). o .«payload_limit») (options-put-scheduler us v ∙ options-put-active ws at part)) ev et
-            ∙ ap₂ (λ (c : Option ℕ) (t : ℕ). make l c t (put-active (entryOf part) (tableOf (entryAt ws) (s .active)))) part-current (sym (moved-is ws at bytes))
-            ∙ ap (λ (a : Active). make l (remember ((entryAt ws at) .stream-id) ((entryAt ws at) .weight)) (moved (entryAt ws at) bytes) (put-active a (tableOf (entryAt ws) (s .active)))) part-entry
-            ∙ sym (part-is ws (entryAt ws at) bytes);
-        step-count = subst (λ (x : SchedulerState). x .active ≤ suc (s .active)) (sym ev) (omega arith);
-      }
+      let as′ : List Active = tableOf (entryAt ws) ((schedulerAt ws) .active) in
+      subst (Steps ws (outcome true (putScheduler (putActive ws at part) (stateOf (rememberedWord ((activeAt ws at) .«stream_id» .0) ((activeAt ws at) .parameters)) time ((schedulerAt ws) .active)))))
+      (ap₂ (λ (c : Option ℕ) (t : ℕ). make l c t (put-active (entryOf part) as′)) part-current (sym (moved-is ws at bytes))
+      ∙ ap (λ (a : Active). make l (remember ((entryAt ws at) .stream-id) ((entryAt ws at) .weight)) (moved (entryAt ws at) bytes) (put-active a as′)) part-entry
+      ∙ sym (part-is ws (entryAt ws at) bytes))
+      (row-link ws g at h part part-fits part-id (rememberedWord ((activeAt ws at) .«stream_id» .0) ((activeAt ws at) .parameters)) time)
 
   same-size : (entryAt ws at) .bytes-remaining ≡ (activeAt ws at) .«bytes_remaining»
   unfolding entryAt

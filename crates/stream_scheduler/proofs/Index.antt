@@ -197,6 +197,27 @@ table-without e n k h = same-table active-key (without-active k (tableOf e n)) (
   | more l ↦ find-without-other active-key j k (tableOf e n) (λ f. omega arith)
 ])
 
+-- A table from which a stream is taken out, and put back, or taken out again.
+module _ (xs : List Active) (r : Rising active-key xs) where
+  pub put-without : (a : Active) → put-active a (without-active (a .stream-id) xs) ≡ put-active a xs
+  put-without a =
+      let ys : List Active = without-active (a .stream-id) xs in
+      let other : (k : ℕ) → (a .stream-id ≡ k → ⊥) → find-active k (put-active a ys) ≡ find-active k (put-active a xs) = λ k ne. find-put-other active-key k a ys ne ∙ find-without-other active-key k (a .stream-id) xs (λ f. ne (sym f)) ∙ sym (find-put-other active-key k a xs ne) in
+      same-table active-key (put-active a ys) (put-active a xs) (rising-put active-key a ys (rising-without active-key (a .stream-id) xs r)) (rising-put active-key a xs r) (λ k. elim (tri (a .stream-id) k) [
+        | less l ↦ other k (λ f. omega arith)
+        | same f ↦ subst (λ (x : ℕ). find-active x (put-active a ys) ≡ find-active x (put-active a xs)) f (find-put-same active-key a ys ∙ sym (find-put-same active-key a xs))
+        | more l ↦ other k (λ f. omega arith)
+      ])
+
+  pub without-twice : (k : ℕ) → without-active k (without-active k xs) ≡ without-active k xs
+  without-twice k =
+      let ys : List Active = without-active k xs in
+      same-table active-key (without-active k ys) ys (rising-without active-key k ys (rising-without active-key k xs r)) (rising-without active-key k xs r) (λ j. elim (tri j k) [
+        | less l ↦ find-without-other active-key j k ys (λ f. omega arith)
+        | same f ↦ subst (λ (x : ℕ). find-active x (without-active k ys) ≡ find-active x ys) (sym f) (find-without-same active-key k ys ∙ sym (find-without-same active-key k xs))
+        | more l ↦ find-without-other active-key j k ys (λ f. omega arith)
+      ])
+
 -- ---- the choice
 
 pub table-least : (e : ℕ → Active) (n i : ℕ) → Unlike e n → i < n → ((j : ℕ) → j < n → AtMost (e i) (e j)) → least-of (tableOf e n) ≡ some (e i)

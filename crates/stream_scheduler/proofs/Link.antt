@@ -87,7 +87,7 @@ pub forget-own : (id : ℕ) → forget id (some id) ≡ none
 unfolding forget
 forget-own id = ap (λ (b : Bool). if b then none else some id) (eqb-true {a = id} refl)
 
-forget-none : (id : ℕ) → forget id none ≡ none
+pub forget-none : (id : ℕ) → forget id none ≡ none
 unfolding forget
 forget-none id = refl
 
@@ -160,13 +160,19 @@ module _ (ws : List ℕ) (g : GoodScheduler ws) where
     pub dropped-count : (schedulerAt (droppedRow ws at c t (suc m))) .active ≤ suc ((schedulerAt ws) .active)
     dropped-count = subst (λ (x : SchedulerState). x .active ≤ suc ((schedulerAt ws) .active)) (sym state-is) (omega arith)
 
+    dropped-table : tableOf (entryAt (droppedRow ws at c t (suc m))) m ≡ without-active ((entryAt ws at) .stream-id) (tableOf (entryAt ws) (suc m))
+    dropped-table = table-drop (entryAt ws) (entryAt (droppedRow ws at c t (suc m))) m at unlike-n h here there
+
+    -- The system time where the row is out.
+    pub dropped-rest : rested t m ≡ rest-time t (without-active ((entryAt ws at) .stream-id) (tableOf (entryAt ws) (suc m)))
+    dropped-rest = rested-table t (entryAt (droppedRow ws at c t (suc m))) m ∙ ap (rest-time t) dropped-table
+
     pub dropped-model : modelScheduler (droppedRow ws at c t (suc m)) ≡ make ((optionsAt ws) .«payload_limit») (currentOf c) (rest-time t (without-active ((entryAt ws at) .stream-id) (tableOf (entryAt ws) (suc m)))) (without-active ((entryAt ws at) .stream-id) (tableOf (entryAt ws) (suc m)))
     dropped-model =
-        let e = table-drop (entryAt ws) (entryAt (droppedRow ws at c t (suc m))) m at unlike-n h here there in
         model-of (droppedRow ws at c t (suc m)) ((optionsAt ws) .«payload_limit») (stateOf c (rested t m) m) (without-active ((entryAt ws at) .stream-id) (tableOf (entryAt ws) (suc m)))
         (ap (λ (x : List ℕ). (optionsAt x) .«payload_limit») dropped-is ∙ ap (λ (o : Options). o .«payload_limit») (options-put-scheduler (putActive ws at (activeAt ws m)) (stateOf c (rested t m) m) ∙ options-put-active ws at (activeAt ws m)))
-        state-is e
-        ∙ ap (λ (x : ℕ). make ((optionsAt ws) .«payload_limit») (currentOf c) x (without-active ((entryAt ws at) .stream-id) (tableOf (entryAt ws) (suc m)))) (rested-table t (entryAt (droppedRow ws at c t (suc m))) m ∙ ap (rest-time t) e)
+        state-is dropped-table
+        ∙ ap (λ (x : ℕ). make ((optionsAt ws) .«payload_limit») (currentOf c) x (without-active ((entryAt ws at) .stream-id) (tableOf (entryAt ws) (suc m)))) dropped-rest
 
 -- A count is 0 or one more than another.
 pub data Count (n : ℕ) : Type 0 where
@@ -252,6 +258,37 @@ module _ (ws : List ℕ) (g : GoodScheduler ws) (id : ℕ) (fits : id < 65536) w
       let n : ℕ = (schedulerAt ws) .active in
       subst (λ (b : Bool). Steps ws (if b then outcome false ws else outcome true (takenOut ws id (seek ws id n) n)) (remove-stream id (modelScheduler ws))) (sym (ltb-false (g .few))) (taken (seek ws id n) (sought ws id n))
 
+-- ---- a row in its place
+
+-- A row of the same stream, and a state with as many rows.
+module _ (ws : List ℕ) (g : GoodScheduler ws) (at : ℕ) (h : at < (schedulerAt ws) .active) (row : ActiveStreamInfo) (fits : FitsActive row) (own : row .«stream_id» .0 ≡ (entryAt ws at) .stream-id) (c t : ℕ) where
+  pub row-link : Steps ws (outcome true (putScheduler (putActive ws at row) (stateOf c t ((schedulerAt ws) .active)))) (make ((optionsAt ws) .«payload_limit») (currentOf c) t (put-active (entryOf row) (tableOf (entryAt ws) ((schedulerAt ws) .active))))
+  row-link =
+      let s : SchedulerState = schedulerAt ws in
+      let few : s .active ≤ 256 = g .few in
+      let us : List ℕ = putActive ws at row in
+      let v : SchedulerState = stateOf c t (s .active) in
+      let ws′ : List ℕ = putScheduler us v in
+      let ev : schedulerAt ws′ ≡ v = scheduler-at-put us v (whole-put-active ws at row ∙ g .long) in
+      let here : entryAt ws′ at ≡ entryOf row = entry-state us v at ∙ entry-put ws at row (g .long) (omega arith) fits in
+      let there : (j : ℕ) → (at ≡ j → ⊥) → entryAt ws′ j ≡ entryAt ws j = λ j ne. entry-state us v j ∙ entry-put-other ws at row j ne in
+      let et : tableOf (entryAt ws′) (s .active) ≡ put-active (entryOf row) (tableOf (entryAt ws) (s .active)) = table-set (entryAt ws) (entryAt ws′) (s .active) at (entryOf row) (g .unlike) h own here there in
+      let ids : (j : ℕ) → (entryAt ws′ j) .stream-id ≡ (entryAt ws j) .stream-id = λ j. elim (tri at j) [
+        | less o ↦ ap (λ (x : Active). x .stream-id) (there j (λ f. omega arith))
+        | same f ↦ subst (λ (k : ℕ). (entryAt ws′ k) .stream-id ≡ (entryAt ws k) .stream-id) f (ap (λ (x : Active). x .stream-id) here ∙ own)
+        | more o ↦ ap (λ (x : Active). x .stream-id) (there j (λ f. omega arith))
+      ] in
+      record {
+        step-done = refl;
+        step-good = record {
+          long = whole-put-scheduler us v ∙ whole-put-active ws at row ∙ g .long;
+          few = subst (λ (x : SchedulerState). x .active ≤ 256) (sym ev) (g .few);
+          unlike = subst (λ (x : SchedulerState). Unlike (entryAt ws′) (x .active)) (sym ev) (unlike-same (entryAt ws) (entryAt ws′) (s .active) (λ j o. ids j) (g .unlike));
+        };
+        step-model = model-of ws′ ((optionsAt ws) .«payload_limit») v (put-active (entryOf row) (tableOf (entryAt ws) (s .active))) (ap (λ (o : Options). o .«payload_limit») (options-put-scheduler us v ∙ options-put-active ws at row)) ev et;
+        step-count = subst (λ (x : SchedulerState). x .active ≤ suc (s .active)) (sym ev) (omega arith);
+      }
+
 -- ---- set_bytes_remaining
 
 word-fits : (p : SchedulingParameters) → FitsParameters p → parametersWord p < 4294967296
@@ -276,7 +313,7 @@ start-some : (t : ℕ) (a : Active) → start-of t (some a) ≡ a .start
 unfolding start-of
 start-some t a = refl
 
-start-none : (t : ℕ) → start-of t none ≡ t
+pub start-none : (t : ℕ) → start-of t none ≡ t
 unfolding start-of
 start-none t = refl
 
@@ -284,10 +321,10 @@ module _ (ws : List ℕ) (g : GoodScheduler ws) (id bytes : ℕ) (p : Scheduling
   abbrev row-at : ℕ → ActiveStreamInfo
   row-at t = scheduledRow ((optionsAt ws) .«payload_limit») id (parametersWord p) t bytes
 
-  row-fits : (t : ℕ) → FitsActive (row-at t)
+  pub row-fits : (t : ℕ) → FitsActive (row-at t)
   row-fits t = record { stream-id-fits = fits; parameters-fits = word-fits p fp }
 
-  row-entry : (t : ℕ) → entryOf (row-at t) ≡ scheduled ((optionsAt ws) .«payload_limit») id (weightOf p) t bytes
+  pub row-entry : (t : ℕ) → entryOf (row-at t) ≡ scheduled ((optionsAt ws) .«payload_limit») id (weightOf p) t bytes
   row-entry t = scheduled-row ((optionsAt ws) .«payload_limit») id (parametersWord p) t bytes ∙ ap (λ (w : Weight). scheduled ((optionsAt ws) .«payload_limit») id w t bytes) (word-weight p fp)
 
   set-hit : (at : ℕ) → 0 < bytes → at < (schedulerAt ws) .active → (entryAt ws at) .stream-id ≡ id → Steps ws (outcome true (putActive ws at (row-at ((activeAt ws at) .«virtual_start_time»)))) (set-bytes-remaining id bytes (weightOf p) (modelScheduler ws))

@@ -1,9 +1,11 @@
 // The stream scheduler (tx/stream_scheduler.rs) over the table of active streams in the queue's words. Rows are looked up by way of
 // crate active_table, whose functions the queue lends the table to.
 //
-// A stream that waits has a row. Rows stand as the Rust's `Vec` has them: a new one at the end, and the last one in the place
-// of one that is removed. Every public function is total: where the number of rows is above 256, a row asked for is not among
+// A stream that waits has a row. Rows stand in no order: a new one at the end, the last one in the place of one that is removed, and a
+// stream that begins anew keeps its row. Every public function is total: where the number of rows is above 256, a row asked for is not among
 // them, or a 257th would be needed, it answers `false` or `Broken`, and nothing has changed. The caller then answers 16.
+pub mod anew;
+
 ghost use mathlib.Core.Path.{_≡_};
 ghost use Prim.Native.Nat.{_+_, _-_, _*_, _<_, _≤_, min};
 ghost use Rattle.queue_model.specs.Scheduler.{cost, saturating};

@@ -9,7 +9,6 @@ returns : tie.Need-returns
 unfolding writtenSent
 returns c =
     rw (
-      ← (c .before .before .before .before .accept .ensures),
       ← (c .before .before .before .remaining .ensures),
       eq-eqb _ _ (c .before .before .if1 .taken),
       ← (c .finish .ensures),
@@ -19,9 +18,9 @@ returns-2 : tie.Need-returns-2
 unfolding writtenSent
 returns-2 c =
     rw (
-      ← (c .before .before .before .before .accept .ensures),
-      ← (c .before .before .before .remaining .ensures),
-      ne-eqb _ _ (c .before .before .if1 .left),
+      ← (c .before .before .before .before .before .remaining .ensures),
+      ne-eqb _ _ (c .before .before .before .before .if1 .left),
+      ← (c .before .before .accept .ensures),
       ← (c .go-on .ensures),
     )
 
@@ -31,7 +30,7 @@ write-sent-spec =
     (tie.spec
     (λ c. search needs)
     (λ c. search needs)
-    (λ c. search needs)
     returns
+    (λ c. search needs)
     (λ c. search needs)
     returns-2)
