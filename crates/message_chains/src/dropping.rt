@@ -2,6 +2,8 @@
 // chain and the events.
 ghost use mathlib.Core.Path.{_≡_};
 ghost use Prim.Native.Nat.{_<_};
+ghost use Rattle.queue_words.specs.Items.{itemAt};
+ghost use Rattle.queue_words.specs.Streams.{streamAt};
 ghost use Rattle.stream_scheduler.specs.Words.{outcome};
 ghost use Rattle.queue_streams.specs.Settings.{calledWith};
 ghost use Rattle.message_chains.specs.Dropping.{scheduledBehind, endPending, behindDropped, droppedInState};
@@ -14,7 +16,9 @@ use queue_streams::waiting::parameters_for;
 use queue_words::QUEUE_WORDS;
 use queue_words::header::load_totals;
 use queue_words::items::Item;
+use queue_words::items::load_item;
 use queue_words::streams::OutgoingStream;
+use queue_words::streams::load_stream;
 use stream_scheduler::remove_stream;
 use stream_scheduler::set_bytes_remaining;
 
@@ -65,7 +69,7 @@ fn drop_behind(
 }
 
 // Drops the head m of the stream s, after k events: the events so far, or 16.
-pub fn drop_in_state(
+fn drop_in_state(
     queue: &mut [u64; QUEUE_WORDS],
     events: &mut [u64],
     k: usize,
@@ -83,4 +87,21 @@ pub fn drop_in_state(
         return Call::Refused(code);
     }
     drop_behind(queue, events, k, id, row, s, m)
+}
+
+// Drops the head of the stream in a row. Called by all who drop a head in its stream's state: handed on to a function with several
+// callers, stream and head would go through memory whole.
+pub fn drop_first(
+    queue: &mut [u64; QUEUE_WORDS],
+    events: &mut [u64],
+    k: usize,
+    id: u16,
+    row: usize,
+) -> Call
+    requires { ⌜ (row < 256) × (streamAt (now queue) row .first < 1024) ⌝ }
+    ensures { λ r. ⌜ calledWith r (now (queue .exit)) (now (events .exit)) ≡ droppedInState (now (queue .entry)) (now (events .entry)) k id row (streamAt (now (queue .entry)) row) (itemAt (now (queue .entry)) (streamAt (now (queue .entry)) row .first)) ⌝ }
+{
+    let s = load_stream(&*queue, row);
+    let m = load_item(&*queue, s.first as usize);
+    drop_in_state(queue, events, k, id, row, s, m)
 }

@@ -8,7 +8,7 @@ pub mod notes;
 pub use amounts::minus;
 pub use amounts::plus;
 pub use amounts::remaining;
-pub use dropping::drop_in_state;
+pub use dropping::drop_first;
 pub use dropping::end_pending;
 pub use heads::drop_head;
 pub use heads::head_code;

@@ -4,7 +4,7 @@ ghost use Prim.Native.Nat.{_<_};
 ghost use Rattle.queue_words.specs.Streams.{streamAt};
 ghost use Rattle.queue_streams.specs.Settings.{calledWith};
 ghost use Rattle.queue_messages.specs.Discard.{discardIn, discard};
-use message_chains::dropping::drop_in_state;
+use message_chains::dropping::drop_first;
 use queue_streams::answers::Call;
 use queue_streams::events::EVENT_WORDS;
 use queue_words::QUEUE_WORDS;
@@ -32,7 +32,7 @@ fn discard_in(
     }
     let m = load_item(&*queue, s.first as usize);
     if m.message_id.0 == message_id {
-        return drop_in_state(queue, events, 0, id, row, s, m);
+        return drop_first(queue, events, 0, id, row);
     }
     Call::Accepted(0)
 }

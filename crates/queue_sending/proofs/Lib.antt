@@ -2,3 +2,4 @@
 pub mod Counts
 pub mod Passes
 pub mod Logged
+pub mod Nexts

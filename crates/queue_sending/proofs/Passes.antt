@@ -28,7 +28,7 @@ use Rattle.queue_sending.specs.Passing.{Kept}
 use Rattle.queue_sending.specs.Data.{dataToSend, ProducedWith, producedWith, refusedWith}
 use Rattle.queue_sending.specs.Fragment.{leastOf, sendCode, writtenSent, sent, handedOut}
 use Rattle.queue_sending.specs.Numbers.{numberedItem, numberedStream}
-use Rattle.queue_sending.specs.Produce.{produceCode, expiredDropped, afterLook, afterDrop, afterCall, passOver, afterChoice, afterTurn, afterDropped, passed, sentFound, sentChosen, sentAfter, expiredFound, refusal, copied, settledAs, settled, pastFrom, pastOf, producedPast, produceNext}
+use Rattle.queue_sending.specs.Produce.{produceCode, expiredDropped, afterLook, afterDrop, afterCall, passOver, afterChoice, afterTurn, afterDropped, passed, sentFound, sentChosen, sentAfter, refusal, copied, settledAs, settled, pastFrom, pastOf, producedPast, produceNext}
 use Rattle.queue_sending.proofs.Counts.{behind, pass-behind}
 use Rattle.queue_sending.specs.declared.choice.Look.{Look}
 use Rattle.queue_sending.specs.declared.choice.Look.the-variants as look
@@ -36,7 +36,7 @@ use Rattle.queue_sending.specs.declared.data.DataToSend.{DataToSend}
 use Rattle.queue_sending.specs.declared.data.Produced.{Produced}
 use Rattle.queue_sending.specs.declared.data.Produced.the-variants as produced
 
-true-false : true ≡ false → ⊥
+pub true-false : true ≡ false → ⊥
 true-false e = let z : _≡_ {A = ℕ} 0 1 = cc in omega arith
 
 -- ------------------------------------------------------------------ numbers
@@ -404,6 +404,13 @@ module _ (room : ℕ) (ws st es bs : List ℕ) (time size n k : ℕ) (log us vs 
           let fw : w ≡ ws = ew ∙ rw (a .0, eh) (put-back header zs ws (undone log drops us) lw (g .back)) in
           let fx : x ≡ es = ex ∙ rw (ls, a .1, es′) (put-back few xs es vs le (g .behind few fits)) in
           rw (e, fw, fx, a .2) (sym (refused-settled ws es bs us vs (passOver n ws st es bs time size k) code (sym (ap (λ (y : ProducedWith). y .answer) there) ∙ e)))
+
+-- whether a look has found an expired head
+abbrev pub expiredFound : Look → Bool
+expiredFound look.Nothing = false
+expiredFound look.Broken = false
+expiredFound (look.Expired id row) = true
+expiredFound (look.Chosen at id row) = false
 
 -- Where nothing has expired any more, sending from what was found is all that is left of passing over.
 pub found-past : (ws st es bs : List ℕ) (time size n k : ℕ) (f : Look) → f ≡ lookAhead ws time → expiredFound f ≡ false → sentFound ws st es bs size k f ≡ pastFrom ws st es bs time size n k

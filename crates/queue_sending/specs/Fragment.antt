@@ -94,6 +94,15 @@ sent ws st es bs k at id row s m n =
     (sentNotes ws es k id s n .events)
     (readPart ws st (s .first) (m .offset) n bs))
 
+-- may at most `size` bytes of the chosen head be handed out after k events: 0, else 16, where a place lies outside its table, or the events would not fit
+unfoldable pub chosenCode : List ℕ → ℕ → ℕ → ℕ → ℕ → ℕ → ℕ → ℕ
+chosenCode ws len room size k at row =
+    pick (ltb 2303 k) 16
+    (pick (ltb 255 at) 16
+    (pick (ltb 255 row) 16
+    (pick (ltb 1023 (streamAt ws row .first)) 16
+    (sendCode ws len (streamAt ws row) (itemAt ws (streamAt ws row .first)) (leastOf (activeAt ws at .«bytes_remaining») size) room))))
+
 -- At most `size` bytes of the chosen head, after k events; 16 where a place lies outside its table, or the events would not fit.
 unfoldable pub handedOut : List ℕ → List ℕ → List ℕ → List ℕ → ℕ → ℕ → ℕ → ℕ → ℕ → ProducedWith
 handedOut ws st es bs size k at id row =

@@ -4,4 +4,5 @@ pub mod Numbers
 pub mod Choice
 pub mod Fragment
 pub mod Produce
+pub mod Next
 pub mod Passing

@@ -94,13 +94,6 @@ sentAfter ws st es bs time size (call.Refused code) = refusedWith code ws es bs
 
 -- ------------------------------------------------------------------ the call
 
--- whether a look has found an expired head
-abbrev pub expiredFound : Look → Bool
-expiredFound look.Nothing = false
-expiredFound look.Broken = false
-expiredFound (look.Expired id row) = true
-expiredFound (look.Chosen at id row) = false
-
 -- whether an answer is a refusal
 abbrev pub refusal : Produced → Bool
 refusal (produced.Nothing k) = false

@@ -1,8 +1,9 @@
 // Handing out a fragment of a stream's head.
 ghost use mathlib.Core.Path.{_≡_};
 ghost use Prim.Native.Nat.{_<_};
+ghost use lib.ListN.{length};
 ghost use Rattle.queue_sending.specs.Data.{producedWith};
-ghost use Rattle.queue_sending.specs.Fragment.{leastOf, sendCode, nextFirst, finished, wentOn, writtenSent, sent, handedOut};
+ghost use Rattle.queue_sending.specs.Fragment.{leastOf, sendCode, nextFirst, finished, wentOn, writtenSent, sent, chosenCode, handedOut};
 use crate::data::Produced;
 use crate::data::data_to_send;
 use crate::numbers::moved_on;
@@ -149,13 +150,9 @@ fn send(
     m: Item,
     n: u64,
 ) -> Produced
-    requires { ⌜ (row < 256) × (s .first < 1024) ⌝ }
+    requires { ⌜ (row < 256) × (s .first < 1024) × (sendCode (now queue) (length (now store)) s m n (length (now buffer)) ≡ 0) ⌝ }
     ensures { λ r. ⌜ producedWith r (now (queue .exit)) (now (events .exit)) (now (buffer .exit)) ≡ sent (now (queue .entry)) (now (store .entry)) (now (events .entry)) (now (buffer .entry)) k at id row s m n ⌝ }
 {
-    let code = send_code(&*queue, store.len() as u64, s, m, n, buffer.len() as u64);
-    if code > 0 {
-        return Produced::Refused(code);
-    }
     read_payload(&*queue, store, s.first as usize, m.offset, n, buffer);
     let k1 = sent_events(&*queue, events, k, id, s, n);
     let item = numbered_item(s, m);
@@ -165,7 +162,39 @@ fn send(
     Produced::Fragment(k1, d)
 }
 
-// Hands out at most `size` bytes of the chosen head, after k events.
+// May at most `size` bytes of the chosen head be handed out after k events: 0, else 16. Reads only.
+pub fn chosen_code(
+    queue: &[u64; QUEUE_WORDS],
+    len: u64,
+    room: u64,
+    size: u64,
+    k: usize,
+    at: usize,
+    row: usize,
+) -> u8
+    ensures { λ r. ⌜ r ≡ chosenCode (now (queue .entry)) len room size k at row ⌝ }
+{
+    if k > 2303 {
+        return 16;
+    }
+    if at > 255 {
+        return 16;
+    }
+    if row > 255 {
+        return 16;
+    }
+    let s = load_stream(queue, row);
+    if s.first > 1023 {
+        return 16;
+    }
+    let m = load_item(queue, s.first as usize);
+    let a = load_active(queue, at);
+    let n = least(a.bytes_remaining, size);
+    send_code(queue, len, s, m, n, room)
+}
+
+// Hands out at most `size` bytes of the chosen head, after k events. It has one caller, which answers what it answers: so what goes with
+// a fragment is written once.
 pub fn hand_out(
     queue: &mut [u64; QUEUE_WORDS],
     store: &[u8],
@@ -179,19 +208,19 @@ pub fn hand_out(
 ) -> Produced
     ensures { λ r. ⌜ producedWith r (now (queue .exit)) (now (events .exit)) (now (buffer .exit)) ≡ handedOut (now (queue .entry)) (now (store .entry)) (now (events .entry)) (now (buffer .entry)) size k at id row ⌝ }
 {
-    if k > 2303 {
-        return Produced::Refused(16);
-    }
-    if at > 255 {
-        return Produced::Refused(16);
-    }
-    if row > 255 {
-        return Produced::Refused(16);
+    let code = chosen_code(
+        &*queue,
+        store.len() as u64,
+        buffer.len() as u64,
+        size,
+        k,
+        at,
+        row,
+    );
+    if code > 0 {
+        return Produced::Refused(code);
     }
     let s = load_stream(&*queue, row);
-    if s.first > 1023 {
-        return Produced::Refused(16);
-    }
     let m = load_item(&*queue, s.first as usize);
     let a = load_active(&*queue, at);
     let n = least(a.bytes_remaining, size);

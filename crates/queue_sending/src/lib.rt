@@ -3,9 +3,11 @@
 pub mod choice;
 pub mod data;
 pub mod fragment;
+pub mod next;
 pub mod next_fragment;
 pub mod numbers;
 pub mod passing;
+pub mod past;
 
 pub use data::Data;
 pub use data::DataToSend;

@@ -7,12 +7,12 @@ ghost use Rattle.queue_streams.specs.Settings.{calledWith};
 ghost use Rattle.queue_sending.specs.Choice.{lookAhead};
 ghost use Rattle.queue_sending.specs.Passing.{Kept};
 ghost use Rattle.queue_sending.specs.Produce.{expiredDropped, passed};
+ghost use Rattle.queue_sending.specs.declared.choice.Look.the-variants.{Expired};
 use crate::choice::Look;
 use crate::choice::look_ahead;
-use message_chains::dropping::drop_in_state;
+use message_chains::dropping::drop_first;
 use queue_streams::answers::Call;
 use queue_words::QUEUE_WORDS;
-use queue_words::items::load_item;
 use queue_words::streams::load_stream;
 use queue_words::whole;
 use undo_log::keep_drop;
@@ -34,8 +34,7 @@ fn drop_expired(
     if s.first > 1023 {
         return Call::Refused(16);
     }
-    let m = load_item(&*queue, s.first as usize);
-    drop_in_state(queue, events, k, id, row, s, m)
+    drop_first(queue, events, k, id, row)
 }
 
 // Passes over the expired heads, so that the choice is one to send from or none: a loop, "with the same answer, events, fragment and
@@ -91,8 +90,9 @@ pub struct Passing {
     pub drops: usize,
 }
 
-// Passes over expired heads as long as the log has room. It stops at what is not expired, and at an expired head that does not go into
-// the log or cannot be dropped: of that one nothing has changed. What is found at first is given: the caller has looked.
+// Passes over expired heads as long as the log has room, from the head of the stream `first` in row `place` on, which a look has found.
+// It stops at what is not expired, and at an expired head that does not go into the log or cannot be dropped: of that one nothing has
+// changed.
 pub fn pass_some(
     queue: &mut [u64; QUEUE_WORDS],
     events: &mut [u64],
@@ -101,45 +101,65 @@ pub fn pass_some(
     time: u64,
     waiting: usize,
     k: usize,
-    first: Look,
+    first: u16,
+    place: usize,
 ) -> Passing
-    requires { ⌜ (room * 20 ≤ length (now log)) × (first ≡ lookAhead (now queue) time) ⌝ }
+    requires { ⌜ (room * 20 ≤ length (now log)) × (Expired first place ≡ lookAhead (now queue) time) ⌝ }
     ensures { λ r. ⌜ (r .found ≡ lookAhead (now (queue .exit)) time) × Kept room (now (queue .entry)) (now (events .entry)) time waiting k (now (log .exit)) (now (queue .exit)) (now (events .exit)) (r .left) (r .count) (r .drops) ⌝ }
 {
     let mut left = waiting;
     let mut count = k;
     let mut drops = 0;
-    let mut found = first;
+    let mut id = first;
+    let mut row = place;
     loop {
-        match found {
-            Look::Expired(id, row) => {
-                if drops >= room {
-                    return Passing {
-                        found,
-                        left,
-                        count,
-                        drops,
-                    };
-                }
-                if left == 0 {
-                    return Passing {
-                        found,
-                        left,
-                        count,
-                        drops,
-                    };
-                }
-                whole(&*queue);
-                keep_drop(log, drops, &*queue, id, row);
-                let dropped = drop_expired(queue, events, count, id, row);
-                match dropped {
-                    Call::Accepted(k1) => {
-                        count = k1;
-                        left -= 1;
-                        drops += 1;
-                        found = look_ahead(&*queue, time);
+        if drops >= room {
+            return Passing {
+                found: Look::Expired(id, row),
+                left,
+                count,
+                drops,
+            };
+        }
+        if left == 0 {
+            return Passing {
+                found: Look::Expired(id, row),
+                left,
+                count,
+                drops,
+            };
+        }
+        whole(&*queue);
+        keep_drop(log, drops, &*queue, id, row);
+        let dropped = drop_expired(queue, events, count, id, row);
+        match dropped {
+            Call::Accepted(k1) => {
+                count = k1;
+                left -= 1;
+                drops += 1;
+                let found = look_ahead(&*queue, time);
+                match found {
+                    Look::Expired(i, r) => {
+                        id = i;
+                        row = r;
                     }
-                    Call::Refused(_) => {
+                    Look::Nothing => {
+                        return Passing {
+                            found,
+                            left,
+                            count,
+                            drops,
+                        };
+                    }
+                    Look::Broken => {
+                        return Passing {
+                            found,
+                            left,
+                            count,
+                            drops,
+                        };
+                    }
+                    Look::Chosen(_, _, _) => {
                         return Passing {
                             found,
                             left,
@@ -149,25 +169,9 @@ pub fn pass_some(
                     }
                 }
             }
-            Look::Nothing => {
+            Call::Refused(_) => {
                 return Passing {
-                    found,
-                    left,
-                    count,
-                    drops,
-                };
-            }
-            Look::Broken => {
-                return Passing {
-                    found,
-                    left,
-                    count,
-                    drops,
-                };
-            }
-            Look::Chosen(_, _, _) => {
-                return Passing {
-                    found,
+                    found: Look::Expired(id, row),
                     left,
                     count,
                     drops,

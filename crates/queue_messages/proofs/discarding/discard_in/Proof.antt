@@ -1,4 +1,5 @@
 -- `queue_messages::discarding::discard_in` meets its contract: each return is what its definition says, by what the calls ensure and the tests taken. Assumes nothing.
+use native.Mathlib.Omega.{arith}
 use borrow.Author.Needs.{needs}
 use borrow.Author.Tests.{eq-eqb, le-ltb, lt-ltb, ne-eqb}
 use Rattle.queue_messages.specs.Discard.{discardIn}
@@ -26,12 +27,12 @@ returns-3 : tie.Need-returns-3
 unfolding discardIn
 returns-3 c =
     rw (
+      ← (c .before .before .drop-first .ensures),
       ← (c .before .before .before .before .before .before .before .before .before .before .before .before .before .load-stream .ensures),
       le-ltb _ _ (c .before .before .before .before .before .before .before .before .before .before .before .if1 .left),
       ne-eqb _ _ (c .before .before .before .before .before .before .before .before .before .if2 .left),
       ← (c .before .before .before .before .before .before .before .load-item .ensures),
       eq-eqb _ _ (c .before .before .before .before .before .if3 .taken),
-      ← (c .before .before .drop-in-state .ensures),
     )
 
 returns-4 : tie.Need-returns-4
@@ -45,6 +46,9 @@ returns-4 c =
       ne-eqb _ _ (c .if3 .left),
     )
 
+drop-first-requires : tie.Need-drop-first-requires
+drop-first-requires c κs = (c .before .before .before .before .before .before .before .before .before .before .before .before .before .pre, rw (← (c .before .before .before .before .before .before .before .before .before .before .load-stream .ensures)) (omega (arith, c .before .before .before .before .before .before .before .before .if1 .left, c .before .before .before .before .before .before .if2 .left)))
+
 pub discard-in-spec : {M : Type 1} → statement M
 discard-in-spec =
     tie.close
@@ -53,7 +57,7 @@ discard-in-spec =
     returns
     returns-2
     (λ c. search needs)
-    (λ c. search needs)
+    drop-first-requires
     (λ c. search needs)
     returns-3
     returns-4)

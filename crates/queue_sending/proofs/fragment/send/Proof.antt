@@ -1,28 +1,24 @@
--- `queue_sending::fragment::send` meets its contract: each return is what its definition says, by what the calls ensure and the tests taken. Assumes nothing.
+-- `queue_sending::fragment::send` meets its contract: each return is what its definition says, by what the calls ensure and the test that was passed before. Assumes nothing.
 use borrow.Author.Needs.{needs}
-use borrow.Author.Tests.{le-ltb, lt-ltb}
 use Rattle.queue_sending.specs.Fragment.{sent}
 use Rattle.queue_sending.proofs.Passes.{first-fits}
 use Rattle.queue_sending.proofs.fragment.send.Statement.{statement}
 use Rattle.queue_sending.proofs.fragment.send.Tie as tie
 
 write-sent-requires : tie.Need-write-sent-requires
-write-sent-requires c κs = (c .before .before .before .before .before .before .before .before .before .before .before .before .before .before .before .before .before .before .before .pre .0, first-fits _ _ _ (c .before .numbered-stream .ensures) (c .before .before .before .before .before .before .before .before .before .before .before .before .before .before .before .before .before .before .before .pre .1))
+write-sent-requires c κs = ((c .before .before .before .before .before .before .before .before .before .before .before .before .before .before .before .before .pre .0), first-fits _ _ _ (c .before .numbered-stream .ensures) (c .before .before .before .before .before .before .before .before .before .before .before .before .before .before .before .before .pre .1))
+
+same-length : tie.Need-same-length
+same-length c = search (needs, (c .before .before .before .before .before .before .events .given))
+
+same-length-2 : tie.Need-same-length-2
+same-length-2 c = search (needs, (c .before .before .before .before .before .before .before .before .before .before .before .buffer .given))
 
 returns : tie.Need-returns
 unfolding sent
 returns c =
     rw (
-      ← (c .before .send-code .ensures),
-      lt-ltb _ _ (c .if1 .taken),
-    )
-
-returns-2 : tie.Need-returns-2
-unfolding sent
-returns-2 c =
-    rw (
-      ← (c .before .before .before .before .before .before .before .before .before .before .before .before .before .before .before .before .send-code .ensures),
-      le-ltb _ _ (c .before .before .before .before .before .before .before .before .before .before .before .before .before .before .before .if1 .left),
+      (c .before .before .before .before .before .before .before .before .before .before .before .before .before .before .before .before .before .before .pre .2),
       ← (c .before .before .before .before .before .before .before .before .before .before .before .before .read-payload .ensures .1),
       ← (c .before .before .before .before .before .before .before .sent-events .ensures),
       ← (c .before .before .before .before .numbered-item .ensures),
@@ -36,13 +32,11 @@ send-spec =
     tie.close
     (tie.spec
     (λ c. search needs)
-    returns
-    (λ c. search needs)
     (λ c. search needs)
     (λ c. search needs)
     (λ c. search needs)
     write-sent-requires
     (λ c. search needs)
-    (λ c. search (needs, (c .before .before .before .before .before .before .events .given)))
-    (λ c. search (needs, (c .before .before .before .before .before .before .before .before .before .before .before .buffer .given)))
-    returns-2)
+    same-length
+    same-length-2
+    returns)

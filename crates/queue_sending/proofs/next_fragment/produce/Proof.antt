@@ -14,49 +14,41 @@ returns c =
       lt-ltb _ _ (c .if1 .taken),
     )
 
-produce-waiting-requires : tie.Need-produce-waiting-requires
-produce-waiting-requires c κs = (code-places _ _ _ _ _ _ _ (c .before .before .before .before .before .before .before .before .produce-code .ensures) (c .before .before .before .before .before .before .before .if1 .left), (c .before .before .before .before .before .look-ahead .ensures))
+next-looked-requires : tie.Need-next-looked-requires
+next-looked-requires c κs = (code-places _ _ _ _ _ _ _ (c .before .before .before .before .before .before .produce-code .ensures) (c .before .before .before .before .before .if1 .left), (c .before .before .before .look-ahead .ensures))
 
 returns-2 : tie.Need-returns-2
 unfolding produceNext
 returns-2 c =
     rw (
-      ← (c .before .before .before .before .before .produce-code .ensures),
-      le-ltb _ _ (c .before .before .before .before .if1 .left),
-      ← (c .before .before .look-ahead .ensures),
-      (c .enum-told .given .1),
+      ← (c .before .before .before .before .before .before .before .before .before .before .before .before .produce-code .ensures),
+      le-ltb _ _ (c .before .before .before .before .before .before .before .before .before .before .before .if1 .left),
+      ← (c .before .before .before .before .before .before .before .before .before .look-ahead .ensures),
+      ← (c .before .before .before .before .before .next-looked .ensures),
+      (c .before .next .given .1),
     )
 
 returns-3 : tie.Need-returns-3
 unfolding produceNext
 returns-3 c =
     rw (
-      ← (c .before .before .before .before .before .produce-code .ensures),
-      le-ltb _ _ (c .before .before .before .before .if1 .left),
-      ← (c .before .before .look-ahead .ensures),
-      (c .enum-told2 .given .1),
+      ← (c .before .before .before .before .before .before .before .before .before .before .before .before .produce-code .ensures),
+      le-ltb _ _ (c .before .before .before .before .before .before .before .before .before .before .before .if1 .left),
+      ← (c .before .before .before .before .before .before .before .before .before .look-ahead .ensures),
+      ← (c .before .before .before .before .before .next-looked .ensures),
+      (c .before .next2 .given .1),
     )
 
 returns-4 : tie.Need-returns-4
 unfolding produceNext
 returns-4 c =
     rw (
-      ← (c .before .before .before .before .before .before .before .before .before .before .before .before .before .before .produce-code .ensures),
-      le-ltb _ _ (c .before .before .before .before .before .before .before .before .before .before .before .before .before .if1 .left),
-      ← (c .before .before .before .before .before .before .before .before .before .before .before .look-ahead .ensures),
-      (c .before .before .before .before .before .before .before .before .before .found .given .1),
+      ← (c .before .before .before .before .before .before .before .before .before .before .before .before .before .before .before .before .before .before .before .before .produce-code .ensures),
+      le-ltb _ _ (c .before .before .before .before .before .before .before .before .before .before .before .before .before .before .before .before .before .before .before .if1 .left),
+      ← (c .before .before .before .before .before .before .before .before .before .before .before .before .before .before .before .before .before .look-ahead .ensures),
+      ← (c .before .before .before .before .before .before .before .before .before .before .before .before .before .next-looked .ensures),
+      (c .before .before .before .before .before .before .before .before .before .next3 .given .1),
       ← (c .before .before .before .before .hand-out .ensures),
-    )
-
-returns-5 : tie.Need-returns-5
-unfolding produceNext
-returns-5 c =
-    rw (
-      ← (c .before .before .before .before .before .before .before .before .before .before .before .before .before .produce-code .ensures),
-      le-ltb _ _ (c .before .before .before .before .before .before .before .before .before .before .before .before .if1 .left),
-      ← (c .before .before .before .before .before .before .before .before .before .before .look-ahead .ensures),
-      (c .before .before .before .before .before .before .before .before .enum-told3 .given .1),
-      ← (c .before .before .before .before .produce-waiting .ensures),
     )
 
 pub produce-spec : {M : Type 1} → statement M
@@ -66,17 +58,17 @@ produce-spec =
     (λ c. search needs)
     returns
     (λ c. search needs)
+    next-looked-requires
     (λ c. search needs)
     (λ c. search needs)
     (λ c. search needs)
     (λ c. search needs)
     (λ c. search needs)
-    produce-waiting-requires
+    (λ c. search needs)
     returns-2
+    (λ c. search needs)
+    (λ c. search needs)
     returns-3
     (λ c. search needs)
     (λ c. search needs)
-    returns-4
-    (λ c. search needs)
-    (λ c. search needs)
-    returns-5)
+    returns-4)

@@ -1,4 +1,5 @@
 -- `queue_sending::passing::drop_expired` meets its contract: each return is what its definition says, by what the calls ensure and the tests taken. Assumes nothing.
+use native.Mathlib.Omega.{arith}
 use borrow.Author.Needs.{needs}
 use borrow.Author.Tests.{le-ltb, lt-ltb}
 use Rattle.queue_sending.specs.Produce.{expiredDropped}
@@ -22,15 +23,17 @@ returns-2 c =
       lt-ltb _ _ (c .if2 .taken),
     )
 
+drop-first-requires : tie.Need-drop-first-requires
+drop-first-requires c κs = (omega (arith, (c .before .before .before .before .before .before .if1 .left)), rw (← (c .before .before .before .before .load-stream .ensures)) (omega (arith, (c .before .before .if2 .left))))
+
 returns-3 : tie.Need-returns-3
 unfolding expiredDropped
 returns-3 c =
     rw (
-      le-ltb _ _ (c .before .before .before .before .before .before .before .before .before .before .before .if1 .left),
-      ← (c .before .before .before .before .before .before .before .before .before .load-stream .ensures),
-      le-ltb _ _ (c .before .before .before .before .before .before .before .if2 .left),
-      ← (c .before .before .before .before .before .load-item .ensures),
-      ← (c .before .before .drop-in-state .ensures),
+      le-ltb _ _ (c .before .before .before .before .before .before .before .before .before .if1 .left),
+      ← (c .before .before .drop-first .ensures),
+      ← (c .before .before .before .before .before .before .before .load-stream .ensures),
+      le-ltb _ _ (c .before .before .before .before .before .if2 .left),
     )
 
 pub drop-expired-spec : {M : Type 1} → statement M
@@ -40,7 +43,6 @@ drop-expired-spec =
     returns
     (λ c. search needs)
     returns-2
-    (λ c. search needs)
-    (λ c. search needs)
+    drop-first-requires
     (λ c. search needs)
     returns-3)

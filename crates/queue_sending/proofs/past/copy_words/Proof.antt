@@ -1,4 +1,4 @@
--- `queue_sending::next_fragment::copy_words` meets its contract: the first i words are copied. Assumes nothing.
+-- `queue_sending::past::copy_words` meets its contract: the first i words are copied. Assumes nothing.
 use mathlib.Core.Path.{_≡_, refl, _∙_}
 use mathlib.Core.List.{_++_}
 use Prim.Native.Nat.{_≤_, _-_}
@@ -6,8 +6,8 @@ use native.Mathlib.Omega.{arith}
 use lib.ListN.{length, take, drop, length-set}
 use Rattle.queue_sending.specs.Produce.{copied}
 use Rattle.queue_sending.proofs.Passes.{turn}
-use Rattle.queue_sending.proofs.next_fragment.copy_words.Statement.{statement}
-use Rattle.queue_sending.proofs.next_fragment.copy_words.Tie as tie
+use Rattle.queue_sending.proofs.past.copy_words.Statement.{statement}
+use Rattle.queue_sending.proofs.past.copy_words.Tie as tie
 
 abbrev Inv-loop : tie.InvT-loop
 Inv-loop to₀ from n i₀ to i = (i ≤ n) × (length to ≡ length to₀) × (to ≡ take i from ++ drop i to₀)
