@@ -1,5 +1,5 @@
-/* Measures the stack of the deepest call: 1,024 expired messages that one dsq_produce passes over; then of 17 of them, as many as it keeps a
- * log of, and of one. Then that of adding and of sending the largest payload, which is copied through a block that the compiler must leave out. Each
+/* Measures the stack of the deepest call: 1,024 expired messages that one dsq_produce passes over; then of 128 and of 17 of them, as many as
+ * its longest log and the one before have room for, and of one. Then that of adding and of sending the largest payload, which is copied through a block that the compiler must leave out. Each
  * call runs on a thread whose stack was painted before; what is no longer painted was used. */
 #define _POSIX_C_SOURCE 200809L
 #include "send_queue.h"
@@ -14,10 +14,12 @@
 #define PAINT 0xa5
 #define SHALLOW 8192
 #define LOGGED (16u << 10)
+#define LONGEST (40u << 10)
 #define DEEP (256u << 10)
+#define MANY 128
 #define FEW 17
 
-enum call { NOTHING, PASS_ALL, PASS_FEW, PASS_ONE, ADD, SEND };
+enum call { NOTHING, PASS_ALL, PASS_MANY, PASS_FEW, PASS_ONE, ADD, SEND };
 
 static uint64_t queue[DSQ_QUEUE_WORDS], events[DSQ_EVENT_WORDS], out[DSQ_OUT_WORDS];
 static uint8_t store[STORE], buffer[DSQ_MAX_PAYLOAD], payload[DSQ_MAX_PAYLOAD];
@@ -37,6 +39,8 @@ static void *run(void *unused) {
     (void)unused;
     if (call == PASS_ALL)
         done = produce(10000000, 0, DSQ_MAX_EVENTS);
+    if (call == PASS_MANY)
+        done = produce(10000000, 0, 2 * MANY + 2);
     if (call == PASS_FEW)
         done = produce(10000000, 0, 2 * FEW + 2);
     if (call == PASS_ONE)
@@ -75,7 +79,7 @@ static size_t used(enum call which) {
 }
 
 int main(void) {
-    size_t without, all, few, one, adding, sending;
+    size_t without, all, many, few, one, adding, sending;
     unsigned i;
     if (dsq_create(queue, store, STORE, 1200, 256, 0, 0, 1, DSQ_RESTART_DCSCTP) != 0)
         return 1;
@@ -84,6 +88,10 @@ int main(void) {
             return 1;
     without = used(NOTHING);
     all = used(PASS_ALL) - without;
+    for (i = 0; i < MANY; i++)
+        if (!add(100, 0, 1, i + 1))
+            return 1;
+    many = used(PASS_MANY) - without;
     for (i = 0; i < FEW; i++)
         if (!add(100, 0, 1, i + 1))
             return 1;
@@ -93,9 +101,10 @@ int main(void) {
     one = used(PASS_ONE) - without;
     adding = used(ADD) - without;
     sending = used(SEND) - without;
-    printf("stack: %lu KB for 1,024 expired messages in one call, %lu bytes for %d, %lu for one\n", (unsigned long)((all + 1023) / 1024), (unsigned long)few, FEW, (unsigned long)one);
+    printf("stack: %lu KB for 1,024 expired messages in one call, %lu bytes for %d, %lu for %d, %lu for one\n", (unsigned long)((all + 1023) / 1024), (unsigned long)many, MANY, (unsigned long)few, FEW,
+           (unsigned long)one);
     printf("stack: %lu bytes to add 262,144 bytes, %lu to send them\n", (unsigned long)adding, (unsigned long)sending);
-    if (all > DEEP || few > LOGGED || one > LOGGED) {
+    if (all > DEEP || many > LONGEST || few > LOGGED || one > LOGGED) {
         fprintf(stderr, "stack: more than the header promises\n");
         return 1;
     }

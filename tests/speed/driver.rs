@@ -20,7 +20,7 @@ mod stack;
 mod steady;
 
 fn main() {
-    let stack = std::env::args().nth(1).map_or(256, |a| a.parse().expect("usage: driver [KB OF STACK]"));
+    let stack = std::env::args().nth(1).map_or(264, |a| a.parse().expect("usage: driver [KB OF STACK]"));
     stack::pass_over(stack);
     println!("\n| what (size asked for: 1,200) | ours, ns a call | the Rust, ns a call | ratio |\n|---|---|---|---|");
     sending::profiles();

@@ -5,7 +5,7 @@ ghost use lib.ListN.{length};
 ghost use Rattle.queue_streams.specs.Events.{eventWords};
 ghost use Rattle.undo_log.specs.Log.{undone};
 ghost use Rattle.queue_sending.specs.Choice.{lookAhead};
-ghost use Rattle.queue_sending.specs.Next.{Leads};
+ghost use Rattle.queue_sending.specs.Next.{nextFound, Leads};
 ghost use Rattle.queue_sending.specs.Produce.{copied, pastFrom, pastOf};
 ghost use Rattle.queue_sending.specs.declared.choice.Look.the-variants.{Expired};
 use crate::choice::Look;
@@ -26,12 +26,18 @@ use undo_log::undo;
 // The words of the four events that one drop writes at most.
 const FIRST_EVENTS: usize = 12;
 
-// How many drops the longer log has room for, the words of it, and those of their events and of the first drop's.
+// How many drops a longer log has room for, the words of it, and those of their events and of the ones before.
 const MORE: usize = 16;
 
 const MORE_LOG: usize = 320;
 
 const MORE_EVENTS: usize = 204;
+
+const MANY: usize = 111;
+
+const MANY_LOG: usize = 2220;
+
+const MANY_EVENTS: usize = 1536;
 
 // The first n words of one list go to another.
 fn copy_words(to: &mut [u64], from: &[u64], n: usize)
@@ -99,8 +105,23 @@ fn put_back(
     copy_words(events, saved, saved.len());
 }
 
-// Goes on where the log of more drops ended.
-fn next_more(
+// What follows where passing over has come to an end.
+fn next_here(queue: &[u64; QUEUE_WORDS], store: &[u8], buffer: &[u8], size: u64, p: Passing) -> Next
+    ensures { λ r. ⌜ r ≡ nextFound (now (queue .entry)) (length (now (store .entry))) (length (now (buffer .entry))) size (p .count) (p .found) ⌝ }
+{
+    let found = p.found;
+    next_found(
+        queue,
+        store.len() as u64,
+        buffer.len() as u64,
+        size,
+        p.count,
+        found,
+    )
+}
+
+// Goes on where the log of many drops ended.
+fn next_many(
     queue: &mut [u64; QUEUE_WORDS],
     store: &[u8],
     events: &mut [u64],
@@ -118,30 +139,111 @@ fn next_more(
             let n = pass_copied(queue, store, events, buffer, time, size, p.left, p.count);
             handed_on(n)
         }
-        Look::Nothing => next_found(
-            &*queue,
-            store.len() as u64,
-            buffer.len() as u64,
-            size,
-            p.count,
-            found,
-        ),
-        Look::Broken => next_found(
-            &*queue,
-            store.len() as u64,
-            buffer.len() as u64,
-            size,
-            p.count,
-            found,
-        ),
-        Look::Chosen(_, _, _) => next_found(
-            &*queue,
-            store.len() as u64,
-            buffer.len() as u64,
-            size,
-            p.count,
-            found,
-        ),
+        Look::Nothing => next_here(&*queue, store, buffer, size, p),
+        Look::Broken => next_here(&*queue, store, buffer, size, p),
+        Look::Chosen(_, _, _) => next_here(&*queue, store, buffer, size, p),
+    }
+}
+
+// Passes over up to 111 more expired heads, with what each changes in a log.
+fn pass_many(
+    queue: &mut [u64; QUEUE_WORDS],
+    store: &[u8],
+    events: &mut [u64],
+    buffer: &[u8],
+    time: u64,
+    size: u64,
+    waiting: usize,
+    k: usize,
+    id: u16,
+    row: usize,
+) -> Next
+    requires { ⌜ (eventWords ≤ length (now events)) × ((k ≤ 68) × (Expired id row ≡ lookAhead (now queue) time)) ⌝ }
+    ensures { λ r. ⌜ Leads r (now (queue .exit)) (now (store .entry)) (now (events .exit)) (now (buffer .entry)) size (pastFrom (now (queue .entry)) (now (store .entry)) (now (events .entry)) (now (buffer .entry)) time size waiting k) ⌝ }
+{
+    let mut header = [0u64; HEADER];
+    copy_words(&mut header, &*queue, HEADER);
+    let mut saved = [0u64; MANY_EVENTS];
+    copy_words(&mut saved, &*events, MANY_EVENTS);
+    let mut log = [0u64; MANY_LOG];
+    let p = pass_some(queue, events, &mut log, MANY, time, waiting, k, id, row);
+    let n = next_many(queue, store, events, buffer, time, size, p);
+    let refused = is_refused(n);
+    if refused {
+        put_back(queue, events, &log, p.drops, &header, &saved);
+        return n;
+    }
+    n
+}
+
+// Goes on where the log before has no room: with that of many drops, or with a copy where the events before do not leave it room. Called
+// from two places, as `pass_copied` is, for the sake of its frame.
+fn pass_on(
+    queue: &mut [u64; QUEUE_WORDS],
+    store: &[u8],
+    events: &mut [u64],
+    buffer: &[u8],
+    time: u64,
+    size: u64,
+    waiting: usize,
+    k: usize,
+    id: u16,
+    row: usize,
+) -> Next
+    requires { ⌜ (eventWords ≤ length (now events)) × (Expired id row ≡ lookAhead (now queue) time) ⌝ }
+    ensures { λ r. ⌜ Leads r (now (queue .exit)) (now (store .entry)) (now (events .exit)) (now (buffer .entry)) size (pastFrom (now (queue .entry)) (now (store .entry)) (now (events .entry)) (now (buffer .entry)) time size waiting k) ⌝ }
+{
+    if k > 68 {
+        let n = pass_copied(queue, store, events, buffer, time, size, waiting, k);
+        return handed_on(n);
+    }
+    pass_many(
+        queue,
+        store,
+        events,
+        buffer,
+        time,
+        size,
+        waiting,
+        k,
+        id,
+        row,
+    )
+}
+
+// Goes on where the log of more drops ended.
+fn next_more(
+    queue: &mut [u64; QUEUE_WORDS],
+    store: &[u8],
+    events: &mut [u64],
+    buffer: &[u8],
+    time: u64,
+    size: u64,
+    p: Passing,
+) -> Next
+    requires { ⌜ (eventWords ≤ length (now events)) × (p .found ≡ lookAhead (now queue) time) ⌝ }
+    ensures { λ r. ⌜ Leads r (now (queue .exit)) (now (store .entry)) (now (events .exit)) (now (buffer .entry)) size (pastFrom (now (queue .entry)) (now (store .entry)) (now (events .entry)) (now (buffer .entry)) time size (p .left) (p .count)) ⌝ }
+{
+    let found = p.found;
+    match found {
+        Look::Expired(id, row) => {
+            let n = pass_on(
+                queue,
+                store,
+                events,
+                buffer,
+                time,
+                size,
+                p.left,
+                p.count,
+                id,
+                row,
+            );
+            handed_on(n)
+        }
+        Look::Nothing => next_here(&*queue, store, buffer, size, p),
+        Look::Broken => next_here(&*queue, store, buffer, size, p),
+        Look::Chosen(_, _, _) => next_here(&*queue, store, buffer, size, p),
     }
 }
 
@@ -193,7 +295,18 @@ fn next_past(
     match found {
         Look::Expired(id, row) => {
             if p.count > 4 {
-                let n = pass_copied(queue, store, events, buffer, time, size, p.left, p.count);
+                let n = pass_on(
+                    queue,
+                    store,
+                    events,
+                    buffer,
+                    time,
+                    size,
+                    p.left,
+                    p.count,
+                    id,
+                    row,
+                );
                 return handed_on(n);
             }
             pass_more(
@@ -209,30 +322,9 @@ fn next_past(
                 row,
             )
         }
-        Look::Nothing => next_found(
-            &*queue,
-            store.len() as u64,
-            buffer.len() as u64,
-            size,
-            p.count,
-            found,
-        ),
-        Look::Broken => next_found(
-            &*queue,
-            store.len() as u64,
-            buffer.len() as u64,
-            size,
-            p.count,
-            found,
-        ),
-        Look::Chosen(_, _, _) => next_found(
-            &*queue,
-            store.len() as u64,
-            buffer.len() as u64,
-            size,
-            p.count,
-            found,
-        ),
+        Look::Nothing => next_here(&*queue, store, buffer, size, p),
+        Look::Broken => next_here(&*queue, store, buffer, size, p),
+        Look::Chosen(_, _, _) => next_here(&*queue, store, buffer, size, p),
     }
 }
 
