@@ -1,10 +1,10 @@
 -- The laws of the search for a stream: it finds the one row that has the id, and else the gap where the id belongs. Assumes nothing.
-use mathlib.Core.Path.{_≡_, refl, ap, subst, _∙_}
+use mathlib.Core.Path.{_≡_, refl, sym, ap, subst, _∙_}
 use mathlib.Core.Bool.{Bool, true, false}
 use mathlib.Core.List.{List}
 use Prim.Native.Nat.{ℕ, zero, suc, _+_, _-_, _/_, _≤_, _<_}
 use native.Mathlib.Omega.{arith, ne-cases}
-use borrow.Author.Tests.{lt-ltb, le-ltb, ltb-true, ltb-false, eqb-true, eqb-false}
+use borrow.Author.Tests.{lt-ltb, le-ltb, eq-eqb, ne-eqb, ltb-true, ltb-false, eqb-true, eqb-false}
 use lib.Dec.{ltb, eqb}
 use lib.ListN.{length, getD}
 use Rattle.queue_words.specs.declared.header.Options.{Options}
@@ -19,7 +19,7 @@ use Rattle.queue_words.specs.declared.known.Found.{Found}
 use Rattle.queue_words.specs.declared.known.Found.the-variants.{At, Gap, Broken}
 use Rattle.queue_words.specs.Flags.{pick}
 use Rattle.queue_words.specs.Known.{knownAt, idAt, knownCount, Rising, RisingKnown}
-use Rattle.queue_words.specs.Find.{looked, probed, probes, foundBy, findStream}
+use Rattle.queue_words.specs.Find.{probed, all, probes, foundAt, findStream}
 use Rattle.queue_words.specs.Header.{totalsWords, totalsAt, putOptions, putTotals, putScheduler}
 use Rattle.queue_words.specs.Streams.{putStream}
 use Rattle.queue_words.specs.Items.{putItem, putNext, putPlace, putLength}
@@ -42,96 +42,100 @@ by-lt {G} a b f g = go (ltb a b) refl
     go true e = f (ltb-true a b e)
     go false e = g (ltb-false a b e)
 
--- b halved k times
-unfoldable halved : ℕ → ℕ → ℕ
-halved b zero = b
-halved b (suc k) = halved b k / 2
+-- the same where only the second choice is looked into
+pick-else : {A : Type 0} (b : Bool) (x : A) {y z : A} → (b ≡ false → y ≡ z) → pick b x y ≡ pick b x z
+pick-else true x e = refl
+pick-else false x e = e refl
 
--- Between two steps of a search among n rows, with at most b positions left: the rows before low are smaller, those behind the positions
--- left are larger, and a hit is a row that has the id.
-record Probing (ws : List ℕ) (id n b : ℕ) (p : Probe) : Type 0 where
+-- Between two steps of a search among n rows: the rows before low are smaller, those behind the positions left are not.
+record Probing (ws : List ℕ) (id n : ℕ) (p : Probe) : Type 0 where
   within : p .low + p .size ≤ n
-  left : 255 < p .hit → p .size ≤ b
-  hits : p .hit < 256 → (p .hit < n) × (idAt ws (p .hit) ≡ id)
   below : Rising ws n → (j : ℕ) → j < p .low → idAt ws j < id
-  above : Rising ws n → (j : ℕ) → p .low + p .size ≤ j → j < n → id < idAt ws j
+  above : Rising ws n → (j : ℕ) → p .low + p .size ≤ j → j < n → id ≤ idAt ws j
 
 -- one look at the middle position m, by what stands there
-module _
-    (ws : List ℕ) (id n b : ℕ) (p : Probe) (m : ℕ) (g : Probing ws id n b p)
-    (mid : m ≡ p .low + p .size / 2) (some : p .size ≡ 0 → ⊥) (small : m ≤ 255) where
-  look-here : idAt ws m ≡ id → Probing ws id n (b / 2) (record { low = p .low; size = p .size; hit = m })
-  look-here e = record {
-    within = g .within;
-    left = λ h. absurd (omega arith);
-    hits = λ h. (omega (arith, g .within), e);
-    below = g .below;
-    above = g .above;
-  }
-
-  look-after : idAt ws m < id → Probing ws id n (b / 2) (record { low = m + 1; size = p .size - p .size / 2 - 1; hit = p .hit })
+module _ (ws : List ℕ) (id n : ℕ) (p : Probe) (m : ℕ) (g : Probing ws id n p) (mid : m ≡ p .low + p .size / 2) (some : p .size ≡ 0 → ⊥) where
+  look-after : idAt ws m < id → Probing ws id n (record { low = m + 1; size = p .size - p .size / 2 - 1 })
   look-after lt = record {
     within = omega (arith, g .within);
-    left = λ h. omega (arith, g .left h);
-    hits = g .hits;
     below = λ r j h. by-lt j m
         (λ l. omega (arith, r j m l (omega (arith, g .within))))
         (λ l. let e : m ≡ j = omega arith in subst (λ x. idAt ws x < id) e lt);
     above = λ r j h k. g .above r j (omega arith) k;
   }
 
-  look-before : id < idAt ws m → Probing ws id n (b / 2) (record { low = p .low; size = p .size / 2; hit = p .hit })
-  look-before lt = record {
+  look-before : id ≤ idAt ws m → Probing ws id n (record { low = p .low; size = p .size / 2 })
+  look-before le = record {
     within = omega (arith, g .within);
-    left = λ h. omega (arith, g .left h);
-    hits = g .hits;
     below = g .below;
     above = λ r j h k. by-lt m j
         (λ l. omega (arith, r m j l k))
-        (λ l. let e : m ≡ j = omega arith in subst (λ x. id < idAt ws x) e lt);
+        (λ l. let e : m ≡ j = omega arith in subst (λ x. id ≤ idAt ws x) e le);
   }
 
-  look : Probing ws id n (b / 2) (looked ws id p m)
-  look = by-pick (Probing ws id n (b / 2)) (eqb (idAt ws m) id)
-      (λ e. look-here (eqb-true _ _ e))
-      (λ e. by-pick (Probing ws id n (b / 2)) (ltb (idAt ws m) id)
-      (λ l. look-after (ltb-true _ _ l))
-      (λ l. look-before (ne-cases (idAt ws m) id _ (eqb-false _ _ e) (λ h. absurd (omega (arith, ltb-false (idAt ws m) id l))) (λ h. h))))
-
 -- one step, and all of them
-step : (ws : List ℕ) (id n b : ℕ) (p : Probe) → n ≤ 256 → Probing ws id n b p → Probing ws id n (b / 2) (probed ws id p)
+step : (ws : List ℕ) (id n : ℕ) (p : Probe) → (p .size ≡ 0 → ⊥) → Probing ws id n p → Probing ws id n (probed ws id p)
 unfolding probed
-step ws id n b p h g =
-    by-pick (Probing ws id n (b / 2)) (ltb (p .hit) 256) (λ e. rest (λ k. absurd (omega (arith, ltb-true (p .hit) 256 e))))
-    (λ none. by-pick (Probing ws id n (b / 2)) (eqb (p .size) 0) (λ e. rest (λ k. omega (arith, eqb-true (p .size) 0 e)))
-    (λ some. by-pick (Probing ws id n (b / 2)) (ltb 255 (p .low)) (λ e. absurd (some-in (eqb-false _ _ some) (ltb-true _ _ e)))
-    (λ low. by-pick (Probing ws id n (b / 2)) (ltb 255 (p .low + p .size / 2)) (λ e. absurd (mid-in (eqb-false _ _ some) (ltb-true _ _ e)))
-    (λ mid. look ws id n b p (p .low + p .size / 2) g refl (eqb-false _ _ some) (ltb-false _ _ mid)))))
-  where
-    rest : (255 < p .hit → p .size ≤ b / 2) → Probing ws id n (b / 2) p
-    rest k = record { within = g .within; left = k; hits = g .hits; below = g .below; above = g .above }
+step ws id n p some g = by-pick (Probing ws id n) (ltb (idAt ws (p .low + p .size / 2)) id)
+    (λ e. look-after ws id n p (p .low + p .size / 2) g refl some (ltb-true _ _ e))
+    (λ e. look-before ws id n p (p .low + p .size / 2) g refl some (ltb-false _ _ e))
 
-    some-in : (p .size ≡ 0 → ⊥) → 255 < p .low → ⊥
-    some-in s k = omega (arith, g .within)
+pub shrinks : (ws : List ℕ) (id : ℕ) (p : Probe) → (p .size ≡ 0 → ⊥) → probed ws id p .size < p .size
+unfolding probed
+shrinks ws id p some = by-pick (λ (x : Probe). x .size < p .size) (ltb (idAt ws (p .low + p .size / 2)) id) (λ e. omega arith) (λ e. omega arith)
 
-    mid-in : (p .size ≡ 0 → ⊥) → 255 < p .low + p .size / 2 → ⊥
-    mid-in s k = omega (arith, g .within)
+steps : (k : ℕ) (ws : List ℕ) (id n : ℕ) (p : Probe) → p .size ≤ k → Probing ws id n p → Probing ws id n (probes ws id k p) × (probes ws id k p .size ≡ 0)
+unfolding probes
+steps zero ws id n p h g = (g, omega arith)
+steps (suc k) ws id n p h g = by-pick (λ (x : Probe). Probing ws id n x × (x .size ≡ 0)) (eqb (p .size) 0)
+    (λ e. (g, eqb-true _ _ e))
+    (λ e. steps k ws id n (probed ws id p) (omega (arith, shrinks ws id p (eqb-false _ _ e))) (step ws id n p (eqb-false _ _ e) g))
 
-steps : (k : ℕ) (ws : List ℕ) (id n : ℕ) → n ≤ 256 → Probing ws id n (halved 256 k) (probes ws id n k)
-unfolding probes halved
-steps zero ws id n h = record {
-  within = omega arith;
-  left = λ k. h;
-  hits = λ k. absurd (omega arith);
-  below = λ r j k. absurd (omega arith);
-  above = λ r j k l. absurd (omega arith);
-}
-steps (suc k) ws id n h = step ws id n (halved 256 k) (probes ws id n k) h (steps k ws id n h)
+-- as many steps as positions are enough, and more change nothing
+pub enough : (k l : ℕ) (ws : List ℕ) (id : ℕ) (p : Probe) → p .size ≤ k → p .size ≤ l → probes ws id k p ≡ probes ws id l p
+unfolding probes
+enough zero zero ws id p a b = refl
+enough zero (suc l) ws id p a b = rw (eq-eqb (p .size) 0 (omega arith))
+enough (suc k) zero ws id p a b = rw (eq-eqb (p .size) 0 (omega arith))
+enough (suc k) (suc l) ws id p a b = pick-else (eqb (p .size) 0) p
+    (λ e. let s = shrinks ws id p (eqb-false _ _ e) in enough k l ws id (probed ws id p) (omega (arith, s)) (omega (arith, s)))
 
--- nine steps leave no position
-ended : (ws : List ℕ) (id n : ℕ) → n ≤ 256 → Probing ws id n 0 (probes ws id n 9)
-unfolding halved
-ended ws id n h = steps 9 ws id n h
+-- a step of a search that goes on
+taken : (ws : List ℕ) (id : ℕ) (p : Probe) (k : ℕ) → (p .size ≡ 0 → ⊥) → probes ws id (suc k) p ≡ probes ws id k (probed ws id p)
+unfolding probes
+taken ws id p k some = rw (ne-eqb (p .size) 0 some)
+
+pub one-more : (ws : List ℕ) (id : ℕ) (p : Probe) → (p .size ≡ 0 → ⊥) → probes ws id (p .size) p ≡ probes ws id (probed ws id p .size) (probed ws id p)
+one-more ws id p some =
+    let s = shrinks ws id p some in
+    enough (p .size) (suc (p .size)) ws id p (omega arith) (omega arith)
+    ∙ taken ws id p (p .size) some
+    ∙ enough (p .size) (probed ws id p .size) ws id (probed ws id p) (omega (arith, s)) (omega arith)
+
+-- no step is left
+pub no-more : (ws : List ℕ) (id : ℕ) (p : Probe) → p .size ≡ 0 → probes ws id (p .size) p ≡ p
+unfolding probes
+no-more ws id p e = enough (p .size) 0 ws id p (omega arith) (omega arith)
+
+-- the positions left lie among those before the step
+pub stays-within : (ws : List ℕ) (id n : ℕ) (p : Probe) → (p .size ≡ 0 → ⊥) → p .low + p .size ≤ n → probed ws id p .low + probed ws id p .size ≤ n
+unfolding probed
+stays-within ws id n p some h =
+    by-pick (λ (x : Probe). x .low + x .size ≤ n) (ltb (idAt ws (p .low + p .size / 2)) id) (λ e. omega arith) (λ e. omega arith)
+
+-- the position found among n rows
+abbrev first : List ℕ → ℕ → ℕ → ℕ
+first ws id n = probes ws id n (all n) .low
+
+record First (ws : List ℕ) (id n p : ℕ) : Type 0 where
+  within : p ≤ n
+  below : Rising ws n → (j : ℕ) → j < p → idAt ws j < id
+  above : Rising ws n → (j : ℕ) → p ≤ j → j < n → id ≤ idAt ws j
+
+first-is : (ws : List ℕ) (id n : ℕ) → First ws id n (first ws id n)
+first-is ws id n =
+    let a = steps n ws id n (all n) (omega arith) (record { within = omega arith; below = λ r j k. absurd (omega arith); above = λ r j k l. absurd (omega arith) }) in
+    record { within = omega (arith, a .0 .within); below = a .0 .below; above = λ r j h k. a .0 .above r j (omega (arith, a .1)) k }
 
 -- what At p q says, whatever the words
 pub record Hit (ws : List ℕ) (id p q : ℕ) : Type 0 where
@@ -160,68 +164,59 @@ never-both a b = let z : _≡_ {A = ℕ} 0 1 = cc in omega arith
 module _ (ws : List ℕ) (id : ℕ) where
   pub find-hit : (p q : ℕ) → findStream ws id ≡ At p q → Hit ws id p q
   unfolding findStream
-  find-hit p q = by-pick (λ f. f ≡ At p q → Hit ws id p q) (ltb 256 (knownCount ws)) (λ h e. absurd (never-at refl e))
-      (λ h. from (probes ws id (knownCount ws) 9) (ltb-false _ _ h) (ended ws id (knownCount ws) (ltb-false _ _ h)))
+  find-hit p q = by-pick (λ f. f ≡ At p q → Hit ws id p q) (ltb 256 (knownCount ws)) (λ h e. absurd (never-at refl e)) (λ h. from (first ws id (knownCount ws)) (ltb-false _ _ h))
     where
-      found : (x : Probe) → knownCount ws ≤ 256 → Probing ws id (knownCount ws) 0 x → x .hit ≤ 255 → knownAt ws (x .hit) .place ≤ 255
-          → At (x .hit) (knownAt ws (x .hit) .place) ≡ At p q → Hit ws id p q
-      found x h g k l e =
-          let ep : x .hit ≡ p = cc in
-          let eq : knownAt ws (x .hit) .place ≡ q = cc in
-          let t : (x .hit < knownCount ws) × (idAt ws (x .hit) ≡ id) = g .hits (omega arith) in
+      found : (x : ℕ) → knownCount ws ≤ 256 → x < knownCount ws → idAt ws x ≡ id → knownAt ws x .place ≤ 255 → At x (knownAt ws x .place) ≡ At p q → Hit ws id p q
+      found x h k d l e =
+          let ep : x ≡ p = cc in
+          let eq : knownAt ws x .place ≡ q = cc in
           record {
             known-fits = h;
-            among = omega (arith, t .0);
-            has-id = subst (λ y. idAt ws y ≡ id) ep (t .1);
+            among = omega arith;
+            has-id = subst (λ y. idAt ws y ≡ id) ep d;
             place-is = subst (λ y. knownAt ws y .place ≡ q) ep eq;
             place-fits = omega arith;
           }
 
-      from : (x : Probe) → knownCount ws ≤ 256 → Probing ws id (knownCount ws) 0 x → foundBy ws x ≡ At p q → Hit ws id p q
-      from x h g = by-pick (λ f. f ≡ At p q → Hit ws id p q) (ltb 255 (x .hit)) (λ k e. absurd (never-both refl e))
-          (λ k. by-pick (λ f. f ≡ At p q → Hit ws id p q) (ltb 255 (knownAt ws (x .hit) .place)) (λ l e. absurd (never-at refl e))
-          (λ l e. found x h g (ltb-false _ _ k) (ltb-false _ _ l) e))
+      from : (x : ℕ) → knownCount ws ≤ 256 → foundAt ws id x ≡ At p q → Hit ws id p q
+      from x h = by-pick (λ f. f ≡ At p q → Hit ws id p q) (ltb x (knownCount ws))
+          (λ k. by-pick (λ f. f ≡ At p q → Hit ws id p q) (eqb (idAt ws x) id)
+          (λ d. by-pick (λ f. f ≡ At p q → Hit ws id p q) (ltb 255 (knownAt ws x .place)) (λ l e. absurd (never-at refl e))
+          (λ l e. found x h (ltb-true _ _ k) (eqb-true _ _ d) (ltb-false _ _ l) e))
+          (λ d e. absurd (never-both refl e)))
+          (λ k e. absurd (never-both refl e))
 
   pub find-missed : (p : ℕ) → findStream ws id ≡ Gap p → Missed ws id p
   unfolding findStream
-  find-missed p = by-pick (λ f. f ≡ Gap p → Missed ws id p) (ltb 256 (knownCount ws)) (λ h e. absurd (never-gap refl e))
-      (λ h. from (probes ws id (knownCount ws) 9) (ltb-false _ _ h) (ended ws id (knownCount ws) (ltb-false _ _ h)))
+  find-missed p = by-pick (λ f. f ≡ Gap p → Missed ws id p) (ltb 256 (knownCount ws)) (λ h e. absurd (never-gap refl e)) (λ h. from (first ws id (knownCount ws)) (ltb-false _ _ h) (first-is ws id (knownCount ws)))
     where
-      missed : (x : Probe) → knownCount ws ≤ 256 → Probing ws id (knownCount ws) 0 x → 255 < x .hit → x .low ≡ p → Missed ws id p
-      missed x h g k e = record {
+      missed : (x : ℕ) → knownCount ws ≤ 256 → First ws id (knownCount ws) x → (x < knownCount ws → idAt ws x ≡ id → ⊥) → x ≡ p → Missed ws id p
+      missed x h g other e = record {
         known-fits = h;
         among = omega (arith, g .within);
         below = λ r j l. g .below r j (omega arith);
-        above = λ r j l m. g .above r j (omega (arith, g .left k)) m;
+        above = λ r j l m. by-lt x j
+            (λ k. omega (arith, g .above r x (omega arith) (omega arith), r x j k m))
+            (λ k. let d : x ≡ j = omega arith in subst (λ y. id < idAt ws y) d (ne-cases id (idAt ws x) _ (λ f. other (omega arith) (sym f)) (λ f. f) (λ f. absurd (omega (arith, g .above r x (omega arith) (omega arith))))));
       }
 
-      from : (x : Probe) → knownCount ws ≤ 256 → Probing ws id (knownCount ws) 0 x → foundBy ws x ≡ Gap p → Missed ws id p
-      from x h g = by-pick (λ f. f ≡ Gap p → Missed ws id p) (ltb 255 (x .hit)) (λ k e. missed x h g (ltb-true _ _ k) (cc))
-          (λ k. by-pick (λ f. f ≡ Gap p → Missed ws id p) (ltb 255 (knownAt ws (x .hit) .place)) (λ l e. absurd (never-gap refl e))
-          (λ l e. absurd (never-both e refl)))
+      from : (x : ℕ) → knownCount ws ≤ 256 → First ws id (knownCount ws) x → foundAt ws id x ≡ Gap p → Missed ws id p
+      from x h g = by-pick (λ f. f ≡ Gap p → Missed ws id p) (ltb x (knownCount ws))
+          (λ k. by-pick (λ f. f ≡ Gap p → Missed ws id p) (eqb (idAt ws x) id)
+          (λ d. by-pick (λ f. f ≡ Gap p → Missed ws id p) (ltb 255 (knownAt ws x .place)) (λ l e. absurd (never-gap refl e)) (λ l e. absurd (never-both e refl)))
+          (λ d e. missed x h g (λ l f. eqb-false _ _ d f) (cc)))
+          (λ k e. missed x h g (λ l f. omega (arith, ltb-false x (knownCount ws) k)) (cc))
 
   -- damaged words: too many streams
   pub find-broken : 256 < knownCount ws → findStream ws id ≡ Broken
   unfolding findStream
   find-broken h = rw (lt-ltb _ _ h)
 
--- a row that has the id is the hit
-only-hit : (ws : List ℕ) (id n p : ℕ) (x : Probe) → Rising ws n → p < n → idAt ws p ≡ id → Probing ws id n 0 x → x .hit ≡ p
-only-hit ws id n p x r h e g = by-lt (x .hit) 256 (λ k. same (g .hits k .0) (g .hits k .1)) (λ k. absurd (lost (omega arith)))
-  where
-    same : x .hit < n → idAt ws (x .hit) ≡ id → x .hit ≡ p
-    same k d =
-        by-lt (x .hit) p (λ l. absurd (omega (arith, r (x .hit) p l h)))
-        (λ l. by-lt p (x .hit) (λ l′. absurd (omega (arith, r p (x .hit) l′ k))) (λ l′. omega arith))
-
-    lost : 255 < x .hit → ⊥
-    lost k = by-lt p (x .low) (λ l. omega (arith, g .below r p l)) (λ l. omega (arith, g .above r p (omega (arith, g .left k)) h))
-
-found-at : (ws : List ℕ) (p : ℕ) (x : Probe) → x .hit ≡ p → p < 256 → knownAt ws p .place < 256 → foundBy ws x ≡ At p (knownAt ws p .place)
-found-at ws p x e h k = rw (e, le-ltb 255 p (omega arith), le-ltb 255 (knownAt ws p .place) (omega arith))
-
-found-bad : (ws : List ℕ) (p : ℕ) (x : Probe) → x .hit ≡ p → p < 256 → 255 < knownAt ws p .place → foundBy ws x ≡ Broken
-found-bad ws p x e h k = rw (e, le-ltb 255 p (omega arith), lt-ltb 255 (knownAt ws p .place) k)
+-- a row that has the id is the one found
+only-first : (ws : List ℕ) (id n p x : ℕ) → Rising ws n → p < n → idAt ws p ≡ id → First ws id n x → x ≡ p
+only-first ws id n p x r h e g =
+    by-lt x p (λ l. absurd (omega (arith, r x p l h, g .above r x (omega arith) (omega arith))))
+    (λ l. by-lt p x (λ l′. absurd (omega (arith, g .below r p l′))) (λ l′. omega arith))
 
 -- a stream that is not known: where it belongs
 pub record NotKnown (ws : List ℕ) (id : ℕ) : Type 0 where
@@ -230,38 +225,33 @@ pub record NotKnown (ws : List ℕ) (id : ℕ) : Type 0 where
   pub missed : Missed ws id at
 
 module _ (ws : List ℕ) (id : ℕ) (r : RisingKnown ws) (fits : knownCount ws ≤ 256) where
-  the-hit : (p : ℕ) → p < knownCount ws → idAt ws p ≡ id → probes ws id (knownCount ws) 9 .hit ≡ p
-  the-hit p h e = only-hit ws id (knownCount ws) p (probes ws id (knownCount ws) 9) r h e (ended ws id (knownCount ws) fits)
+  the-first : (p : ℕ) → p < knownCount ws → idAt ws p ≡ id → first ws id (knownCount ws) ≡ p
+  the-first p h e = only-first ws id (knownCount ws) p (first ws id (knownCount ws)) r h e (first-is ws id (knownCount ws))
 
   -- the row that has the id is found, with its place
   pub find-at : (p : ℕ) → p < knownCount ws → idAt ws p ≡ id → knownAt ws p .place < 256 → findStream ws id ≡ At p (knownAt ws p .place)
   unfolding findStream
   find-at p h e k =
-      rw (le-ltb 256 (knownCount ws) fits)
-      (found-at ws p (probes ws id (knownCount ws) 9) (the-hit p h e) (omega arith) k)
+      rw (le-ltb 256 (knownCount ws) fits, the-first p h e, lt-ltb p (knownCount ws) h, eq-eqb (idAt ws p) id e, le-ltb 255 (knownAt ws p .place) (omega arith))
 
   -- damaged words: the row that has the id leads to no row of the streams
   pub find-misplaced : (p : ℕ) → p < knownCount ws → idAt ws p ≡ id → 255 < knownAt ws p .place → findStream ws id ≡ Broken
   unfolding findStream
   find-misplaced p h e k =
-      rw (le-ltb 256 (knownCount ws) fits)
-      (found-bad ws p (probes ws id (knownCount ws) 9) (the-hit p h e) (omega arith) k)
+      rw (le-ltb 256 (knownCount ws) fits, the-first p h e, lt-ltb p (knownCount ws) h, eq-eqb (idAt ws p) id e, lt-ltb 255 (knownAt ws p .place) k)
 
 -- where no row has the id, the gap is found
 pub find-gap : (ws : List ℕ) (id : ℕ) → knownCount ws ≤ 256 → ((j : ℕ) → j < knownCount ws → idAt ws j ≡ id → ⊥) → NotKnown ws id
 unfolding findStream
-find-gap ws id fits none = record { at = x .low; found = gap; missed = find-missed ws id (x .low) gap }
+find-gap ws id fits none = record { at = x; found = gap; missed = find-missed ws id x gap }
   where
-    x : Probe
-    x = probes ws id (knownCount ws) 9
+    x : ℕ
+    x = first ws id (knownCount ws)
 
-    g : Probing ws id (knownCount ws) 0 x
-    g = ended ws id (knownCount ws) fits
-
-    gap : findStream ws id ≡ Gap (x .low)
-    gap = by-lt (x .hit) 256
-        (λ k. absurd (none (x .hit) (g .hits k .0) (g .hits k .1)))
-        (λ k. rw (le-ltb 256 (knownCount ws) fits, lt-ltb 255 (x .hit) (omega arith)))
+    gap : findStream ws id ≡ Gap x
+    gap = by-lt x (knownCount ws)
+        (λ k. rw (le-ltb 256 (knownCount ws) fits, lt-ltb x (knownCount ws) k, ne-eqb (idAt ws x) id (none x k)))
+        (λ k. rw (le-ltb 256 (knownCount ws) fits, le-ltb x (knownCount ws) k))
 
 -- and it is the one position with smaller ids before it and larger ones from it on
 pub find-gap-at : (ws : List ℕ) (id p : ℕ) → RisingKnown ws → knownCount ws ≤ 256 → p ≤ knownCount ws → ((j : ℕ) → j < p → idAt ws j < id)
@@ -276,32 +266,29 @@ find-gap-at ws id p r fits h lo hi =
 
 -- WHAT THE SEARCH READS: the count, and the rows below 256
 
--- the same where only the second choice is looked into
-pick-else : {A : Type 0} (b : Bool) (x : A) {y z : A} → (b ≡ false → y ≡ z) → pick b x y ≡ pick b x z
-pick-else true x e = refl
-pick-else false x e = e refl
-
 module _ (ws ls : List ℕ) (id : ℕ) (same : (j : ℕ) → j < 256 → knownAt ls j ≡ knownAt ws j) where
-  probed-same : (p : Probe) → probed ls id p ≡ probed ws id p
+  probed-same : (p : Probe) → (p .size ≡ 0 → ⊥) → p .low + p .size ≤ 256 → probed ls id p ≡ probed ws id p
   unfolding probed
-  probed-same p = pick-else (ltb (p .hit) 256) p (λ a. pick-else (eqb (p .size) 0) p (λ b. pick-else (ltb 255 (p .low)) p (λ c.
-      pick-else (ltb 255 (p .low + p .size / 2)) p (λ d. at (p .low + p .size / 2) (ltb-false 255 (p .low + p .size / 2) d)))))
-    where
-      at : (m : ℕ) → m ≤ 255 → looked ls id p m ≡ looked ws id p m
-      at m h = rw (ap (λ (k : Known). k .id .0) (same m (omega arith)))
+  probed-same p some h = rw (ap (λ (k : Known). k .id .0) (same (p .low + p .size / 2) (omega arith)))
 
-  probes-same : (n k : ℕ) → probes ls id n k ≡ probes ws id n k
+  probes-same : (k : ℕ) (p : Probe) → p .low + p .size ≤ 256 → probes ls id k p ≡ probes ws id k p
   unfolding probes
-  probes-same n zero = refl
-  probes-same n (suc k) = probed-same (probes ls id n k) ∙ ap (probed ws id) (probes-same n k)
+  probes-same zero p h = refl
+  probes-same (suc k) p h = pick-else (eqb (p .size) 0) p
+      (λ e. ap (probes ls id k) (probed-same p (eqb-false _ _ e) h) ∙ probes-same k (probed ws id p) (stays-within ws id 256 p (eqb-false _ _ e) h))
 
-  found-same : (x : Probe) → foundBy ls x ≡ foundBy ws x
-  found-same x =
-      pick-else (ltb 255 (x .hit)) (Gap (x .low)) (λ a. rw (ap (λ (k : Known). k .place) (same (x .hit) (omega (arith, ltb-false 255 (x .hit) a)))))
+  found-same : (n x : ℕ) → n ≤ 256 → knownCount ls ≡ n → knownCount ws ≡ n → foundAt ls id x ≡ foundAt ws id x
+  found-same n x h a b = by-lt x n
+      (λ k. let e : knownAt ls x ≡ knownAt ws x = same x (omega arith) in
+      let d : idAt ls x ≡ idAt ws x = ap (λ (y : Known). y .id .0) e in
+      rw (a, b, d, e))
+      (λ k. rw (a, b, le-ltb x n k))
 
   pub find-same : knownCount ls ≡ knownCount ws → findStream ls id ≡ findStream ws id
   unfolding findStream
-  find-same e = rw (e, probes-same (knownCount ws) 9, found-same (probes ws id (knownCount ws) 9))
+  find-same e = ap (λ n. pick (ltb 256 n) Broken (foundAt ls id (probes ls id n (all n) .low))) e ∙ pick-else (ltb 256 (knownCount ws)) Broken
+      (λ f. let h : knownCount ws ≤ 256 = ltb-false 256 (knownCount ws) f in
+      found-same (knownCount ws) (probes ls id (knownCount ws) (all (knownCount ws)) .low) h e refl ∙ ap (λ (x : Probe). foundAt ws id (x .low)) (probes-same (knownCount ws) (all (knownCount ws)) (omega arith)))
 
 -- the order of the known streams is read from the same words
 pub rising-same : (ws ls : List ℕ) → ((j : ℕ) → j < 256 → knownAt ls j ≡ knownAt ws j) → knownCount ls ≡ knownCount ws → knownCount ws ≤ 256

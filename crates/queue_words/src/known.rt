@@ -1,8 +1,8 @@
 // The known streams: 256 rows of 2 words from word 32 on, in the order of their ids, and the search among them.
 ghost use mathlib.Core.Path.{_≡_};
-ghost use Prim.Native.Nat.{_<_};
+ghost use Prim.Native.Nat.{_+_, _<_, _≤_};
 ghost use Rattle.queue_words.specs.Known.{knownOut, knownIn, knownAt, putKnown, FitsKnown};
-ghost use Rattle.queue_words.specs.Find.{probed, probes, findStream};
+ghost use Rattle.queue_words.specs.Find.{probed, all, probes, findStream};
 use crate::QUEUE_WORDS;
 use crate::header::load_totals;
 use types::StreamId;
@@ -61,68 +61,43 @@ pub enum Found {
     Broken,
 }
 
-// A search half done: the id, if it is known, is at hit, or among the size positions from low on. 256 stands for no hit.
+// A search half done: the ids before low are below the one sought, those behind the size positions from low on are not.
 pub struct Probe {
     pub low: usize,
     pub size: usize,
-    pub hit: usize,
 }
 
-// One step: the middle one of the positions left is looked at. The tests on low and mid
-// are for values that no search has.
+// One step: the middle one of the positions left is looked at.
 fn probe_once(queue: &[u64; QUEUE_WORDS], id: u16, p: Probe) -> Probe
+    requires { ⌜ (0 < p .size) × (p .low + p .size ≤ 256) ⌝ }
     ensures { λ r. ⌜ r ≡ probed (now (queue .entry)) id p ⌝ }
 {
-    if p.hit < 256 {
-        return p;
-    }
-    if p.size == 0 {
-        return p;
-    }
-    if p.low > 255 {
-        return p;
-    }
     let half = p.size / 2;
     let mid = p.low + half;
-    if mid > 255 {
-        return p;
-    }
     let row = load_known(queue, mid);
-    let here = row.id.0;
-    if here == id {
-        return Probe {
-            low: p.low,
-            size: p.size,
-            hit: mid,
-        };
-    }
-    if here < id {
+    if row.id.0 < id {
         return Probe {
             low: mid + 1,
             size: p.size - half - 1,
-            hit: p.hit,
         };
     }
     Probe {
         low: p.low,
         size: half,
-        hit: p.hit,
     }
 }
 
-// Nine steps, which leave nothing of 256 positions.
+// Steps until no position is left.
 fn probe_all(queue: &[u64; QUEUE_WORDS], id: u16, known: usize) -> Probe
-    ensures { λ r. ⌜ r ≡ probes (now (queue .entry)) id known 9 ⌝ }
+    requires { ⌜ known ≤ 256 ⌝ }
+    ensures { λ r. ⌜ r ≡ probes (now (queue .entry)) id known (all known) ⌝ }
 {
     let mut p = Probe {
         low: 0,
         size: known,
-        hit: 256,
     };
-    let mut k: usize = 0;
-    while k < 9 {
+    while p.size > 0 {
         p = probe_once(queue, id, p);
-        k += 1;
     }
     p
 }
@@ -134,14 +109,18 @@ pub fn find_stream(queue: &[u64; QUEUE_WORDS], id: u16) -> Found
     if t.known > 256 {
         return Found::Broken;
     }
-    let p = probe_all(queue, id, t.known as usize);
-    let hit = p.hit;
-    if hit > 255 {
-        return Found::Gap(p.low);
+    let known = t.known as usize;
+    let p = probe_all(queue, id, known);
+    let at = p.low;
+    if at >= known {
+        return Found::Gap(at);
     }
-    let row = load_known(queue, hit);
+    let row = load_known(queue, at);
+    if row.id.0 != id {
+        return Found::Gap(at);
+    }
     if row.place > 255 {
         return Found::Broken;
     }
-    Found::At(hit, row.place as usize)
+    Found::At(at, row.place as usize)
 }

@@ -1,9 +1,11 @@
 -- `queue_words::known::find_stream` meets its contract: each return is a case of `findStream`. Assumes nothing.
-use mathlib.Core.Path.{sym, ap}
+use mathlib.Core.Path.{_≡_, sym, ap}
+use Prim.Native.Nat.{ℕ}
 use borrow.Author.Needs.{needs}
-use borrow.Author.Tests.{lt-ltb, le-ltb}
+use borrow.Author.Tests.{lt-ltb, le-ltb, eq-eqb, ne-eqb}
 use Rattle.queue_words.specs.declared.header.Totals.{Totals}
 use Rattle.queue_words.specs.declared.known.Known.{Known}
+use Rattle.queue_words.specs.declared.known.Probe.{Probe}
 use Rattle.queue_words.specs.Find.{findStream}
 use Rattle.queue_words.proofs.known.find_stream.Statement.{statement}
 use Rattle.queue_words.proofs.known.find_stream.Tie as tie
@@ -17,8 +19,7 @@ unfolding findStream
 returns-2 c =
     let p = c .before in
     let n = p .before in
-    let t = n .before .before in
-    rw (ap (λ (t : Totals). t .known) (sym (t .load-totals .ensures)), le-ltb _ _ (n .if1 .left), ← p .probe-all .ensures, lt-ltb _ _ (c .if2 .taken))
+    rw (ap (λ (t : Totals). t .known) (sym (n .before .before .load-totals .ensures)), le-ltb _ _ (n .if1 .left), ← p .probe-all .ensures, le-ltb _ _ (c .if2 .taken))
 
 returns-3 : tie.Need-returns-3
 unfolding findStream
@@ -27,31 +28,51 @@ returns-3 c =
     let h = r .before in
     let p = h .before in
     let n = p .before in
-    let t = n .before .before in
     rw (
-      ap (λ (t : Totals). t .known) (sym (t .load-totals .ensures)),
+      ap (λ (t : Totals). t .known) (sym (n .before .before .load-totals .ensures)),
       le-ltb _ _ (n .if1 .left),
       ← p .probe-all .ensures,
-      le-ltb _ _ (h .if2 .left),
-      ap (λ (k : Known). k .place) (sym (r .load-known .ensures)),
-      lt-ltb _ _ (c .if3 .taken),
+      lt-ltb _ _ (h .if2 .left),
+      ap (λ (k : Known). k .id .0) (sym (r .load-known .ensures)),
+      ne-eqb _ _ (c .if3 .taken),
     )
 
 returns-4 : tie.Need-returns-4
 unfolding findStream
 returns-4 c =
-    let r = c .before .before in
+    let d = c .before .before in
+    let r = d .before .before in
     let h = r .before in
     let p = h .before in
     let n = p .before in
-    let t = n .before .before in
     rw (
-      ap (λ (t : Totals). t .known) (sym (t .load-totals .ensures)),
+      ap (λ (t : Totals). t .known) (sym (n .before .before .load-totals .ensures)),
       le-ltb _ _ (n .if1 .left),
       ← p .probe-all .ensures,
-      le-ltb _ _ (h .if2 .left),
+      lt-ltb _ _ (h .if2 .left),
+      ap (λ (k : Known). k .id .0) (sym (r .load-known .ensures)),
+      eq-eqb _ _ (d .if3 .left),
       ap (λ (k : Known). k .place) (sym (r .load-known .ensures)),
-      le-ltb _ _ (c .if3 .left),
+      lt-ltb _ _ (c .if4 .taken),
+    )
+
+returns-5 : tie.Need-returns-5
+unfolding findStream
+returns-5 c =
+    let d = c .before .before in
+    let r = d .before .before in
+    let h = r .before in
+    let p = h .before in
+    let n = p .before in
+    rw (
+      ap (λ (t : Totals). t .known) (sym (n .before .before .load-totals .ensures)),
+      le-ltb _ _ (n .if1 .left),
+      ← p .probe-all .ensures,
+      lt-ltb _ _ (h .if2 .left),
+      ap (λ (k : Known). k .id .0) (sym (r .load-known .ensures)),
+      eq-eqb _ _ (d .if3 .left),
+      ap (λ (k : Known). k .place) (sym (r .load-known .ensures)),
+      le-ltb _ _ (c .if4 .left),
     )
 
 pub find-stream-spec : {M : Type 1} → statement M
@@ -64,4 +85,5 @@ find-stream-spec =
     returns-2
     (λ c κs. search needs)
     returns-3
-    returns-4)
+    returns-4
+    returns-5)

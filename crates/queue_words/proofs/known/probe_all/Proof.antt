@@ -1,38 +1,37 @@
--- `queue_words::known::probe_all` meets its contract. Invariant: p is what k steps leave. Assumes nothing.
-use mathlib.Core.Path.{_≡_, refl, ap, _∙_}
-use Prim.Native.Nat.{_-_, _≤_}
+-- `queue_words::known::probe_all` meets its contract. Invariant: the steps left lead where all of them do. Assumes nothing.
+use mathlib.Core.Path.{_≡_, refl, sym, ap, _∙_}
+use Prim.Native.Nat.{_+_, _≤_}
 use native.Mathlib.Omega.{arith}
-use native.Mathlib.Numerals.{add-one}
-use Rattle.queue_words.specs.Find.{probes}
+use Rattle.queue_words.specs.declared.known.Probe.{Probe}
+use Rattle.queue_words.specs.Find.{all, probes}
+use Rattle.queue_words.proofs.Finds.{shrinks, one-more, no-more, stays-within}
 use Rattle.queue_words.proofs.known.probe_all.Statement.{statement}
 use Rattle.queue_words.proofs.known.probe_all.Tie as tie
 
 abbrev Inv-loop : tie.InvT-loop
-Inv-loop queue id known p₀ k₀ p k = (k ≤ 9) × (p ≡ probes queue id known k)
+Inv-loop queue id known p₀ p = (p .low + p .size ≤ known) × (probes queue id (p .size) p ≡ probes queue id known (all known))
 
 abbrev μ-loop : tie.MeasureT-loop
-μ-loop queue id known p₀ k₀ p k = 9 - k
+μ-loop queue id known p₀ p = p .size
 
 loop-holds : tie.Need-loop-holds Inv-loop μ-loop
-unfolding probes
 loop-holds c = (omega arith, refl)
 
+probe-once-requires : tie.Need-probe-once-requires Inv-loop μ-loop
+probe-once-requires c κs = (omega arith, omega (arith, c .before .before .loop .inv .0))
+
+loop-less : tie.Need-loop-less Inv-loop μ-loop
+loop-less c = rw (c .probe-once .ensures) (shrinks _ _ (c .before .before .before .loop .p) (λ e. omega arith))
+
 loop-again : tie.Need-loop-again Inv-loop μ-loop
-unfolding probes
-loop-again c = (omega arith, (c .probe-once .ensures) ∙ rw (add-one, (c .before .before .loop .inv .1)))
+loop-again c =
+    let l = c .before .before .before .loop in
+    rw (c .probe-once .ensures) (stays-within _ _ _ (l .p) (λ e. omega arith) (l .inv .0), sym (one-more _ _ (l .p) (λ e. omega arith)) ∙ l .inv .1)
 
 returns : tie.Need-returns Inv-loop μ-loop
 returns c =
-    let e : (c .before .loop .k) ≡ 9 = omega arith in
-    (c .before .loop .inv .1) ∙ ap (probes _ _ _) e
+    let l = c .before .before .loop in
+    sym (no-more _ _ (l .p) (omega arith)) ∙ l .inv .1
 
 pub probe-all-spec : {M : Type 1} → statement M
-probe-all-spec =
-    tie.close
-    (tie.spec Inv-loop μ-loop
-    loop-holds
-    (λ c κs. tt)
-    (λ c. omega arith)
-    (λ c. omega arith)
-    loop-again
-    returns)
+probe-all-spec = tie.close (tie.spec Inv-loop μ-loop loop-holds probe-once-requires loop-less loop-again returns)
