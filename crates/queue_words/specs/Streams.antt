@@ -2,7 +2,7 @@
 use Prim.Native.Nat.{ℕ, _+_, _*_, _%_, _<_}
 use mathlib.Core.List.{List, [], _∷_}
 use lib.Dec.{eqb}
-use lib.ListN.{getD}
+use lib.ListN.{getD, set}
 use Rattle.queue_words.specs.Rows.{row, putRow}
 use Rattle.queue_words.specs.Flags.{pick}
 use Rattle.queue_words.specs.declared.streams.OutgoingStream.{OutgoingStream}
@@ -42,6 +42,24 @@ streamAt ws i = streamOut ws i
 -- the words with s in row i
 unfoldable pub putStream : List ℕ → ℕ → OutgoingStream → List ℕ
 putStream ws i s = streamIn ws i s
+
+-- three words of row i: the amount and the ends of the chain
+unfoldable pub putChain : List ℕ → ℕ → ℕ → ℕ → ℕ → List ℕ
+putChain ws i amount first last = set (set (set ws (544 + i * 10 + 5) amount) (544 + i * 10 + 7) first) (544 + i * 10 + 8) last
+
+-- a stream with other ones of these three
+abbrev pub withChain : OutgoingStream → ℕ → ℕ → ℕ → OutgoingStream
+withChain s amount first last = record {
+  priority = s .priority;
+  «pause_state» = s .«pause_state»;
+  «next_ssn» = s .«next_ssn»;
+  «next_unordered_mid» = s .«next_unordered_mid»;
+  «next_ordered_mid» = s .«next_ordered_mid»;
+  «buffered_amount» = amount;
+  «low_threshold» = s .«low_threshold»;
+  first = first;
+  last = last;
+}
 
 -- every narrow field is a value of its type
 pub record FitsStream (s : OutgoingStream) : Type 0 where

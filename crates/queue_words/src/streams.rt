@@ -1,7 +1,7 @@
 // The streams: 256 rows of 10 words from word 544 on, 9 of them used. A row does not hold its stream's id: the known streams say it.
 ghost use mathlib.Core.Path.{_≡_};
 ghost use Prim.Native.Nat.{_<_};
-ghost use Rattle.queue_words.specs.Streams.{streamOut, streamIn, streamAt, putStream, FitsStream};
+ghost use Rattle.queue_words.specs.Streams.{streamOut, streamIn, streamAt, putStream, putChain, FitsStream};
 ghost use Rattle.queue_words.specs.Streams.{pauseStateOf, pauseStateNumber};
 use crate::QUEUE_WORDS;
 use types::Mid;
@@ -69,6 +69,17 @@ pub fn store_stream(queue: &mut [u64; QUEUE_WORDS], i: usize, s: OutgoingStream)
     ensures { λ _. ⌜ now (queue .exit) ≡ putStream (now (queue .entry)) i s ⌝ }
 {
     stream_in(queue, i, s)
+}
+
+// Three words of a row: the amount and the ends of the chain.
+pub fn store_chain(queue: &mut [u64; QUEUE_WORDS], i: usize, amount: u64, first: u64, last: u64)
+    requires { ⌜ i < 256 ⌝ }
+    ensures { λ _. ⌜ now (queue .exit) ≡ putChain (now (queue .entry)) i amount first last ⌝ }
+{
+    let at = BASE + i * 10;
+    queue[at + 5] = amount;
+    queue[at + 7] = first;
+    queue[at + 8] = last;
 }
 
 pub fn stream_fits(s: OutgoingStream)
