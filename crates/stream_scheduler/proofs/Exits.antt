@@ -19,7 +19,7 @@ use Rattle.queue_words.specs.declared.header.SchedulerState.{SchedulerState}
 use Rattle.active_table.specs.Rows.{seek, bestTo}
 use Rattle.active_table.specs.declared.Best.{Best}
 use Rattle.stream_scheduler.specs.Rows.{advanced, scheduledRow}
-use Rattle.stream_scheduler.specs.Words.{outcome, currentRow, peekAmong, peekWords, waitsIn, forgotten, rested, stateOf, droppedRow, takenOut, removeStream, setIn, setBytesRemaining, rememberedWord, acceptRow, acceptAt}
+use Rattle.stream_scheduler.specs.Words.{outcome, currentRow, peekAmong, peekWords, waitsIn, forgotten, rested, stateOf, droppedRow, takenOut, removeStream, setIn, setBytesRemaining, beginWaiting, rememberedWord, acceptRow, acceptAt}
 use Rattle.stream_scheduler.specs.declared.Peeked.the-variants.{At, Nothing, Broken}
 
 -- ------------------------------------------------------------------ cost and times
@@ -140,6 +140,15 @@ module _ (ws : List ℕ) (id bytes : ℕ) (p : SchedulingParameters) (s : Schedu
         → outcome r l ≡ setBytesRemaining ws id bytes p
     unfolding setBytesRemaining
     bytes-some w r z ew el = rw (← es, le-ltb _ _ h, ne-eqb _ _ z, ← ew, ← ea) el
+
+  pub begin-broken : 256 < s .active → outcome false ws ≡ beginWaiting ws id bytes p
+  unfolding beginWaiting
+  begin-broken h = rw (← es, lt-ltb _ _ h)
+
+  pub begin-set : (l : List ℕ) (w : ℕ) (r : Bool) → s .active ≤ 256 → w ≡ parametersWord p → outcome r l ≡ setIn ws id bytes w (s .active) (s .active)
+      → outcome r l ≡ beginWaiting ws id bytes p
+  unfolding beginWaiting
+  begin-set l w r h ew el = rw (← es, le-ltb _ _ h, ← ew) el
 
 -- ------------------------------------------------------------------ handing out
 

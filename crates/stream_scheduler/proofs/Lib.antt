@@ -4,6 +4,7 @@ pub mod Ends
 pub mod Index
 pub mod Search
 pub mod Link
+pub mod Begins
 pub mod Handing
 pub mod Worked
 pub mod Frames

@@ -84,6 +84,10 @@ setBytesRemaining ws id bytes p =
     else if eqb bytes 0 then outcome true (takenOut ws id (seek ws id n) n)
     else setIn ws id bytes (parametersWord p) (seek ws id n) n
 
+-- A stream that has no row let wait: its row is a new one.
+unfoldable pub beginWaiting : List ℕ → ℕ → ℕ → SchedulingParameters → Outcome
+beginWaiting ws id bytes p = let n = (schedulerAt ws) .active in if ltb 256 n then outcome false ws else setIn ws id bytes (parametersWord p) n n
+
 -- ------------------------------------------------------------------ handing out
 
 -- "Without interleaving a stream is remembered from any fragment but a last one": by turns, and not by weights.

@@ -11,7 +11,7 @@ ghost use Prim.Native.Nat.{_+_, _-_, _*_, _<_, _≤_, min};
 ghost use Rattle.queue_model.specs.Scheduler.{cost, saturating};
 ghost use Rattle.queue_model.specs.Types.{weighted};
 ghost use Rattle.stream_scheduler.specs.Rows.{advanced, scheduledRow};
-ghost use Rattle.stream_scheduler.specs.Words.{outcome, forgotten, rested, rememberedWord, currentRow, peekWords, waitsIn, droppedRow, takenOut, removeStream, setIn, setBytesRemaining, acceptAt};
+ghost use Rattle.stream_scheduler.specs.Words.{outcome, forgotten, rested, rememberedWord, currentRow, peekWords, waitsIn, droppedRow, takenOut, removeStream, setIn, setBytesRemaining, beginWaiting, acceptAt};
 use active_table::least_row;
 use active_table::seek;
 use queue_words::QUEUE_WORDS;
@@ -287,6 +287,24 @@ pub fn set_bytes_remaining(
     }
     let parameters = parameters_word(priority);
     set_row(queue, stream_id, bytes, parameters, at, n)
+}
+
+// Lets a stream wait that has no row, with so many bytes: its row is a new one.
+pub fn begin_waiting(
+    queue: &mut [u64; QUEUE_WORDS],
+    stream_id: u16,
+    bytes: u64,
+    priority: SchedulingParameters,
+) -> bool
+    ensures { λ r. ⌜ outcome r (now (queue .exit)) ≡ beginWaiting (now (queue .entry)) «stream_id» bytes priority ⌝ }
+{
+    let s = load_scheduler_state(&*queue);
+    if s.active > 256 {
+        return false;
+    }
+    let n = s.active as usize;
+    let parameters = parameters_word(priority);
+    set_row(queue, stream_id, bytes, parameters, n, n)
 }
 
 // "Without interleaving a stream is remembered from any fragment but a last one".

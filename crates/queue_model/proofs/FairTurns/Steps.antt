@@ -72,7 +72,7 @@ unfolding has-items
 no-head s e = no-items (s .items) e
 
 -- A stream without messages does not wait.
-not-listed : (q : Queue) (k : ℕ) → Well q → has-items (stream-at q k) ≡ false → find-active k (q .scheduler .active) ≡ none
+pub not-listed : (q : Queue) (k : ℕ) → Well q → has-items (stream-at q k) ≡ false → find-active k (q .scheduler .active) ≡ none
 not-listed q k w e = elim (look-up active-key k (q .scheduler .active)) [
   | missing f ↦ f
   | found a f ↦ (let l = every-find active-key (Listed (q .interleaving) (q .streams)) k a (q .scheduler .active) (w .waits .sched .every) f in
