@@ -17,9 +17,10 @@ use Rattle.queue_words.specs.Streams.{streamAt, FitsStream}
 use Rattle.queue_words.specs.declared.header.Totals.{Totals}
 use Rattle.queue_words.specs.declared.streams.OutgoingStream.{OutgoingStream}
 use Rattle.queue_words.proofs.Laws
-use Rattle.queue_model.specs.Types.{Stream, Queue}
+use Rattle.queue_model.specs.Types.{Stream, Scheduler, Queue}
 use Rattle.queue_model.specs.Types as plain
-use Rattle.queue_model.specs.Streams.{stream-key, find-stream, put-stream, stream-at, too-many, with-message}
+use Rattle.queue_model.specs.Scheduler.{find-active}
+use Rattle.queue_model.specs.Streams.{some-items, has-items, stream-key, find-stream, put-stream, stream-at, too-many, with-message}
 use Rattle.queue_model.specs.Refusals.{overflows}
 use Rattle.queue_model.specs.Add.{new-item}
 use Rattle.queue_model.specs.Add as plain-add
@@ -28,6 +29,7 @@ use Rattle.queue_model.specs.Demands.{MessageTyped}
 use Rattle.queue_model.proofs.Table.{Rising, rising-put, find-put-same, find-put-other, same-table, own, other, is-own}
 use Rattle.queue_model.proofs.Invariant.Well.{Room, room, amount-le}
 use Rattle.queue_model.proofs.Invariant.Fine.{total-le}
+use Rattle.queue_model.proofs.FairTurns.Steps.{not-listed}
 use Rattle.payload_store.specs.Words.{usedOf}
 use Rattle.payload_store.proofs.Cases.{by-lt}
 use Rattle.payload_store.proofs.Goods.{used-fits}
@@ -35,21 +37,24 @@ use Rattle.stream_scheduler.specs.Link.{modelScheduler}
 use Rattle.stream_scheduler.specs.Link as link
 use Rattle.queue_streams.specs.Known.{newStream, lookUp, inserted}
 use Rattle.queue_streams.specs.declared.answers.Call.the-variants.{Accepted, Refused}
-use Rattle.queue_state.specs.Model.{pauseOf, streamOf, rowAt, optionsOf, streamIn, streamsIn, model}
+use Rattle.queue_streams.specs.declared.known.Place.the-variants as place
+use Rattle.queue_state.specs.Chains.{each}
+use Rattle.queue_state.specs.Model.{nextOf, itemIn, pauseOf, streamOf, rowAt, optionsOf, streamIn, streamsIn, model}
 use Rattle.queue_state.specs.Good.{Shape, Good}
 use Rattle.queue_state.specs.Promise.{Does}
+use Rattle.queue_state.proofs.Chains.{linked-le, linked-none}
 use Rattle.queue_state.proofs.Frames.{stream-is}
 use Rattle.queue_state.proofs.Singles.{model-is, model-options, model-interleaving, model-total, model-next, model-streams, model-schedules}
 use Rattle.queue_state.proofs.Looks.{Lookup, known-at, new-at, lookup, stream-found, stream-new, not-too-many, too-many-new, look-row, look-new, look-full}
 use Rattle.queue_state.proofs.Inserts.{Inserted, insert-link}
 use Rattle.queue_state.proofs.Rooms.{AllKnown, all-known, rows-few, room-of, streams-rise}
 use Rattle.queue_messages.specs.Message.{newItem, nanoseconds, retransmissions}
-use Rattle.queue_messages.specs.Add.{argumentsCode, brokenCode, messageCode, Stored, appended, Added, added, addKnown, addNew, addIn, add}
+use Rattle.queue_messages.specs.Add.{argumentsCode, brokenCode, messageCode, starts, Stored, appended, Added, added, addTo, addIn, add}
 use Rattle.queue_messages.specs.declared.message.MaxRetransmissions.{MaxRetransmissions}
 use Rattle.queue_messages.specs.declared.message.MaxRetransmissions.the-variants as retr
 use Rattle.queue_messages.specs.declared.message.Message.{Message}
 use Rattle.linked_adding.specs.Message.{messageOf, retransmissionsOf}
-use Rattle.linked_adding.proofs.Begins.{put-known}
+use Rattle.linked_adding.proofs.Begins.{put-known, starts-none}
 use Rattle.linked_adding.proofs.Joins.{Joined, joined}
 use Rattle.linked_adding.proofs.Passes.{broken-none}
 use Rattle.linked_adding.proofs.Refuses.{argumentsBy, arguments-are, message-seven, message-eight, message-none, lost-six, store-model, refusal-is, does-refused, does-done}
@@ -148,15 +153,20 @@ module _ (ws st : List ℕ) (g : Good ws st) (time : ℕ) (m : Message) (bs : Li
   amount-fits : length bs ≤ 262144 → (stream-at q id) .amount + length bs ≤ 18446744073709551615
   amount-fits h = omega (arith, amount-le q id (g .well), total-le q (g .well), g .well .store-fits, sizes .store-high)
 
+  -- a stream without messages does not wait
+  idle-model : (stream-at q id) .items ≡ [] → find-active id ((modelScheduler ws) .active) ≡ none
+  unfolding has-items some-items
+  idle-model e = subst (λ (sc : Scheduler). find-active id (sc .active) ≡ none) (model-schedules ws st) (not-listed q id (g .well) (ap some-items e))
+
   listed-all : AllKnown ws st
   listed-all = all-known ws st (g .well)
 
   -- ---- past the stream's place: both kinds of streams
   module _ (s : OutgoingStream) (next : Stored) (past : ltb 0 (argumentsCode ws (length st) time (m .lifetime) (length bs)) ≡ false) (known : too-many q id ≡ false)
-      (unbroken : Passed ws st bs → brokenCode ws (length st) id s (length bs) ≡ 0)
+      (unbroken : Passed ws st bs → brokenCode ws (length st) s (length bs) ≡ 0)
       (meets : Passed ws st bs → (Shape (next .words) (next .store)) × (length (next .store) ≡ length st) × (optionsAt (next .words) ≡ optionsAt ws) × (model (next .words) (next .store) ≡ plain-add.added time (messageOf m bs) q)) where
     abbrev result : Added
-    result = pick (ltb 0 (messageCode ws (length st) id s (length bs))) (added (Refused (messageCode ws (length st) id s (length bs))) ws st) (added (Accepted 0) (next .words) (next .store))
+    result = pick (ltb 0 (messageCode ws (length st) s (length bs))) (added (Refused (messageCode ws (length st) s (length bs))) ws st) (added (Accepted 0) (next .words) (next .store))
 
     bytes : (1 ≤ length bs) × (length bs ≤ 262144)
     bytes =
@@ -168,19 +178,19 @@ module _ (ws st : List ℕ) (g : Good ws st) (time : ℕ) (m : Message) (bs : Li
 
     seven : 1023 < totalsAt ws .waiting → Does call ws st (result .answer) (result .words) (result .store)
     seven h =
-        rw (message-seven ws (length st) id s (length bs) h)
+        rw (message-seven ws (length st) s (length bs) h)
         (does-refused ws st g time m bs 7 (refusal-is ws st g time m bs ∙ rw (past, known, lt-ltb 1023 (totalsAt ws .waiting) h)))
 
     eight : totalsAt ws .waiting ≤ 1023 → length st - usedOf ws < length bs → Does call ws st (result .answer) (result .words) (result .store)
     eight h k =
-        rw (message-eight ws (length st) id s (length bs) h k)
+        rw (message-eight ws (length st) s (length bs) h k)
         (does-refused ws st g time m bs 8 (refusal-is ws st g time m bs ∙ rw (past, known, le-ltb 1023 (totalsAt ws .waiting) h, lt-ltb (length st - usedOf ws) (length bs) k)))
 
     accepted : totalsAt ws .waiting ≤ 1023 → length bs ≤ length st - usedOf ws → Does call ws st (result .answer) (result .words) (result .store)
     accepted h k =
         let p : Passed ws st bs = record { some-bytes = bytes .0; few-bytes = bytes .1; room-left = omega (arith, used-in); place-left = omega arith } in
         let n = meets p in
-        rw (message-none ws (length st) id s (length bs) h k (unbroken p))
+        rw (message-none ws (length st) s (length bs) h k (unbroken p))
         (does-done ws st g time m bs ht (omega (arith, store-small)) typed (next .words) (next .store)
         (refusal-is ws st g time m bs ∙ rw (past, known, le-ltb 1023 (totalsAt ws .waiting) h, le-ltb (length st - usedOf ws) (length bs) k, no-overflow q (stream-at q id) (length bs) (rw (model-total ws st) (total-fits (bytes .1))) (amount-fits (bytes .1))))
         (n .0) (n .1) (n .2) (n .3))
@@ -200,17 +210,24 @@ module _ (ws st : List ℕ) (g : Good ws st) (time : ℕ) (m : Message) (bs : Li
     row-amount : length bs ≤ 262144 → streamAt ws (rowAt ws i) .«buffered_amount» + length bs ≤ 18446744073709551615
     row-amount h = omega (arith, amount-fits h, ap (λ (x : Stream). x .amount) at-is, amount-row)
 
+    -- a stream that begins to wait has no messages, and so does not wait yet
+    idle : starts (streamAt ws (rowAt ws i)) ≡ true → find-active id ((modelScheduler ws) .active) ≡ none
+    idle e =
+        let k : streamAt ws (rowAt ws i) .first ≡ 1024 = omega (arith, starts-none (streamAt ws (rowAt ws i)) e, linked-le (nextOf ws) (streamAt ws (rowAt ws i) .first) (g .shape .q i) (g .shape .rows i hk .linked)) in
+        let z : g .shape .q i ≡ [] = linked-none (nextOf ws) (streamAt ws (rowAt ws i) .first) (g .shape .q i) (g .shape .rows i hk .linked) k in
+        idle-model (ap (λ (x : Stream). x .items) (at-is ∙ stream-is ws st (g .shape) i hk) ∙ ap (each (itemIn ws st)) z)
+
     joins : Passed ws st bs → Joined ws st i time m bs (appended ws st time m bs (rowAt ws i) (streamAt ws (rowAt ws i)) .words) (appended ws st time m bs (rowAt ws i) (streamAt ws (rowAt ws i)) .store)
     joins p =
-        joined ws st (g .shape) listed-all i hk time m bs id-is (item-fits ws time m bs typed) (p .some-bytes) (p .room-left) (total-fits (p .few-bytes)) (row-amount (p .few-bytes)) (p .place-left)
+        joined ws st (g .shape) listed-all i hk time m bs id-is (item-fits ws time m bs typed) (p .some-bytes) (p .room-left) (total-fits (p .few-bytes)) (row-amount (p .few-bytes)) (p .place-left) idle
 
     add-known : ltb 0 (argumentsCode ws (length st) time (m .lifetime) (length bs)) ≡ false
-        → Does call ws st (addKnown ws st time m bs (rowAt ws i) .answer) (addKnown ws st time m bs (rowAt ws i) .words) (addKnown ws st time m bs (rowAt ws i) .store)
-    unfolding addKnown
+        → Does call ws st (addTo ws st time m bs (place.Row (rowAt ws i)) .answer) (addTo ws st time m bs (place.Row (rowAt ws i)) .words) (addTo ws st time m bs (place.Row (rowAt ws i)) .store)
+    unfolding addTo
     add-known past =
         placed-link (streamAt ws (rowAt ws i)) (appended ws st time m bs (rowAt ws i) (streamAt ws (rowAt ws i))) past (not-too-many ws st id (streamIn ws st i) found)
         (λ p. broken-none ws st (g .shape) id (streamAt ws (rowAt ws i)) bs (g .shape .q i) (p .place-left) (p .room-left) (total-fits (p .few-bytes)) (row-amount (p .few-bytes)) (g .shape .rows i hk)
-        (room-of ws st (g .shape) listed-all id (streamIn ws st i, found)))
+        (room-of ws st (g .shape) listed-all id (streamIn ws st i, found)) idle)
         (λ p. let j = joins p in (j .shape, j .store, j .options, added-is ws st time (messageOf m bs) (streamIn ws st i) _ _ at-is (j .options) (j .interleaving) (j .total) (j .next-id) (j .streams) (j .scheduler)))
 
   -- ---- a new stream, that belongs at position p
@@ -242,6 +259,9 @@ module _ (ws st : List ℕ) (g : Good ws st) (time : ℕ) (m : Message) (bs : Li
     listed-us : AllKnown us st
     listed-us = put-known ws st us st (streamOf id fresh []) (ins .streams) (ins .scheduler-is) listed-all .0
 
+    idle-new : find-active id ((modelScheduler ws) .active) ≡ none
+    idle-new = idle-model (ap (λ (x : Stream). x .items) new-is)
+
     row-us : streamAt us (rowAt us p) ≡ fresh
     row-us = rw (ins .row-is) (ins .stream-is)
 
@@ -253,7 +273,7 @@ module _ (ws st : List ℕ) (g : Good ws st) (time : ℕ) (m : Message) (bs : Li
         let ut : totalsAt us .total ≡ totalsAt ws .total = ap (λ (x : Totals). x .total) t in
         let uw : totalsAt us .waiting ≡ totalsAt ws .waiting = ap (λ (x : Totals). x .waiting) t in
         let ua : streamAt us (rowAt us p) .«buffered_amount» ≡ 0 = ap (λ (x : OutgoingStream). x .«buffered_amount») row-us in
-        let j = joined us st (ins .shape) listed-us p ku time m bs (ins .id-is) (item-fits us time m bs typed) (k .some-bytes) (omega (arith, k .room-left)) (omega (arith, total-fits (k .few-bytes))) (omega (arith, k .few-bytes)) (omega (arith, k .place-left)) in
+        let j = joined us st (ins .shape) listed-us p ku time m bs (ins .id-is) (item-fits us time m bs typed) (k .some-bytes) (omega (arith, k .room-left)) (omega (arith, total-fits (k .few-bytes))) (omega (arith, k .few-bytes)) (omega (arith, k .place-left)) (λ e. ap (λ (sc : Scheduler). find-active id (sc .active)) (ins .scheduler-is) ∙ idle-new) in
         subst (λ r. Joined us st p time m bs (appended us st time m bs r fresh .words) (appended us st time m bs r fresh .store)) (ins .row-is)
         (subst (λ x. Joined us st p time m bs (appended us st time m bs (rowAt us p) x .words) (appended us st time m bs (rowAt us p) x .store)) row-us j)
 
@@ -271,13 +291,13 @@ module _ (ws st : List ℕ) (g : Good ws st) (time : ℕ) (m : Message) (bs : Li
         (j .scheduler ∙ rw (ei, en, in-us, ins .scheduler-is))
 
     add-new : ltb 0 (argumentsCode ws (length st) time (m .lifetime) (length bs)) ≡ false
-        → Does call ws st (addNew ws st time m bs p .answer) (addNew ws st time m bs p .words) (addNew ws st time m bs p .store)
-    unfolding addNew
+        → Does call ws st (addTo ws st time m bs (place.New p) .answer) (addTo ws st time m bs (place.New p) .words) (addTo ws st time m bs (place.New p) .store)
+    unfolding addTo
     add-new past =
         placed-link fresh (appended us st time m bs (totalsAt ws .known) fresh) past
         (too-many-new ws st id (g .shape) missing ∙ lt-leb 256 (totalsAt ws .known) few)
         (λ k. broken-none ws st (g .shape) id fresh bs [] (k .place-left) (k .room-left) (total-fits (k .few-bytes)) (omega (arith, k .few-bytes)) (record { linked = refl; last-is = refl })
-        (link.free (omega (arith, rows-few ws st (g .shape) listed-all))))
+        (link.free (omega (arith, rows-few ws st (g .shape) listed-all))) (λ e. idle-new))
         (λ k. let j = joins-new k in (j .shape, j .store, j .options ∙ ins .options-is, model-new _ _ j))
 
   -- ---- the whole call

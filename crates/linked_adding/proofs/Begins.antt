@@ -2,6 +2,7 @@
 use mathlib.Core.Path.{_≡_, refl, sym, _∙_, subst}
 use mathlib.Core.Bool.{Bool, true, false, not, _&&_}
 use mathlib.Core.List.{List, [], _∷_, _++_}
+use mathlib.Core.Option.{none}
 use Prim.Native.Nat.{ℕ, zero, suc, _≤_, _<_}
 use native.Mathlib.Omega.{arith}
 use borrow.Author.Tests.{lt-ltb, le-ltb, ne-eqb}
@@ -13,13 +14,15 @@ use Rattle.queue_words.specs.declared.streams.OutgoingStream.{OutgoingStream}
 use Rattle.queue_model.specs.Logic.{if_then_else_}
 use Rattle.queue_model.specs.Types.{Stream, Scheduler}
 use Rattle.queue_model.specs.Types as plain
+use Rattle.queue_model.specs.Scheduler.{find-active}
 use Rattle.queue_model.specs.Streams.{put-stream, some-items, has-items, head-size, weight-of, reschedule}
 use Rattle.queue_model.specs.Add.{starts-waiting}
 use Rattle.queue_model.proofs.Scheduler.{reschedule-of}
 use Rattle.payload_store.proofs.Cases.{by-lt}
 use Rattle.stream_scheduler.specs.Link.{modelScheduler}
 use Rattle.stream_scheduler.specs.Rows.{weightOf}
-use Rattle.stream_scheduler.specs.Words.{setBytesRemaining}
+use Rattle.stream_scheduler.specs.Words.{beginWaiting, setBytesRemaining}
+use Rattle.stream_scheduler.proofs.Begins.{begin-is-set}
 use Rattle.queue_streams.specs.Waiting.{parametersFor}
 use Rattle.queue_state.specs.Chains.{Linked, each}
 use Rattle.queue_state.specs.Model.{nextOf, itemIn, pauseOf, streamOf, streamsIn}
@@ -91,20 +94,20 @@ pub record Begun (us ut : List ℕ) (vs : List ℕ) (sc : Scheduler) : Type 0 wh
 
 -- from the words us, in which the stream s′ has the new message, of n bytes; o is its row before
 pub begun : (us ut : List ℕ) (g : Shape us ut) (o : OutgoingStream) (s′ : Stream) (n : ℕ) → AllKnown us ut → KnownTo (streamsIn us ut) (s′ .id) → o .priority ≡ s′ .priority → s′ .priority < 65536
-    → (starts o ≡ true → head-size (s′ .items) ≡ n)
+    → 1 ≤ n → (starts o ≡ true → find-active (s′ .id) ((modelScheduler us) .active) ≡ none) → (starts o ≡ true → head-size (s′ .items) ≡ n)
     → Begun us ut (started us (s′ .id) o n) (if starts o then reschedule (totalsAt us .interleaving) s′ (modelScheduler us) else modelScheduler us)
 unfolding started
-begun us ut g o s′ n a k ep hp hs = go (starts o) refl
+begun us ut g o s′ n a k ep hp some idle hs = go (starts o) refl
   where
     go : (b : Bool) → starts o ≡ b
-        → Begun us ut (pick b (setBytesRemaining us (s′ .id) n (parametersFor (totalsAt us .interleaving) (o .priority)) .next) us) (if b then reschedule (totalsAt us .interleaving) s′ (modelScheduler us) else modelScheduler us)
+        → Begun us ut (pick b (beginWaiting us (s′ .id) n (parametersFor (totalsAt us .interleaving) (o .priority)) .next) us) (if b then reschedule (totalsAt us .interleaving) s′ (modelScheduler us) else modelScheduler us)
     go false e = record { shape = g; options = refl; totals = refl; streams = refl; scheduler = refl }
     go true e =
         let r = set-known us ut g a (s′ .id) k n (totalsAt us .interleaving) (s′ .priority) hp in
         let c : modelScheduler (setBytesRemaining us (s′ .id) n (parametersFor (totalsAt us .interleaving) (s′ .priority)) .next) ≡ reschedule (totalsAt us .interleaving) s′ (modelScheduler us) =
         r .scheduler
         ∙ rw (weight-is (totalsAt us .interleaving) s′, ← hs e) (sym (reschedule-of (totalsAt us .interleaving) s′ (modelScheduler us))) in
-        rw ep (record {
+        rw (ep, begin-is-set us (g .schedules) (s′ .id) (idle e) n (parametersFor (totalsAt us .interleaving) (s′ .priority)) some) (record {
           shape = r .unmoved .shape;
           options = r .untouched .same-options;
           totals = r .untouched .same-totals;

@@ -9,14 +9,16 @@ use Rattle.queue_words.specs.Active.{activeAt}
 use Rattle.queue_words.specs.Header.{optionsAt, totalsAt, putTotals, schedulerAt, FitsTotals}
 use Rattle.queue_words.specs.Items.{itemAt, putNext, withNext}
 use Rattle.queue_words.specs.Known.{knownAt}
-use Rattle.queue_words.specs.Streams.{streamAt, putStream, FitsStream}
+use Rattle.queue_words.specs.Streams.{streamAt, putChain, withChain}
 use Rattle.queue_words.specs.declared.header.Totals.{Totals}
 use Rattle.queue_words.specs.declared.items.Item.{Item}
 use Rattle.queue_words.specs.declared.streams.OutgoingStream.{OutgoingStream}
 use Rattle.queue_words.proofs.Laws
+use Rattle.queue_words.proofs.ChainLaws as chain
 use Rattle.payload_store.specs.Words.{placeOf, sizeOf}
 use Rattle.queue_state.specs.Model.{nextOf, itemOf}
 use Rattle.queue_state.proofs.Splits.{by-index}
+use Rattle.message_chains.specs.Amounts.{sum}
 use Rattle.queue_messages.specs.Add.{withLast, linkedLast}
 
 -- The place behind the place l is p, if l is a place; nothing else is changed.
@@ -71,7 +73,7 @@ turned-next ws l p len h = record {
     own : itemAt (putNext ws l p) l ≡ withNext (itemAt ws l) p
     own = Laws.item-put-next ws l p len h
 
--- Then the stream's row and the totals stored.
+-- Then the stream's amount and its chain's ends, and the totals stored.
 pub record Hung (ws us : List ℕ) (row l p : ℕ) (s : OutgoingStream) (t : Totals) : Type 0 where
   pub long : length us ≡ length ws
   pub options : optionsAt us ≡ optionsAt ws
@@ -91,37 +93,37 @@ pub record Hung (ws us : List ℕ) (row l p : ℕ) (s : OutgoingStream) (t : Tot
 abbrev pub FitsAfter : (Totals → Totals) → Type 0
 FitsAfter F = (t : Totals) → FitsTotals t → FitsTotals (F t)
 
-module _ (F : Totals → Totals) (after-fits : FitsAfter F) (ws vs : List ℕ) (row l p : ℕ) (s : OutgoingStream) (len : length ws ≡ 20768) (hr : row < 256) (fits : FitsStream s) (v : Turned ws vs l p) where
+module _ (F : Totals → Totals) (after-fits : FitsAfter F) (ws vs : List ℕ) (row l p amount first last : ℕ) (len : length ws ≡ 20768) (hr : row < 256) (v : Turned ws vs l p) where
   abbrev rs : List ℕ
-  rs = putStream vs row s
+  rs = putChain vs row amount first last
 
   abbrev us : List ℕ
-  us = putTotals (putStream vs row s) (F (totalsAt (putStream vs row s)))
+  us = putTotals (putChain vs row amount first last) (F (totalsAt (putChain vs row amount first last)))
 
   long-v : length vs ≡ 20768
   long-v = v .long ∙ len
 
   long-r : length rs ≡ 20768
-  long-r = Laws.whole-put-stream vs row s ∙ long-v
+  long-r = chain.whole-put-chain vs row amount first last ∙ long-v
 
   totals-r : totalsAt rs ≡ totalsAt ws
-  totals-r = Laws.totals-put-stream vs row s ∙ v .totals
+  totals-r = chain.totals-put-chain vs row amount first last ∙ v .totals
 
   item-u : (x : ℕ) → itemAt us x ≡ itemAt vs x
-  item-u x = Laws.item-put-totals rs (F (totalsAt rs)) x ∙ Laws.item-put-stream vs row s x hr
+  item-u x = Laws.item-put-totals rs (F (totalsAt rs)) x ∙ chain.item-put-chain vs row amount first last x hr
 
-  hung-row : Hung ws us row l p s (F (totalsAt ws))
+  hung-row : Hung ws us row l p (withChain (streamAt ws row) amount first last) (F (totalsAt ws))
   hung-row =
       let t : Totals = F (totalsAt rs) in
       record {
-        long = Laws.whole-put-totals rs t ∙ Laws.whole-put-stream vs row s ∙ v .long;
-        options = Laws.options-put-totals rs t ∙ Laws.options-put-stream vs row s ∙ v .options;
+        long = Laws.whole-put-totals rs t ∙ chain.whole-put-chain vs row amount first last ∙ v .long;
+        options = Laws.options-put-totals rs t ∙ chain.options-put-chain vs row amount first last ∙ v .options;
         totals = Laws.totals-at-put rs t long-r (after-fits (totalsAt rs) (Laws.totals-at-fits rs)) ∙ ap F totals-r;
-        scheduler = Laws.scheduler-put-totals rs t ∙ Laws.scheduler-put-stream vs row s ∙ v .scheduler;
-        active = λ j. Laws.active-put-totals rs t j ∙ Laws.active-put-stream vs row s j hr ∙ v .active j;
-        known = λ j b. Laws.known-put-totals rs t j ∙ Laws.known-put-stream vs row s j b ∙ v .known j b;
-        own-row = Laws.stream-put-totals rs t row ∙ Laws.stream-at-put vs row s long-v hr fits;
-        other-rows = λ r b ne. Laws.stream-put-totals rs t r ∙ Laws.stream-at-put-other vs row s r ne ∙ v .streams r b;
+        scheduler = Laws.scheduler-put-totals rs t ∙ chain.scheduler-put-chain vs row amount first last ∙ v .scheduler;
+        active = λ j. Laws.active-put-totals rs t j ∙ chain.active-put-chain vs row amount first last j hr ∙ v .active j;
+        known = λ j b. Laws.known-put-totals rs t j ∙ chain.known-put-chain vs row amount first last j b ∙ v .known j b;
+        own-row = Laws.stream-put-totals rs t row ∙ chain.stream-put-chain vs row amount first last long-v hr ∙ ap (λ (s : OutgoingStream). withChain s amount first last) (v .streams row hr);
+        other-rows = λ r b ne. Laws.stream-put-totals rs t r ∙ chain.stream-put-chain-other vs row amount first last r ne ∙ v .streams r b;
         next-turned = λ b. ap (λ (m : Item). m .next) (item-u l) ∙ v .next-turned b;
         next-kept = λ x k. ap (λ (m : Item). m .next) (item-u x) ∙ v .next-kept x k;
         place-kept = λ x. ap (λ (m : Item). m .place) (item-u x) ∙ v .place-kept x;
@@ -129,19 +131,20 @@ module _ (F : Totals → Totals) (after-fits : FitsAfter F) (ws vs : List ℕ) (
         item-kept = λ x bs. ap (λ (m : Item). itemOf m bs) (item-u x) ∙ v .item-kept x bs;
       }
 
--- A stream without messages, and one with.
-pub hung-first : (F : Totals → Totals) → FitsAfter F → (ws : List ℕ) (row p n : ℕ) (s : OutgoingStream) → length ws ≡ 20768 → row < 256 → FitsStream s → s .first ≡ 1024 → s .last ≡ 1024
+-- A stream without messages, and one with; s is its row.
+pub hung-first : (F : Totals → Totals) → FitsAfter F → (ws : List ℕ) (row p n : ℕ) (s : OutgoingStream) → length ws ≡ 20768 → row < 256 → streamAt ws row ≡ s → s .first ≡ 1024 → s .last ≡ 1024
     → Hung ws (putTotals (linkedLast ws row s p n) (F (totalsAt (linkedLast ws row s p n)))) row (s .last) p (withLast s p p n) (F (totalsAt ws))
 unfolding linkedLast
-hung-first F after-fits ws row p n s len hr f e el =
+hung-first F after-fits ws row p n s len hr own e el =
     rw (lt-ltb 1023 (s .first) (omega arith))
-    (hung-row F after-fits ws ws row (s .last) p (withLast s p p n) len hr (record { priority-fits = f .priority-fits; pause-state-fits = f .pause-state-fits; ssn-fits = f .ssn-fits; unordered-mid-fits = f .unordered-mid-fits; ordered-mid-fits = f .ordered-mid-fits })
-    (turned-none ws (s .last) p (omega arith)))
+    (subst (λ (o : OutgoingStream). Hung ws (putTotals (putChain ws row (sum (s .«buffered_amount») n) p p) (F (totalsAt (putChain ws row (sum (s .«buffered_amount») n) p p)))) row (s .last) p (withChain o (sum (s .«buffered_amount») n) p p) (F (totalsAt ws))) own
+    (hung-row F after-fits ws ws row (s .last) p (sum (s .«buffered_amount») n) p p len hr (turned-none ws (s .last) p (omega arith))))
 
-pub hung-last : (F : Totals → Totals) → FitsAfter F → (ws : List ℕ) (row p n : ℕ) (s : OutgoingStream) → length ws ≡ 20768 → row < 256 → FitsStream s → s .first < 1024 → s .last < 1024
+pub hung-last : (F : Totals → Totals) → FitsAfter F → (ws : List ℕ) (row p n : ℕ) (s : OutgoingStream) → length ws ≡ 20768 → row < 256 → streamAt ws row ≡ s → s .first < 1024 → s .last < 1024
     → Hung ws (putTotals (linkedLast ws row s p n) (F (totalsAt (linkedLast ws row s p n)))) row (s .last) p (withLast s (s .first) p n) (F (totalsAt ws))
 unfolding linkedLast
-hung-last F after-fits ws row p n s len hr f a b =
+hung-last F after-fits ws row p n s len hr own a b =
+    let us : List ℕ = putChain (putNext ws (s .last) p) row (sum (s .«buffered_amount») n) (s .first) p in
     rw (le-ltb 1023 (s .first) (omega arith), le-ltb 1023 (s .last) (omega arith))
-    (hung-row F after-fits ws (putNext ws (s .last) p) row (s .last) p (withLast s (s .first) p n) len hr (record { priority-fits = f .priority-fits; pause-state-fits = f .pause-state-fits; ssn-fits = f .ssn-fits; unordered-mid-fits = f .unordered-mid-fits; ordered-mid-fits = f .ordered-mid-fits })
-    (turned-next ws (s .last) p len b))
+    (subst (λ (o : OutgoingStream). Hung ws (putTotals us (F (totalsAt us))) row (s .last) p (withChain o (sum (s .«buffered_amount») n) (s .first) p) (F (totalsAt ws))) own
+    (hung-row F after-fits ws (putNext ws (s .last) p) row (s .last) p (sum (s .«buffered_amount») n) (s .first) p len hr (turned-next ws (s .last) p len b)))

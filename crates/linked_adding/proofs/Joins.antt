@@ -22,6 +22,7 @@ use Rattle.queue_words.proofs.Laws
 use Rattle.queue_model.specs.Logic.{if_then_else_}
 use Rattle.queue_model.specs.Types.{Stream, Scheduler}
 use Rattle.queue_model.specs.Types as plain
+use Rattle.queue_model.specs.Scheduler.{find-active}
 use Rattle.queue_model.specs.Streams.{put-stream, has-items, reschedule, with-message}
 use Rattle.queue_model.specs.Add.{starts-waiting, new-item}
 use Rattle.queue_model.specs.Add as plain-add
@@ -86,15 +87,15 @@ fits-message free n t f = record {
 }
 
 -- the place hung where the chain ends
-pub hangs : (F : Totals → Totals) → FitsAfter F → (ws vs : List ℕ) (row p n : ℕ) (ps : List ℕ) → length vs ≡ 20768 → row < 256 → Row ws (streamAt ws row) ps
+pub hangs : (F : Totals → Totals) → FitsAfter F → (ws vs : List ℕ) (row p n : ℕ) (ps : List ℕ) → length vs ≡ 20768 → row < 256 → streamAt vs row ≡ streamAt ws row → Row ws (streamAt ws row) ps
     → (first : ℕ) × (Hung vs (putTotals (linkedLast vs row (streamAt ws row) p n) (F (totalsAt (linkedLast vs row (streamAt ws row) p n)))) row (streamAt ws row .last) p (withLast (streamAt ws row) first p n) (F (totalsAt vs))) × First ps first p (streamAt ws row .first)
-hangs F a ws vs row p n [] l h r = (p, hung-first F a vs row p n (streamAt ws row) l h (Laws.stream-at-fits ws row) (r .linked) (r .last-is), refl)
-hangs F a ws vs row p n (x ∷ xs) l h r =
+hangs F a ws vs row p n [] l h own r = (p, hung-first F a vs row p n (streamAt ws row) l h own (r .linked) (r .last-is), refl)
+hangs F a ws vs row p n (x ∷ xs) l h own r =
     let s : OutgoingStream = streamAt ws row in
     let k : Linked (nextOf ws) (s .first) (x ∷ xs) = r .linked in
     let b : s .first < 1024 = omega (arith, k .0, k .1) in
     let c : s .last < 1024 = omega (arith, r .last-is, last-lt (nextOf ws) (s .first) x xs k) in
-    (s .first, hung-last F a vs row p n s l h (Laws.stream-at-fits ws row) b c, refl)
+    (s .first, hung-last F a vs row p n s l h own b c, refl)
 
 -- the stream with one message more, by its row
 pub longer : (id first p n : ℕ) (s : OutgoingStream) (is : List plain.Item) (j : plain.Item) → s .«buffered_amount» + n ≤ 18446744073709551615 → plain.remaining j ≡ n
@@ -112,6 +113,7 @@ model-starts il s s′ sc b e = ap (λ (c : Bool). if c then reschedule il s′ 
 module _ (ws st : List ℕ) (g : Shape ws st) (known : AllKnown ws st) (i : ℕ) (hk : i < totalsAt ws .known) (time : ℕ) (m : Message) (bs : List ℕ)
     (id-is : idAt ws i ≡ m .«stream_id» .0) (fits : FitsItem (newItem time (totalsAt ws .«next_message_id») m)) (some-bytes : 1 ≤ length bs) (room : usedOf ws + length bs ≤ length st)
     (total-fits : totalsAt ws .total + length bs ≤ 18446744073709551615) (amount-fits : streamAt ws (rowAt ws i) .«buffered_amount» + length bs ≤ 18446744073709551615)
+    (idle : starts (streamAt ws (rowAt ws i)) ≡ true → find-active (m .«stream_id» .0) ((modelScheduler ws) .active) ≡ none)
     (p : ℕ) (fr : List ℕ) (efr : g .fr ≡ p ∷ fr) (hp : p < 1024) (behind : Linked (nextOf ws) (nextOf ws p) fr) where
   abbrev row : ℕ
   row = rowAt ws i
@@ -143,7 +145,7 @@ module _ (ws st : List ℕ) (g : Shape ws st) (known : AllKnown ws st) (i : ℕ)
 
   hung : (first : ℕ) × (Hung vs us row (s .last) p (withLast s first p (length bs)) (withMessage (totalsAt vs) (nextOf ws p) (length bs))) × First (g .q i) first p (s .first)
   unfolding counted
-  hung = hangs (λ t. withMessage t (nextOf ws p) (length bs)) (fits-message (nextOf ws p) (length bs)) ws vs row p (length bs) (g .q i) (put .long ∙ g .long) (row-below ws st g i hk) (g .rows i hk)
+  hung = hangs (λ t. withMessage t (nextOf ws p) (length bs)) (fits-message (nextOf ws p) (length bs)) ws vs row p (length bs) (g .q i) (put .long ∙ g .long) (row-below ws st g i hk) (put .streams row (row-below ws st g i hk)) (g .rows i hk)
 
   ends : new .next ≡ 1024
   unfolding newItem
@@ -208,6 +210,8 @@ module _ (ws st : List ℕ) (g : Shape ws st) (known : AllKnown ws st) (i : ℕ)
   begins =
       let k = put-known ws st us vt more streams-us scheduler-us known in
       begun us vt shape-us s more (length bs) (k .0) (k .1) more-priority (rw (← more-priority) (Laws.stream-at-fits ws (rowAt ws i) .priority-fits))
+      some-bytes
+      (λ e. ap (λ (sc : Scheduler). find-active (more .id) (sc .active)) scheduler-us ∙ ap (λ k. find-active k ((modelScheduler ws) .active)) more-id ∙ idle e)
       (λ e. size-one (old .items) (new-item time (totalsAt ws .«next_message_id» .0) (messageOf m bs)) (none-before e) ∙ remaining-new time (totalsAt ws .«next_message_id» .0) (messageOf m bs))
 
   pub joined-at : Joined ws st i time m bs (started us (m .«stream_id» .0) s (length bs)) vt
@@ -227,9 +231,10 @@ module _ (ws st : List ℕ) (g : Shape ws st) (known : AllKnown ws st) (i : ℕ)
 pub joined : (ws st : List ℕ) (g : Shape ws st) → AllKnown ws st → (i : ℕ) → i < totalsAt ws .known → (time : ℕ) (m : Message) (bs : List ℕ)
     → idAt ws i ≡ m .«stream_id» .0 → FitsItem (newItem time (totalsAt ws .«next_message_id») m) → 1 ≤ length bs → usedOf ws + length bs ≤ length st
     → totalsAt ws .total + length bs ≤ 18446744073709551615 → streamAt ws (rowAt ws i) .«buffered_amount» + length bs ≤ 18446744073709551615 → totalsAt ws .waiting < 1024
+    → (starts (streamAt ws (rowAt ws i)) ≡ true → find-active (m .«stream_id» .0) ((modelScheduler ws) .active) ≡ none)
     → Joined ws st i time m bs (appended ws st time m bs (rowAt ws i) (streamAt ws (rowAt ws i)) .words) (appended ws st time m bs (rowAt ws i) (streamAt ws (rowAt ws i)) .store)
 unfolding appended appendedAt
-joined ws st g known i hk time m bs id-is fits some-bytes room a b w =
+joined ws st g known i hk time m bs id-is fits some-bytes room a b w idle =
     let f = free-place ws st g w in
     rw (le-ltb 1023 (totalsAt ws .free) (omega (arith, f .in-table)))
-    (joined-at ws st g known i hk time m bs id-is fits some-bytes room a b (totalsAt ws .free) (f .others) (f .list-is) (f .in-table) (f .behind))
+    (joined-at ws st g known i hk time m bs id-is fits some-bytes room a b idle (totalsAt ws .free) (f .others) (f .list-is) (f .in-table) (f .behind))

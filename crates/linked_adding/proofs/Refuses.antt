@@ -46,16 +46,16 @@ pub arguments-are : (ws : List ℕ) (len time : ℕ) (l : Lifetime) (n : ℕ) �
 unfolding argumentsCode
 arguments-are ws len time l n e = rw (eq-eqb (optionsAt ws .«store_length») len (sym e), zero-below n)
 
-module _ (ws : List ℕ) (len id : ℕ) (s : OutgoingStream) (n : ℕ) where
-  pub message-seven : 1023 < totalsAt ws .waiting → messageCode ws len id s n ≡ 7
+module _ (ws : List ℕ) (len : ℕ) (s : OutgoingStream) (n : ℕ) where
+  pub message-seven : 1023 < totalsAt ws .waiting → messageCode ws len s n ≡ 7
   unfolding messageCode fullCode
   message-seven h = rw (lt-ltb 1023 (totalsAt ws .waiting) h)
 
-  pub message-eight : totalsAt ws .waiting ≤ 1023 → len - totalsAt ws .used < n → messageCode ws len id s n ≡ 8
+  pub message-eight : totalsAt ws .waiting ≤ 1023 → len - totalsAt ws .used < n → messageCode ws len s n ≡ 8
   unfolding messageCode fullCode
   message-eight h k = rw (le-ltb 1023 (totalsAt ws .waiting) h, lt-ltb (len - totalsAt ws .used) n k)
 
-  pub message-none : totalsAt ws .waiting ≤ 1023 → n ≤ len - totalsAt ws .used → brokenCode ws len id s n ≡ 0 → messageCode ws len id s n ≡ 0
+  pub message-none : totalsAt ws .waiting ≤ 1023 → n ≤ len - totalsAt ws .used → brokenCode ws len s n ≡ 0 → messageCode ws len s n ≡ 0
   unfolding messageCode fullCode
   message-none h k b = rw (le-ltb 1023 (totalsAt ws .waiting) h, le-ltb (len - totalsAt ws .used) n k) b
 

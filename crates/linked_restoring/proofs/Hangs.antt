@@ -71,7 +71,7 @@ module _ (ws st : List ℕ) (g : Shape ws st) (i : ℕ) (hk : i < totalsAt ws .k
 
   chained : (first : ℕ) × (Hung vs us row (s .last) p (withLast s first p n) (withRestored (totalsAt vs) (nextOf ws p) n)) × First (g .q i) first p (s .first)
   unfolding countedRestored
-  chained = hangs (λ t. withRestored t (nextOf ws p) n) (fits-restored (nextOf ws p) n) ws vs row p n (g .q i) (put .long ∙ g .long) (row-below ws st g i hk) (g .rows i hk)
+  chained = hangs (λ t. withRestored t (nextOf ws p) n) (fits-restored (nextOf ws p) n) ws vs row p n (g .q i) (put .long ∙ g .long) (row-below ws st g i hk) (put .streams row (row-below ws st g i hk)) (g .rows i hk)
 
   counts : Counted (totalsAt vs) (nextOf ws p) (withRestored (totalsAt vs) (nextOf ws p) n)
   counts = record { known = refl; waiting = refl; free-is = refl; used = refl; gaps = refl }

@@ -14,7 +14,11 @@ use Rattle.queue_words.specs.Header.{optionsAt}
 use Rattle.queue_words.specs.declared.known.Found.{Found}
 use Rattle.queue_words.specs.declared.known.Found.the-variants.{At}
 use Rattle.queue_words.proofs.Finds.{find-hit}
-use Rattle.queue_messages.specs.Add.{argumentsCode}
+use Rattle.queue_streams.specs.Known.{lookUp}
+use Rattle.queue_streams.specs.declared.known.Place.{Place}
+use Rattle.queue_streams.specs.declared.known.Place.the-variants as place
+use Rattle.queue_streams.proofs.Exits.{look-row, look-new}
+use Rattle.queue_messages.specs.Add.{argumentsCode, HasPlace, rowFor}
 use Rattle.queue_messages.specs.Create.{freed}
 use Rattle.queue_messages.specs.Message.{nanoseconds}
 use Rattle.queue_messages.specs.declared.message.Lifetime.{Lifetime}
@@ -53,3 +57,14 @@ arguments-fit ws len time l n code e h =
     allowed (eqb (optionsAt ws .«store_length») len) (ltb 4611686018427387903 time) (ltb 4611686018427387903 (nanoseconds l)) (pick (eqb n 0) 5 (pick (ltb 262144 n) 5 0)) (subst (λ x. x ≤ 0) e h)
     in
     (omega (arith, ltb-false 4611686018427387903 time (k .0)), omega (arith, ltb-false 4611686018427387903 (nanoseconds l) (k .1)))
+
+-- a place that is looked up lies inside its table, and so does the row there
+pub has-place : (ws : List ℕ) (id : ℕ) (p : Place) → p ≡ lookUp ws id → HasPlace ws p
+has-place ws id (place.Row row) e = look-row ws id row (sym e)
+has-place ws id (place.New position) e = look-new ws id position (sym e)
+has-place ws id (place.Refused code) e = tt
+
+pub row-fits : (ws : List ℕ) (p : Place) → HasPlace ws p → rowFor ws p < 256
+row-fits ws (place.Row row) h = h
+row-fits ws (place.New position) h = h .1
+row-fits ws (place.Refused code) h = omega arith

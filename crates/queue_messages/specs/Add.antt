@@ -1,5 +1,5 @@
 -- Adding a message. Assumes nothing.
-use Prim.Native.Nat.{ℕ, _+_, _-_}
+use Prim.Native.Nat.{ℕ, _-_, _≤_, _<_}
 use mathlib.Core.Bool.{Bool, true, false}
 use mathlib.Core.List.{List}
 use lib.Dec.{ltb, eqb}
@@ -8,11 +8,12 @@ use Rattle.types.specs.Wrap.{wrapping-add}
 use Rattle.queue_words.specs.Flags.{pick}
 use Rattle.queue_words.specs.Header.{optionsAt, totalsAt, putTotals, schedulerAt}
 use Rattle.queue_words.specs.Items.{itemAt, putItem, putNext}
-use Rattle.queue_words.specs.Streams.{streamAt, putStream}
+use Rattle.queue_words.specs.Known.{knownCount}
+use Rattle.queue_words.specs.Streams.{streamAt, putChain, withChain}
 use Rattle.queue_words.specs.declared.header.Totals.{Totals}
 use Rattle.queue_words.specs.declared.streams.OutgoingStream.{OutgoingStream}
 use Rattle.payload_store.specs.Putting.{putCode, putPayload}
-use Rattle.stream_scheduler.specs.Words.{waitsIn, setBytesRemaining}
+use Rattle.stream_scheduler.specs.Words.{beginWaiting}
 use Rattle.queue_streams.specs.Known.{newStream, lookUp, inserted}
 use Rattle.queue_streams.specs.Waiting.{parametersFor}
 use Rattle.queue_streams.specs.declared.answers.Call.{Call}
@@ -40,9 +41,13 @@ argumentsCode ws len now life n =
 unfoldable pub fullCode : List ℕ → ℕ → ℕ → ℕ
 fullCode ws len n = pick (ltb 1023 (totalsAt ws .waiting)) 7 (pick (ltb (len - totalsAt ws .used) n) 8 0)
 
--- whether the scheduler can list a stream
-unfoldable pub hasRoom : List ℕ → ℕ → Bool
-hasRoom ws id = pick (ltb (schedulerAt ws .active) 256) true (pick (ltb 256 (schedulerAt ws .active)) false (waitsIn ws id))
+-- "messages added to a paused or resetting stream do not start it"; one that has messages waits already.
+unfoldable pub starts : OutgoingStream → Bool
+starts s = pick (ltb 1 (s .«pause_state»)) false (ltb 1023 (s .first))
+
+-- whether the scheduler has a row for the stream, where the message starts it; one that is not started needs none
+unfoldable pub hasRoom : List ℕ → OutgoingStream → Bool
+hasRoom ws s = pick (starts s) (ltb (schedulerAt ws .active) 256) true
 
 -- 16: "a place kept in the state lies outside its table": the first free place, the one behind it, the ends of the stream's chain
 unfoldable pub placesCode : List ℕ → OutgoingStream → ℕ → ℕ
@@ -54,42 +59,39 @@ placesCode ws s free =
     (pick (ltb 1023 (s .last)) 16 0))))
 
 -- 16: "or pass 2^64 - 1, or a place kept in the state lies outside its table".
-unfoldable pub brokenCode : List ℕ → ℕ → ℕ → OutgoingStream → ℕ → ℕ
-brokenCode ws len id s n =
+unfoldable pub brokenCode : List ℕ → ℕ → OutgoingStream → ℕ → ℕ
+brokenCode ws len s n =
     pick (ltb (18446744073709551615 - totalsAt ws .total) n) 16
     (pick (ltb (18446744073709551615 - s .«buffered_amount») n) 16
     (pick (ltb 0 (placesCode ws s (totalsAt ws .free))) 16
-    (pick (ltb 1 (putCode ws len (totalsAt ws .free) n)) 16
-    (pick (hasRoom ws id) 0 16))))
+    (pick (hasRoom ws s) (pick (ltb 1 (putCode ws len (totalsAt ws .free) n)) 16 0) 16)))
 
-unfoldable pub messageCode : List ℕ → ℕ → ℕ → OutgoingStream → ℕ → ℕ
-messageCode ws len id s n = pick (ltb 0 (fullCode ws len n)) (fullCode ws len n) (brokenCode ws len id s n)
+unfoldable pub messageCode : List ℕ → ℕ → OutgoingStream → ℕ → ℕ
+messageCode ws len s n = pick (ltb 0 (fullCode ws len n)) (fullCode ws len n) (brokenCode ws len s n)
 
 -- a stream that cannot be found: 6 comes before 7 and 8, 16 after them
 unfoldable pub lostCode : List ℕ → ℕ → ℕ → ℕ → ℕ
 lostCode ws len n code = pick (eqb code 6) 6 (pick (ltb 0 (fullCode ws len n)) (fullCode ws len n) code)
 
+-- the refusal of a stream that has no place, 0 for none
+abbrev pub refusedPlace : List ℕ → ℕ → ℕ → Place → ℕ
+refusedPlace ws len n (place.Row row) = 0
+refusedPlace ws len n (place.New position) = 0
+refusedPlace ws len n (place.Refused code) = lostCode ws len n code
+
 -- ------------------------------------------------------------------ the message hung to its chain
 
+-- a stream with a place more at its chain's end, n bytes more
 abbrev pub withLast : OutgoingStream → ℕ → ℕ → ℕ → OutgoingStream
-withLast s first last n = record {
-  priority = s .priority;
-  «pause_state» = s .«pause_state»;
-  «next_ssn» = s .«next_ssn»;
-  «next_unordered_mid» = s .«next_unordered_mid»;
-  «next_ordered_mid» = s .«next_ordered_mid»;
-  «buffered_amount» = sum (s .«buffered_amount») n;
-  «low_threshold» = s .«low_threshold»;
-  first = first;
-  last = last;
-}
+withLast s first last n = withChain s (sum (s .«buffered_amount») n) first last
 
 -- a place at the end of a stream's chain, n bytes more; a last place outside its table, which the test has ruled out, is passed over
 unfoldable pub linkedLast : List ℕ → ℕ → OutgoingStream → ℕ → ℕ → List ℕ
 linkedLast ws row s p n =
-    pick (ltb 1023 (s .first)) (putStream ws row (withLast s p p n))
-    (pick (ltb 1023 (s .last)) (putStream ws row (withLast s (s .first) p n))
-    (putStream (putNext ws (s .last) p) row (withLast s (s .first) p n)))
+    let amount = sum (s .«buffered_amount») n in
+    pick (ltb 1023 (s .first)) (putChain ws row amount p p)
+    (pick (ltb 1023 (s .last)) (putChain ws row amount (s .first) p)
+    (putChain (putNext ws (s .last) p) row amount (s .first) p))
 
 -- "Message ids have 32 bits, start at 0, grow by one with each accepted message and wrap."
 abbrev pub withMessage : Totals → ℕ → ℕ → Totals
@@ -107,13 +109,9 @@ withMessage t free n = record {
 unfoldable pub counted : List ℕ → ℕ → ℕ → List ℕ
 counted ws free n = putTotals ws (withMessage (totalsAt ws) free n)
 
--- "messages added to a paused or resetting stream do not start it"; one that has messages waits already.
-unfoldable pub starts : OutgoingStream → Bool
-starts s = pick (ltb 1 (s .«pause_state»)) false (ltb 1023 (s .first))
-
 -- the scheduler after a message of n bytes for the stream s
 unfoldable pub started : List ℕ → ℕ → OutgoingStream → ℕ → List ℕ
-started ws id s n = pick (starts s) (setBytesRemaining ws id n (parametersFor (totalsAt ws .interleaving) (s .priority)) .next) ws
+started ws id s n = pick (starts s) (beginWaiting ws id n (parametersFor (totalsAt ws .interleaving) (s .priority)) .next) ws
 
 -- the words and the store
 pub record Stored : Type 0 where
@@ -144,24 +142,42 @@ pub record Added : Type 0 where
 abbrev pub added : Call → List ℕ → List ℕ → Added
 added a ws st = record { answer = a; words = ws; store = st }
 
-unfoldable pub addKnown : List ℕ → List ℕ → ℕ → Message → List ℕ → ℕ → Added
-addKnown ws st now m bs row =
-    let code = messageCode ws (length st) (m .«stream_id» .0) (streamAt ws row) (length bs) in
-    let next = appended ws st now m bs row (streamAt ws row) in
+-- Where the message goes: the stream's row as it is, or that of a stream that the message makes known; the row's number; and the stream
+-- made known. A place that is refused never gets there.
+abbrev pub streamFor : List ℕ → Place → OutgoingStream
+streamFor ws (place.Row row) = streamAt ws row
+streamFor ws (place.New position) = newStream (optionsAt ws)
+streamFor ws (place.Refused code) = newStream (optionsAt ws)
+
+abbrev pub rowFor : List ℕ → Place → ℕ
+rowFor ws (place.Row row) = row
+rowFor ws (place.New position) = totalsAt ws .known
+rowFor ws (place.Refused code) = 0
+
+abbrev pub madeKnown : List ℕ → ℕ → Place → List ℕ
+madeKnown ws id (place.Row row) = ws
+madeKnown ws id (place.New position) = inserted ws position id (newStream (optionsAt ws))
+madeKnown ws id (place.Refused code) = ws
+
+-- places inside their tables
+abbrev pub HasPlace : List ℕ → Place → Type 0
+HasPlace ws (place.Row row) = row < 256
+HasPlace ws (place.New position) = (position ≤ knownCount ws) × (knownCount ws < 256)
+HasPlace ws (place.Refused code) = Unit {0}
+
+-- a message for a stream that is known, or that it makes known
+unfoldable pub addTo : List ℕ → List ℕ → ℕ → Message → List ℕ → Place → Added
+addTo ws st now m bs place =
+    let s = streamFor ws place in
+    let code = messageCode ws (length st) s (length bs) in
+    let next = appended (madeKnown ws (m .«stream_id» .0) place) st now m bs (rowFor ws place) s in
     pick (ltb 0 code) (added (Refused code) ws st) (added (Accepted 0) (next .words) (next .store))
 
-unfoldable pub addNew : List ℕ → List ℕ → ℕ → Message → List ℕ → ℕ → Added
-addNew ws st now m bs position =
-    let s = newStream (optionsAt ws) in
-    let id = m .«stream_id» .0 in
-    let code = messageCode ws (length st) id s (length bs) in
-    let next = appended (inserted ws position id s) st now m bs (totalsAt ws .known) s in
-    pick (ltb 0 code) (added (Refused code) ws st) (added (Accepted 0) (next .words) (next .store))
-
+-- once the stream's place is looked up
 abbrev pub addIn : List ℕ → List ℕ → ℕ → Message → List ℕ → Place → Added
-addIn ws st now m bs (place.Row row) = addKnown ws st now m bs row
-addIn ws st now m bs (place.New position) = addNew ws st now m bs position
-addIn ws st now m bs (place.Refused code) = added (Refused (lostCode ws (length st) (length bs) code)) ws st
+addIn ws st now m bs place =
+    let code = refusedPlace ws (length st) (length bs) place in
+    pick (ltb 0 code) (added (Refused code) ws st) (addTo ws st now m bs place)
 
 -- Add a message to the words; the store is lent.
 unfoldable pub add : List ℕ → List ℕ → ℕ → Message → List ℕ → Added

@@ -2,10 +2,10 @@
 ghost use mathlib.Core.Path.{_≡_};
 ghost use Prim.Native.Nat.{_<_, _≤_};
 ghost use lib.ListN.{length};
-ghost use Rattle.queue_words.specs.Known.{knownCount};
 ghost use Rattle.queue_messages.specs.Message.{nanoseconds};
-ghost use Rattle.queue_messages.specs.Add.{argumentsCode, fullCode, hasRoom, placesCode, brokenCode, messageCode, lostCode};
-ghost use Rattle.queue_messages.specs.Add.{linkedLast, counted, starts, started, stored, appendedAt, appended, added, addKnown, addNew, add};
+ghost use Rattle.queue_messages.specs.Add.{argumentsCode, fullCode, starts, hasRoom, placesCode, brokenCode, messageCode, lostCode, refusedPlace};
+ghost use Rattle.queue_messages.specs.Add.{linkedLast, counted, started, stored, appendedAt, appended};
+ghost use Rattle.queue_messages.specs.Add.{HasPlace, streamFor, rowFor, madeKnown, added, addTo, add};
 use crate::message::Lifetime;
 use crate::message::Message;
 use crate::message::nanoseconds;
@@ -30,9 +30,8 @@ use queue_words::items::store_item;
 use queue_words::items::store_next;
 use queue_words::streams::OutgoingStream;
 use queue_words::streams::load_stream;
-use queue_words::streams::store_stream;
-use stream_scheduler::set_bytes_remaining;
-use stream_scheduler::waits;
+use queue_words::streams::store_chain;
+use stream_scheduler::begin_waiting;
 
 const MAX_TIME: u64 = 4611686018427387903;
 
@@ -77,18 +76,26 @@ fn full_code(queue: &[u64; QUEUE_WORDS], len: u64, n: u64) -> u8
     0
 }
 
-// Whether the scheduler can list the stream.
-fn has_room(queue: &[u64; QUEUE_WORDS], id: u16) -> bool
-    ensures { λ r. ⌜ r ≡ hasRoom (now (queue .entry)) id ⌝ }
+// "messages added to a paused or resetting stream do not start it".
+fn starts(s: OutgoingStream) -> bool
+    ensures { λ r. ⌜ r ≡ starts s ⌝ }
 {
-    let s = load_scheduler_state(queue);
-    if s.active < 256 {
-        return true;
-    }
-    if s.active > 256 {
+    if s.pause_state > 1 {
         return false;
     }
-    waits(queue, id)
+    s.first > 1023
+}
+
+// Whether the scheduler has a row for the stream, where the message starts it.
+fn has_room(queue: &[u64; QUEUE_WORDS], s: OutgoingStream) -> bool
+    ensures { λ r. ⌜ r ≡ hasRoom (now (queue .entry)) s ⌝ }
+{
+    let begins = starts(s);
+    if begins {
+        let c = load_scheduler_state(queue);
+        return c.active < 256;
+    }
+    true
 }
 
 // The places that the message's row and its chain need: 0, else 16.
@@ -115,8 +122,8 @@ fn places_code(queue: &[u64; QUEUE_WORDS], s: OutgoingStream, free: u64) -> u8
 }
 
 // 16 where an amount would pass 2^64 - 1 or a place lies outside its table, else 0.
-fn broken_code(queue: &[u64; QUEUE_WORDS], len: u64, id: u16, s: OutgoingStream, n: u64) -> u8
-    ensures { λ r. ⌜ r ≡ brokenCode (now (queue .entry)) len id s n ⌝ }
+fn broken_code(queue: &[u64; QUEUE_WORDS], len: u64, s: OutgoingStream, n: u64) -> u8
+    ensures { λ r. ⌜ r ≡ brokenCode (now (queue .entry)) len s n ⌝ }
 {
     let t = load_totals(queue);
     if n > u64::MAX - t.total {
@@ -129,26 +136,26 @@ fn broken_code(queue: &[u64; QUEUE_WORDS], len: u64, id: u16, s: OutgoingStream,
     if places > 0 {
         return 16;
     }
-    let put = put_code(queue, len, t.free as usize, n);
-    if put > 1 {
-        return 16;
-    }
-    let room = has_room(queue, id);
+    let room = has_room(queue, s);
     if room {
+        let put = put_code(queue, len, t.free as usize, n);
+        if put > 1 {
+            return 16;
+        }
         return 0;
     }
     16
 }
 
 // 7, 8 or 16, the first that applies, else 0.
-fn message_code(queue: &[u64; QUEUE_WORDS], len: u64, id: u16, s: OutgoingStream, n: u64) -> u8
-    ensures { λ r. ⌜ r ≡ messageCode (now (queue .entry)) len id s n ⌝ }
+fn message_code(queue: &[u64; QUEUE_WORDS], len: u64, s: OutgoingStream, n: u64) -> u8
+    ensures { λ r. ⌜ r ≡ messageCode (now (queue .entry)) len s n ⌝ }
 {
     let full = full_code(queue, len, n);
     if full > 0 {
         return full;
     }
-    broken_code(queue, len, id, s, n)
+    broken_code(queue, len, s, n)
 }
 
 // The refusal of a stream that cannot be found: 6 comes before 7 and 8, 16 after them.
@@ -165,35 +172,22 @@ fn lost_code(queue: &[u64; QUEUE_WORDS], len: u64, n: u64, code: u8) -> u8
     code
 }
 
-// "messages added to a paused or resetting stream do not start it".
-fn starts(s: OutgoingStream) -> bool
-    ensures { λ r. ⌜ r ≡ starts s ⌝ }
-{
-    if s.pause_state > 1 {
-        return false;
-    }
-    s.first > 1023
-}
-
 // Hangs a message's place to the end of a stream's chain.
 pub fn link_last(queue: &mut [u64; QUEUE_WORDS], row: usize, s: OutgoingStream, place: u64, n: u64)
     requires { ⌜ row < 256 ⌝ }
     ensures { λ _. ⌜ now (queue .exit) ≡ linkedLast (now (queue .entry)) row s place n ⌝ }
 {
-    let mut o = s;
-    o.buffered_amount = plus(s.buffered_amount, n);
-    o.last = place;
+    let amount = plus(s.buffered_amount, n);
     if s.first > 1023 {
-        o.first = place;
-        store_stream(queue, row, o);
+        store_chain(queue, row, amount, place, place);
         return;
     }
     if s.last > 1023 {
-        store_stream(queue, row, o);
+        store_chain(queue, row, amount, s.first, place);
         return;
     }
     store_next(queue, s.last as usize, place);
-    store_stream(queue, row, o);
+    store_chain(queue, row, amount, s.first, place);
 }
 
 // One message more in the totals; the first free place is taken.
@@ -217,7 +211,7 @@ fn start(queue: &mut [u64; QUEUE_WORDS], id: u16, s: OutgoingStream, n: u64)
     if begins {
         let t = load_totals(&*queue);
         let p = parameters_for(t.interleaving, s.priority);
-        set_bytes_remaining(queue, id, n, p);
+        begin_waiting(queue, id, n, p);
     }
 }
 
@@ -268,56 +262,87 @@ fn append(
     append_at(queue, store, time, m, payload, row, s, place, free);
 }
 
-// A message for a known stream.
-fn add_to_known(
+// The stream's row as it is, or that of a stream that the message makes known.
+fn stream_for(queue: &[u64; QUEUE_WORDS], place: Place) -> OutgoingStream
+    requires { ⌜ HasPlace (now queue) place ⌝ }
+    ensures { λ r. ⌜ r ≡ streamFor (now (queue .entry)) place ⌝ }
+{
+    match place {
+        Place::Row(row) => load_stream(queue, row),
+        Place::New(_) => {
+            let o = load_options(queue);
+            new_stream(o)
+        }
+        Place::Refused(_) => {
+            let o = load_options(queue);
+            new_stream(o)
+        }
+    }
+}
+
+// The number of that row.
+fn row_for(queue: &[u64; QUEUE_WORDS], place: Place) -> usize
+    requires { ⌜ HasPlace (now queue) place ⌝ }
+    ensures { λ r. ⌜ r ≡ rowFor (now (queue .entry)) place ⌝ }
+{
+    match place {
+        Place::Row(row) => row,
+        Place::New(_) => {
+            let t = load_totals(queue);
+            t.known as usize
+        }
+        Place::Refused(_) => 0,
+    }
+}
+
+// Makes the stream known, if it is not.
+fn make_known(queue: &mut [u64; QUEUE_WORDS], place: Place, id: u16)
+    requires { ⌜ HasPlace (now queue) place ⌝ }
+    ensures { λ _. ⌜ now (queue .exit) ≡ madeKnown (now (queue .entry)) id place ⌝ }
+{
+    match place {
+        Place::Row(_) => {}
+        Place::New(position) => {
+            let o = load_options(&*queue);
+            let s = new_stream(o);
+            insert_stream(queue, position, id, s);
+        }
+        Place::Refused(_) => {}
+    }
+}
+
+// A message for a stream that is known, or that it makes known.
+fn add_to(
     queue: &mut [u64; QUEUE_WORDS],
     store: &mut [u8],
     time: u64,
     m: Message,
     payload: &[u8],
-    row: usize,
+    place: Place,
 ) -> Call
-    requires { ⌜ (row < 256) × (time ≤ 4611686018427387903) × (nanoseconds (m .lifetime) ≤ 4611686018427387903) ⌝ }
-    ensures { λ r. ⌜ added r (now (queue .exit)) (now (store .exit)) ≡ addKnown (now (queue .entry)) (now (store .entry)) time m (now (payload .entry)) row ⌝ }
+    requires { ⌜ HasPlace (now queue) place × (time ≤ 4611686018427387903) × (nanoseconds (m .lifetime) ≤ 4611686018427387903) ⌝ }
+    ensures { λ r. ⌜ added r (now (queue .exit)) (now (store .exit)) ≡ addTo (now (queue .entry)) (now (store .entry)) time m (now (payload .entry)) place ⌝ }
 {
-    let s = load_stream(&*queue, row);
-    let code = message_code(
-        &*queue,
-        store.len() as u64,
-        m.stream_id.0,
-        s,
-        payload.len() as u64,
-    );
+    let s = stream_for(&*queue, place);
+    let code = message_code(&*queue, store.len() as u64, s, payload.len() as u64);
     if code > 0 {
         return Call::Refused(code);
     }
+    let row = row_for(&*queue, place);
+    make_known(queue, place, m.stream_id.0);
     append(queue, store, time, m, payload, row, s);
     Call::Accepted(0)
 }
 
-// A message for a stream that it makes known.
-fn add_to_new(
-    queue: &mut [u64; QUEUE_WORDS],
-    store: &mut [u8],
-    time: u64,
-    m: Message,
-    payload: &[u8],
-    position: usize,
-) -> Call
-    requires { ⌜ (position ≤ knownCount (now queue)) × (knownCount (now queue) < 256) × (time ≤ 4611686018427387903) × (nanoseconds (m .lifetime) ≤ 4611686018427387903) ⌝ }
-    ensures { λ r. ⌜ added r (now (queue .exit)) (now (store .exit)) ≡ addNew (now (queue .entry)) (now (store .entry)) time m (now (payload .entry)) position ⌝ }
+// The refusal of a stream that has no place, 0 for none.
+fn refused_place(queue: &[u64; QUEUE_WORDS], len: u64, n: u64, place: Place) -> u8
+    ensures { λ r. ⌜ r ≡ refusedPlace (now (queue .entry)) len n place ⌝ }
 {
-    let o = load_options(&*queue);
-    let s = new_stream(o);
-    let id = m.stream_id.0;
-    let code = message_code(&*queue, store.len() as u64, id, s, payload.len() as u64);
-    if code > 0 {
-        return Call::Refused(code);
+    match place {
+        Place::Row(_) => 0,
+        Place::New(_) => 0,
+        Place::Refused(lost) => lost_code(queue, len, n, lost),
     }
-    let t = load_totals(&*queue);
-    insert_stream(queue, position, id, s);
-    append(queue, store, time, m, payload, t.known as usize, s);
-    Call::Accepted(0)
 }
 
 // Adds a message; the store is lent.
@@ -338,9 +363,9 @@ pub fn add(
         return Call::Refused(code);
     }
     let place = look_up(&*queue, m.stream_id.0);
-    match place {
-        Place::Row(row) => add_to_known(queue, store, time, m, payload, row),
-        Place::New(position) => add_to_new(queue, store, time, m, payload, position),
-        Place::Refused(lost) => Call::Refused(lost_code(&*queue, len, n, lost)),
+    let lost = refused_place(&*queue, len, n, place);
+    if lost > 0 {
+        return Call::Refused(lost);
     }
+    add_to(queue, store, time, m, payload, place)
 }

@@ -25,7 +25,7 @@ use Rattle.stream_scheduler.specs.Words.{removeStream, peekWords}
 use Rattle.stream_scheduler.specs.declared.Peeked.{Peeked}
 use Rattle.stream_scheduler.specs.declared.Peeked.the-variants as peeked
 use Rattle.queue_streams.specs.Events.{eventWords}
-use Rattle.queue_streams.specs.Known.{lookUp, placeOf, newStream}
+use Rattle.queue_streams.specs.Known.{lookUp, placeOf}
 use Rattle.queue_streams.specs.Restart.{reopen, setInterleaving, alike}
 use Rattle.queue_streams.specs.Settings.{Called, called, CalledWith, calledWith, setPriority, priorityIn, setThreshold, thresholdIn, raised}
 use Rattle.queue_streams.specs.Waiting.{roomFor}
@@ -284,18 +284,19 @@ full-code ws len n =
     code-pick adds (ltb 1023 (totalsAt ws .waiting)) _ _ (code-in adds 7 refl)
     (code-pick adds (ltb (len - totalsAt ws .used) n) _ _ (code-in adds 8 refl) (code-none adds))
 
-broken-code : (ws : List ℕ) (len id : ℕ) (s : OutgoingStream) (n : ℕ) → Code adds (adding.brokenCode ws len id s n)
+broken-code : (ws : List ℕ) (len : ℕ) (s : OutgoingStream) (n : ℕ) → Code adds (adding.brokenCode ws len s n)
 unfolding adding.brokenCode
-broken-code ws len id s n =
+broken-code ws len s n =
     code-pick adds (ltb (18446744073709551615 - totalsAt ws .total) n) _ _ (code-in adds 16 refl)
     (code-pick adds (ltb (18446744073709551615 - s .«buffered_amount») n) _ _ (code-in adds 16 refl)
     (code-pick adds (ltb 0 (adding.placesCode ws s (totalsAt ws .free))) _ _ (code-in adds 16 refl)
-    (code-pick adds (ltb 1 (putCode ws len (totalsAt ws .free) n)) _ _ (code-in adds 16 refl)
-    (code-pick adds (adding.hasRoom ws id) _ _ (code-none adds) (code-in adds 16 refl)))))
+    (code-pick adds (adding.hasRoom ws s) _ _
+    (code-pick adds (ltb 1 (putCode ws len (totalsAt ws .free) n)) _ _ (code-in adds 16 refl) (code-none adds))
+    (code-in adds 16 refl))))
 
-message-code : (ws : List ℕ) (len id : ℕ) (s : OutgoingStream) (n : ℕ) → Code adds (adding.messageCode ws len id s n)
+message-code : (ws : List ℕ) (len : ℕ) (s : OutgoingStream) (n : ℕ) → Code adds (adding.messageCode ws len s n)
 unfolding adding.messageCode
-message-code ws len id s n = code-pick adds (ltb 0 (adding.fullCode ws len n)) _ _ (full-code ws len n) (broken-code ws len id s n)
+message-code ws len s n = code-pick adds (ltb 0 (adding.fullCode ws len n)) _ _ (full-code ws len n) (broken-code ws len s n)
 
 -- 6, 7, 8, or the number of the look-up
 lost-listed : (ws : List ℕ) (len n k : ℕ) → among k adds ≡ true → among (adding.lostCode ws len n k) adds ≡ true
@@ -308,19 +309,21 @@ lost-listed ws len n k h = go (eqb k 6) (ltb 0 (adding.fullCode ws len n)) (full
     go false false f = h
 
 add-listed : (ws st : List ℕ) (time : ℕ) (m : Message) (bs : List ℕ) → Stores adds (adding.add ws st time m bs)
-unfolding adding.add adding.addKnown adding.addNew Placed
+unfolding adding.add adding.addTo Placed
 add-listed ws st time m bs =
     stores-code adds (adding.argumentsCode ws (length st) time (m .lifetime) (length bs)) ws st _ (arguments-code ws (length st) time (m .lifetime) (length bs))
     (go (lookUp ws (m .«stream_id» .0)) (look-listed adds ws (m .«stream_id» .0) refl refl))
   where
+    lost : (x : Place) → Placed adds x → Code adds (adding.refusedPlace ws (length st) (length bs) x)
+    lost (place.Row row) h = code-none adds
+    lost (place.New q) h = code-none adds
+    lost (place.Refused n) h = code-in adds _ (lost-listed ws (length st) (length bs) n (h n refl))
+
     go : (x : Place) → Placed adds x → Stores adds (adding.addIn ws st time m bs x)
-    go (place.Row row) h =
-        stores-code adds (adding.messageCode ws (length st) (m .«stream_id» .0) (streamAt ws row) (length bs)) ws st _
-        (message-code ws (length st) (m .«stream_id» .0) (streamAt ws row) (length bs)) (stores-done adds 0 _ _)
-    go (place.New q) h =
-        stores-code adds (adding.messageCode ws (length st) (m .«stream_id» .0) (newStream (optionsAt ws)) (length bs)) ws st _
-        (message-code ws (length st) (m .«stream_id» .0) (newStream (optionsAt ws)) (length bs)) (stores-done adds 0 _ _)
-    go (place.Refused n) h = stores-refused adds (adding.lostCode ws (length st) (length bs) n) ws st (lost-listed ws (length st) (length bs) n (h n refl))
+    go x h =
+        stores-code adds (adding.refusedPlace ws (length st) (length bs) x) ws st _ (lost x h)
+        (stores-code adds (adding.messageCode ws (length st) (adding.streamFor ws x) (length bs)) ws st _
+        (message-code ws (length st) (adding.streamFor ws x) (length bs)) (stores-done adds 0 _ _))
 
 abbrev restores : List ℕ
 restores = 2 ∷ 4 ∷ 12 ∷ 13 ∷ 14 ∷ 15 ∷ []

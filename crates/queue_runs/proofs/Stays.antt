@@ -7,7 +7,7 @@ use native.Mathlib.Omega.{arith}
 use lib.Dec.{ltb, eqb}
 use lib.ListN.{length}
 use Rattle.queue_words.specs.Flags.{pick}
-use Rattle.queue_words.specs.Header.{optionsAt, totalsAt}
+use Rattle.queue_words.specs.Header.{totalsAt}
 use Rattle.queue_words.specs.Find.{findStream}
 use Rattle.queue_words.specs.Items.{itemAt}
 use Rattle.queue_words.specs.Known.{knownAt}
@@ -18,7 +18,7 @@ use Rattle.queue_words.specs.declared.known.Found.the-variants as found
 use Rattle.queue_words.specs.declared.streams.OutgoingStream.{OutgoingStream}
 use Rattle.stream_scheduler.specs.Words.{removeStream}
 use Rattle.queue_streams.specs.Events.{eventWords}
-use Rattle.queue_streams.specs.Known.{lookUp, newStream}
+use Rattle.queue_streams.specs.Known.{lookUp}
 use Rattle.queue_streams.specs.Restart.{reopen, setInterleaving, alike}
 use Rattle.queue_streams.specs.Settings.{Called, called, CalledWith, calledWith, setPriority, priorityIn, setThreshold, thresholdIn, raised}
 use Rattle.queue_streams.specs.Waiting.{roomFor}
@@ -165,13 +165,13 @@ unfolding Stores
 stores-done ws st us ut k e = not-refused e
 
 add-stays : (ws st : List ℕ) (time : ℕ) (m : Message) (bs : List ℕ) → Stores ws st (adding.add ws st time m bs)
-unfolding adding.add adding.addKnown adding.addNew
+unfolding adding.add adding.addTo
 add-stays ws st time m bs = stores-pick ws st (ltb 0 (adding.argumentsCode ws (length st) time (m .lifetime) (length bs))) _ _ (stores-refused ws st _) (go (lookUp ws (m .«stream_id» .0)))
   where
     go : (x : Place) → Stores ws st (adding.addIn ws st time m bs x)
-    go (place.Row row) = stores-pick ws st (ltb 0 (adding.messageCode ws (length st) (m .«stream_id» .0) (streamAt ws row) (length bs))) _ _ (stores-refused ws st _) (stores-done ws st _ _ 0)
-    go (place.New q) = stores-pick ws st (ltb 0 (adding.messageCode ws (length st) (m .«stream_id» .0) (newStream (optionsAt ws)) (length bs))) _ _ (stores-refused ws st _) (stores-done ws st _ _ 0)
-    go (place.Refused n) = stores-refused ws st _
+    go x =
+        stores-pick ws st (ltb 0 (adding.refusedPlace ws (length st) (length bs) x)) _ _ (stores-refused ws st _)
+        (stores-pick ws st (ltb 0 (adding.messageCode ws (length st) (adding.streamFor ws x) (length bs))) _ _ (stores-refused ws st _) (stores-done ws st _ _ 0))
 
 restore-stays : (ws st : List ℕ) (time : ℕ) (bs : List ℕ) → Stores ws st (restoring.restore ws st time bs)
 unfolding restoring.restore

@@ -37,13 +37,15 @@ returns-4 : tie.Need-returns-4
 unfolding brokenCode
 returns-4 c =
     rw (
-      ← (c .before .before .before .before .before .before .before .before .load-totals .ensures),
-      le-ltb _ _ (c .before .before .before .before .before .before .if1 .left),
-      le-ltb _ _ (c .before .before .before .before .if2 .left),
-      ← (c .before .before .before .places-code .ensures),
-      le-ltb _ _ (c .before .before .if3 .left),
+      ← (c .before .before .before .before .before .before .before .before .before .before .load-totals .ensures),
+      le-ltb _ _ (c .before .before .before .before .before .before .before .before .if1 .left),
+      le-ltb _ _ (c .before .before .before .before .before .before .if2 .left),
+      ← (c .before .before .before .before .before .places-code .ensures),
+      le-ltb _ _ (c .before .before .before .before .if3 .left),
+      ← (c .before .before .before .has-room .ensures),
+      (c .before .before .if4 .taken),
       ← (c .before .put-code .ensures),
-      lt-ltb _ _ (c .if4 .taken),
+      lt-ltb _ _ (c .if5 .taken),
     )
 
 returns-5 : tie.Need-returns-5
@@ -55,40 +57,38 @@ returns-5 c =
       le-ltb _ _ (c .before .before .before .before .before .before .if2 .left),
       ← (c .before .before .before .before .before .places-code .ensures),
       le-ltb _ _ (c .before .before .before .before .if3 .left),
-      ← (c .before .before .before .put-code .ensures),
-      le-ltb _ _ (c .before .before .if4 .left),
-      ← (c .before .has-room .ensures),
-      (c .if5 .taken),
+      ← (c .before .before .before .has-room .ensures),
+      (c .before .before .if4 .taken),
+      ← (c .before .put-code .ensures),
+      le-ltb _ _ (c .if5 .left),
     )
 
 returns-6 : tie.Need-returns-6
 unfolding brokenCode
 returns-6 c =
     rw (
-      ← (c .before .before .before .before .before .before .before .before .before .before .load-totals .ensures),
-      le-ltb _ _ (c .before .before .before .before .before .before .before .before .if1 .left),
-      le-ltb _ _ (c .before .before .before .before .before .before .if2 .left),
-      ← (c .before .before .before .before .before .places-code .ensures),
-      le-ltb _ _ (c .before .before .before .before .if3 .left),
-      ← (c .before .before .before .put-code .ensures),
-      le-ltb _ _ (c .before .before .if4 .left),
+      ← (c .before .before .before .before .before .before .before .before .load-totals .ensures),
+      le-ltb _ _ (c .before .before .before .before .before .before .if1 .left),
+      le-ltb _ _ (c .before .before .before .before .if2 .left),
+      ← (c .before .before .before .places-code .ensures),
+      le-ltb _ _ (c .before .before .if3 .left),
       ← (c .before .has-room .ensures),
-      (c .if5 .left),
+      (c .if4 .left),
     )
 
 pub broken-code-spec : {M : Type 1} → statement M
 broken-code-spec =
     tie.close
     (tie.spec
-    (λ c. search needs)
+    (λ c κs. search needs)
     (λ c. search needs)
     returns
     (λ c. search needs)
     returns-2
-    (λ c. search needs)
+    (λ c κs. search needs)
     returns-3
-    (λ c. search needs)
+    (λ c κs. search needs)
+    (λ c κs. search needs)
     returns-4
-    (λ c. search needs)
     returns-5
     returns-6)

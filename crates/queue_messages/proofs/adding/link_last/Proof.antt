@@ -11,7 +11,7 @@ returns c =
     rw (
       ← (c .before .before .before .before .plus .ensures),
       lt-ltb _ _ (c .before .before .if1 .taken),
-      ← (c .store-stream .ensures),
+      ← (c .store-chain .ensures),
     )
 
 returns-2 : tie.Need-returns-2
@@ -21,7 +21,7 @@ returns-2 c =
       ← (c .before .before .before .before .before .before .plus .ensures),
       le-ltb _ _ (c .before .before .before .before .if1 .left),
       lt-ltb _ _ (c .before .before .if2 .taken),
-      ← (c .store-stream2 .ensures),
+      ← (c .store-chain2 .ensures),
     )
 
 returns-3 : tie.Need-returns-3
@@ -32,7 +32,7 @@ returns-3 c =
       le-ltb _ _ (c .before .before .before .before .before .before .if1 .left),
       le-ltb _ _ (c .before .before .before .before .if2 .left),
       ← (c .before .before .store-next .ensures),
-      ← (c .store-stream3 .ensures),
+      ← (c .store-chain3 .ensures),
     )
 
 pub link-last-spec : {M : Type 1} → statement M

@@ -12,7 +12,7 @@ returns c =
       (c .before .before .before .before .before .if1 .taken),
       ← (c .before .before .before .load-totals .ensures),
       ← (c .before .before .parameters-for .ensures),
-      ← (c .set-bytes-remaining .ensures),
+      ← (c .begin-waiting .ensures),
     )
 
 returns-2 : tie.Need-returns-2
