@@ -15,8 +15,9 @@ use Rattle.queue_model.specs.Calls as calls
 use Rattle.queue_model.specs.Demands.{Created, fresh}
 use Rattle.queue_model.specs.Image.{write-image}
 use Rattle.queue_model.specs.Run as run
+use Rattle.queue_model.specs.Answers.{fragments-in}
 use Rattle.queue_model.specs.Unbroken as model
-use Rattle.queue_model.specs.Unbroken.{Behind, UnbrokenBehind, fragments-in}
+use Rattle.queue_model.specs.Unbroken.{Behind, UnbrokenBehind}
 use Rattle.queue_model.proofs.Invariant.Unbroken as unbroken
 use Rattle.queue_sending.specs.declared.data.DataToSend.{DataToSend}
 use Rattle.linked_sending.specs.Meaning.{dataOf}

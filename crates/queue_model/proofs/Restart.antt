@@ -9,7 +9,8 @@ use Rattle.queue_model.specs.Logic.{any}
 use Rattle.queue_model.specs.Types.{Options, Queue, Fragment, done, Step}
 use Rattle.queue_model.specs.Refusals.{first-refusal, refused-or, checked, max-word}
 use Rattle.queue_model.specs.Reset.{all-put-back, put-back-overflows, reset-stream, reset-checks}
-use Rattle.queue_model.specs.Restart.{fragment-in, fragments, FirstAfresh, NoneRestored, Request6-starts}
+use Rattle.queue_model.specs.Answers.{fragments-in, of-stream}
+use Rattle.queue_model.specs.Restart.{fragments, FirstAfresh, NoneRestored, Request6-starts}
 use Rattle.queue_model.specs.Run.{Call, reset, step, run}
 use Rattle.queue_model.specs.Demands.{AllTyped}
 use Rattle.queue_model.proofs.Table.{Every}
@@ -48,7 +49,7 @@ unfolding fragments run
 first-after k [] q t n w a = tt
 first-after k (c ∷ cs) q t n w a = go (follows-step k c q (n .0) w a) (λ b. first-after k cs ((step c q) .next) (t .1) (n .1) ((fine-step c q (t .0) w) .next-well) b)
   where
-    go : Follows k (step c q) → (Fresh k ((step c q) .next) → FirstAfresh (fragments k (run cs ((step c q) .next)))) → FirstAfresh (fragment-in k ((step c q) .outcome .answer) ++ fragments k (run cs ((step c q) .next)))
+    go : Follows k (step c q) → (Fresh k ((step c q) .next) → FirstAfresh (fragments k (run cs ((step c q) .next)))) → FirstAfresh (of-stream k (fragments-in ((step c q) .outcome .answer)) ++ fragments k (run cs ((step c q) .next)))
     go (no-fragment e b) h = subst (λ (fs : List Fragment). FirstAfresh (fs ++ fragments k (run cs ((step c q) .next)))) (sym e) (h b)
     go (one-afresh f e b) h = subst (λ (fs : List Fragment). FirstAfresh (fs ++ fragments k (run cs ((step c q) .next)))) (sym e) b
 

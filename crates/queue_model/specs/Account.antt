@@ -1,16 +1,17 @@
 -- The account of a stream's bytes (request 11/13, first half), counted from the call history: what calls accept, hand out, drop, put back and restore. Assumes nothing.
-use Prim.Native.Nat.{ℕ, zero, suc, _+_, _-_}
+use Prim.Native.Nat.{ℕ, suc, _+_, _-_}
 use mathlib.Core.Bool.{true, false}
 use mathlib.Core.List.{List, [], _∷_}
 use mathlib.Core.Option.{Option, none, some}
 use mathlib.Core.Path.{_≡_, refl}
 use lib.Dec.{eqb}
 use lib.ListN.{length}
-use Rattle.queue_model.specs.Produce.{Look, nothing, broken, dropped, chosen, look}
 use Rattle.queue_model.specs.Logic.{if_then_else_}
 use Rattle.queue_model.specs.Close.{closing-bytes}
 use Rattle.queue_model.specs.Table.{find}
 use Rattle.queue_model.specs.Types.{Item, Active, Options, Queue, Answer, refused, done, number, flag, ids, fragment, nothing-waits, remaining}
+use Rattle.queue_model.specs.Answers.{is-refused}
+use Rattle.queue_model.specs.Passing.{passing}
 use Rattle.queue_model.specs.Scheduler.{peek}
 use Rattle.queue_model.specs.Streams.{stream-at, head-size, waiting, new-queue, amounts}
 use Rattle.queue_model.specs.Reset.{put-back}
@@ -40,13 +41,7 @@ for-stream k s n = if eqb s k then n else 0
 
 -- Bytes that move unless the call is refused.
 abbrev pub unless-refused : Answer → ℕ → ℕ
-unless-refused (refused r) n = 0
-unless-refused done n = n
-unless-refused (number m) n = n
-unless-refused (flag b) n = n
-unless-refused (ids ks) n = n
-unless-refused (fragment f) n = n
-unless-refused nothing-waits n = n
+unless-refused a n = if is-refused a then 0 else n
 
 -- The bytes of a stream that an answer hands out.
 abbrev pub handed : ℕ → Answer → ℕ
@@ -64,19 +59,15 @@ unfolding for-stream find head-size
 choice-bytes k q none = 0
 choice-bytes k q (some a) = for-stream k (a .stream-id) (head-size ((stream-at q (a .stream-id)) .items))
 
--- The same where a look dropped that choice, with what is dropped after it.
-unfoldable pub passed-after : ℕ → Queue → (Queue → ℕ) → Look → ℕ
+unfoldable pub choices-bytes : ℕ → List Queue → ℕ
 unfolding choice-bytes peek
-passed-after k q more nothing = 0
-passed-after k q more broken = 0
-passed-after k q more (dropped r ds) = choice-bytes k q (peek (q .scheduler)) + more r
-passed-after k q more (chosen a s i is) = 0
+choices-bytes k [] = 0
+choices-bytes k (q ∷ qs) = choice-bytes k q (peek (q .scheduler)) + choices-bytes k qs
 
 -- The unsent bytes of the expired heads that the next fragment drops before it.
 unfoldable pub passed : ℕ → ℕ → ℕ → Queue → ℕ
-unfolding look passed-after
-passed k zero now q = 0
-passed k (suc f) now q = passed-after k q (λ (r : Queue). passed k f now r) (look now q)
+unfolding choices-bytes passing
+passed k turns now q = choices-bytes k (passing turns now q)
 
 -- The unsent bytes of a head with this message id.
 unfoldable pub head-bytes : ℕ → List Item → ℕ
@@ -96,7 +87,7 @@ image-left k (some h) = records-left k (h .messages)
 
 -- What one call moves in stream k. "each counted from the call history": bytes accepted, handed out and left to send in an image are read off the call's arguments and its answer alone. Unsent bytes of dropped
 -- messages, and bytes put back, are read off the messages that wait when the call is made (their lengths and offsets), in the queue that the earlier calls lead to. Which of
--- them it drops is told by the definitions that the call itself uses (`look`, `closing-bytes`, `head-bytes`); no amount is counted. No single answer shows them, and which expired heads a next fragment drops no list of
+-- them it drops is told by the definitions that the call itself uses (`passing`, `closing-bytes`, `head-bytes`); no amount is counted. No single answer shows them, and which expired heads a next fragment drops no list of
 -- answers does: events tell it only where they have a lifecycle id.
 unfoldable pub account : ℕ → Call → Queue → Account
 unfolding step for-stream passed head-bytes closing-bytes image-left read-image find put-back

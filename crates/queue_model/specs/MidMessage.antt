@@ -29,28 +29,32 @@ abbrev pub AtMostOne : Option Handover → Type 0
 AtMostOne none = Unit {0}
 AtMostOne (some h) = half-sent-records (h .messages) ≤ 1
 
--- A call that does not switch interleaving on, and restores no image with more than one half-sent message (a refused restoring restores none).
+-- A call that does not switch interleaving on; what it restores is such (a refused restoring restores nothing).
+abbrev pub Uninterleaved : (Option Handover → Type 0) → Call → Queue → Type 0
+Uninterleaved P (add store now m) q = Unit {0}
+Uninterleaved P (produce store places buffer now size) q = Unit {0}
+Uninterleaved P (discard places s k) q = Unit {0}
+Uninterleaved P (close places s) q = Unit {0}
+Uninterleaved P ready-ids q = Unit {0}
+Uninterleaved P commit q = Unit {0}
+Uninterleaved P rollback q = Unit {0}
+Uninterleaved P reset q = Unit {0}
+Uninterleaved P (set-threshold places s t) q = Unit {0}
+Uninterleaved P (set-priority s p) q = Unit {0}
+Uninterleaved P (set-interleaving b) q = b ≡ false
+Uninterleaved P (restore store now image) q = (step (restore store now image) q) .outcome .answer ≡ done → P (read-image image)
+Uninterleaved P (ask-priority s) q = Unit {0}
+Uninterleaved P (ask-amount s) q = Unit {0}
+Uninterleaved P (ask-threshold s) q = Unit {0}
+Uninterleaved P ask-total q = Unit {0}
+Uninterleaved P ask-empty q = Unit {0}
+Uninterleaved P ask-has-data q = Unit {0}
+Uninterleaved P ask-streams-ready q = Unit {0}
+Uninterleaved P ask-readiness q = Unit {0}
+
+-- It restores no image with more than one half-sent message.
 abbrev pub Uninterrupted : Call → Queue → Type 0
-Uninterrupted (add store now m) q = Unit {0}
-Uninterrupted (produce store places buffer now size) q = Unit {0}
-Uninterrupted (discard places s k) q = Unit {0}
-Uninterrupted (close places s) q = Unit {0}
-Uninterrupted ready-ids q = Unit {0}
-Uninterrupted commit q = Unit {0}
-Uninterrupted rollback q = Unit {0}
-Uninterrupted reset q = Unit {0}
-Uninterrupted (set-threshold places s t) q = Unit {0}
-Uninterrupted (set-priority s p) q = Unit {0}
-Uninterrupted (set-interleaving b) q = b ≡ false
-Uninterrupted (restore store now image) q = (step (restore store now image) q) .outcome .answer ≡ done → AtMostOne (read-image image)
-Uninterrupted (ask-priority s) q = Unit {0}
-Uninterrupted (ask-amount s) q = Unit {0}
-Uninterrupted (ask-threshold s) q = Unit {0}
-Uninterrupted ask-total q = Unit {0}
-Uninterrupted ask-empty q = Unit {0}
-Uninterrupted ask-has-data q = Unit {0}
-Uninterrupted ask-streams-ready q = Unit {0}
-Uninterrupted ask-readiness q = Unit {0}
+Uninterrupted c q = Uninterleaved AtMostOne c q
 
 -- "a queue that never had interleaving, and was new or restored from an image with at most one half-sent message".
 pub data NeverInterleaved (o : Options) : Queue → Type 0 where

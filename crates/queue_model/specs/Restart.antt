@@ -3,9 +3,8 @@ use Prim.Native.Nat.{ℕ}
 use mathlib.Core.Bool.{true}
 use mathlib.Core.List.{List, [], _∷_, _++_}
 use mathlib.Core.Path.{_≡_}
-use lib.Dec.{eqb}
-use Rattle.queue_model.specs.Logic.{if_then_else_}
-use Rattle.queue_model.specs.Types.{Options, Queue, Fragment, Answer, refused, done, number, flag, ids, fragment, nothing-waits, Outcome}
+use Rattle.queue_model.specs.Types.{Options, Queue, Fragment, done, Outcome}
+use Rattle.queue_model.specs.Answers.{fragments-in, of-stream}
 use Rattle.queue_model.specs.Run.{Call, reset, restore, step, run}
 use Rattle.queue_model.specs.Demands.{Reachable, AllTyped}
 
@@ -18,20 +17,10 @@ pub record Afresh (f : Fragment) : Type 0 where
 
 -- ------------------------------------------------------------------ the fragments of a stream
 
--- The fragment of stream k in an answer, if it is one.
-abbrev pub fragment-in : ℕ → Answer → List Fragment
-fragment-in k (refused r) = []
-fragment-in k done = []
-fragment-in k (number m) = []
-fragment-in k (flag b) = []
-fragment-in k (ids ks) = []
-fragment-in k (fragment f) = if eqb (f .stream-id) k then f ∷ [] else []
-fragment-in k nothing-waits = []
-
 -- The fragments of stream k that calls have shown, in order.
 unfoldable pub fragments : ℕ → List Outcome → List Fragment
 fragments k [] = []
-fragments k (o ∷ os) = fragment-in k (o .answer) ++ fragments k os
+fragments k (o ∷ os) = of-stream k (fragments-in (o .answer)) ++ fragments k os
 
 -- The first one, if any, starts afresh.
 abbrev pub FirstAfresh : List Fragment → Type 0

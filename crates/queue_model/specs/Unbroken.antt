@@ -6,13 +6,14 @@ use mathlib.Core.List.{List, [], _∷_, _++_}
 use mathlib.Core.Option.{Option, none, some}
 use Prim.Native.Nat.{ℕ, _≤_, _<_}
 use Rattle.types.specs.Wrap.{wrap-suc}
-use Rattle.queue_model.specs.Types.{Item, Stream, Options, Queue, Fragment, Answer, refused, done, number, flag, ids, fragment, nothing-waits, expired}
+use Rattle.queue_model.specs.Types.{Item, Stream, Options, Queue, Fragment, fragment, expired}
+use Rattle.queue_model.specs.Answers.{fragments-in}
 use Rattle.queue_model.specs.Streams.{find-stream, new-queue}
 use Rattle.queue_model.specs.Refusals.{max-time}
 use Rattle.queue_model.specs.Image.{write-image}
-use Rattle.queue_model.specs.Run.{Call, add, produce, discard, close, ready-ids, commit, rollback, reset, set-threshold, set-priority, set-interleaving, restore, ask-priority, ask-amount, ask-threshold, ask-total, ask-empty, ask-has-data, ask-streams-ready, ask-readiness, step}
+use Rattle.queue_model.specs.Run.{Call, produce, restore, step}
 use Rattle.queue_model.specs.Demands.{Typed, Created, fresh}
-use Rattle.queue_model.specs.MidMessage.{NeverInterleaved}
+use Rattle.queue_model.specs.MidMessage.{Uninterleaved, NeverInterleaved}
 
 -- ------------------------------------------------------------------ lists of fragments
 
@@ -60,40 +61,11 @@ starts f = f .first
 abbrev pub Unbroken : List Fragment → Type 0
 Unbroken fs = UnbrokenBehind starts Continues none fs
 
--- The fragment that an answer shows.
-abbrev pub fragments-in : Answer → List Fragment
-fragments-in (refused n) = []
-fragments-in done = []
-fragments-in (number n) = []
-fragments-in (flag b) = []
-fragments-in (ids ks) = []
-fragments-in (fragment f) = f ∷ []
-fragments-in nothing-waits = []
-
 -- ------------------------------------------------------------------ what a queue has sent
 
--- A call that neither switches interleaving on nor restores. (A refused restoring restores nothing.)
+-- A call that neither switches interleaving on nor restores.
 abbrev pub Onward : Call → Queue → Type 0
-Onward (add store now m) q = Unit {0}
-Onward (produce store places buffer now size) q = Unit {0}
-Onward (discard places s k) q = Unit {0}
-Onward (close places s) q = Unit {0}
-Onward ready-ids q = Unit {0}
-Onward commit q = Unit {0}
-Onward rollback q = Unit {0}
-Onward reset q = Unit {0}
-Onward (set-threshold places s t) q = Unit {0}
-Onward (set-priority s p) q = Unit {0}
-Onward (set-interleaving b) q = b ≡ false
-Onward (restore store now image) q = (step (restore store now image) q) .outcome .answer ≡ done → ⊥
-Onward (ask-priority s) q = Unit {0}
-Onward (ask-amount s) q = Unit {0}
-Onward (ask-threshold s) q = Unit {0}
-Onward ask-total q = Unit {0}
-Onward ask-empty q = Unit {0}
-Onward ask-has-data q = Unit {0}
-Onward ask-streams-ready q = Unit {0}
-Onward ask-readiness q = Unit {0}
+Onward c q = Uninterleaved (λ x. ⊥) c q
 
 -- The queue and all fragments sent until it: of a new queue none; then those that the calls show; and over any number of changeovers, at any points, the list goes on. The new host's queue is
 -- a new one, created alike and without interleaving, that restores at any allowed time the image that this queue saves at any time (demand 2: it is accepted). An image of unknown origin has

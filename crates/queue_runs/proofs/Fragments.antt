@@ -5,7 +5,7 @@ use Prim.Native.Nat.{ℕ}
 use lib.ListN.{length}
 use Rattle.queue_model.specs.Types as plain
 use Rattle.queue_model.specs.Types.{Fragment, Outcome}
-use Rattle.queue_model.specs.Unbroken.{fragments-in}
+use Rattle.queue_model.specs.Answers.{fragments-in}
 use Rattle.queue_sending.specs.declared.data.DataToSend.{DataToSend}
 use Rattle.linked_sending.specs.Meaning.{dataOf, producedOf}
 use Rattle.queue_runs.specs.Calls.{Call, add, produce, discard, close, ready-ids, commit, rollback, reset, set-threshold, set-priority, set-interleaving, restore, ask-priority, ask-amount, ask-threshold, ask-total, ask-empty, ask-has-data, ask-streams-ready, ask-readiness, callOf, Typed, Shown}

@@ -12,9 +12,9 @@ use Rattle.queue_words.specs.Header.{isStrict}
 use Rattle.queue_model.specs.Logic.{if_then_else_}
 use Rattle.queue_model.specs.Types as plain
 use Rattle.queue_model.specs.Types.{Queue, Outcome, Fragment}
+use Rattle.queue_model.specs.Answers.{fragments-in, of-stream}
 use Rattle.queue_model.specs.Run as run
 use Rattle.queue_model.specs.Restart as model
-use Rattle.queue_model.specs.Unbroken.{fragments-in}
 use Rattle.queue_model.proofs.Restart as theorem
 use Rattle.queue_streams.specs.declared.answers.Call.the-variants as call
 use Rattle.queue_sending.specs.declared.data.DataToSend.{DataToSend}
@@ -36,19 +36,16 @@ use Rattle.queue_runs.proofs.Account.{key-same}
 -- ------------------------------------------------------------------ what a call shows
 
 module _ (k : ℕ) where
-  -- Of the fragment of an answer, whether it is of stream k.
-  own : (a : plain.Answer) → ofStream k (map dataOf (fragments-in a)) ≡ map dataOf (model.fragment-in k a)
-  own (plain.refused r) = refl
-  own plain.done = refl
-  own (plain.number m) = refl
-  own (plain.flag b) = refl
-  own (plain.ids l) = refl
-  own (plain.fragment f) = ap (λ (x : StreamId). pick (eqb (x .0) k) (dataOf f ∷ []) []) (key-same (f .unordered) (record { 0 = f .stream-id })) ∙ picked (eqb (f .stream-id) k) f
+  -- The fragments of stream k.
+  own : (fs : List Fragment) → ofStream k (map dataOf fs) ≡ map dataOf (of-stream k fs)
+  own [] = refl
+  own (f ∷ fs) =
+      ap (λ (x : StreamId). pick (eqb (x .0) k) (dataOf f ∷ ofStream k (map dataOf fs)) (ofStream k (map dataOf fs))) (key-same (f .unordered) (record { 0 = f .stream-id }))
+      ∙ ap (λ (ds : List DataToSend). pick (eqb (f .stream-id) k) (dataOf f ∷ ds) ds) (own fs) ∙ picked (eqb (f .stream-id) k) (of-stream k fs)
     where
-      picked : (b : Bool) (f : Fragment) → pick b (dataOf f ∷ []) [] ≡ map dataOf (if b then f ∷ [] else [])
-      picked true f = refl
-      picked false f = refl
-  own plain.nothing-waits = refl
+      picked : (b : Bool) (gs : List Fragment) → pick b (dataOf f ∷ map dataOf gs) (map dataOf gs) ≡ map dataOf (if b then f ∷ gs else gs)
+      picked true gs = refl
+      picked false gs = refl
 
   -- ---------------------------------------------------------------- lists of calls
 
@@ -59,8 +56,8 @@ module _ (k : ℕ) where
   run-data (c ∷ cs) s g t =
       let h = step-link c s g (t .0) in
       let e : callsOf (length (step c s .next .store)) cs ≡ callsOf (length (s .store)) cs = ap (λ (n : ℕ). callsOf n cs) (h .same-store) in
-      ap₂ _++_ (ap (ofStream k) (step-data c s g (t .0)) ∙ own (meant c s .outcome .answer)) (run-data cs (step c s .next) (h .good) (t .1) ∙ ap₂ (λ (ms : List run.Call) (q : Queue). map dataOf (model.fragments k (run.run ms q))) e (h .next-is))
-      ∙ sym (data-append (model.fragment-in k (meant c s .outcome .answer)) (model.fragments k (run.run (callsOf (length (s .store)) cs) (meant c s .next))))
+      ap₂ _++_ (ap (ofStream k) (step-data c s g (t .0)) ∙ own (fragments-in (meant c s .outcome .answer))) (run-data cs (step c s .next) (h .good) (t .1) ∙ ap₂ (λ (ms : List run.Call) (q : Queue). map dataOf (model.fragments k (run.run ms q))) e (h .next-is))
+      ∙ sym (data-append (of-stream k (fragments-in (meant c s .outcome .answer))) (model.fragments k (run.run (callsOf (length (s .store)) cs) (meant c s .next))))
 
 first-afresh : (fs : List Fragment) → model.FirstAfresh fs → FirstAfresh (map dataOf fs)
 first-afresh [] a = tt

@@ -27,7 +27,8 @@ use Rattle.queue_model.specs.Reader.{read-image}
 use Rattle.queue_model.specs.Restore.{restored-stream, restored-item, restore-streams, restore-message, restore-messages, restored, record-checks, restore-checks, restore-read}
 use Rattle.queue_model.specs.Run.{Call, add, produce, discard, close, ready-ids, commit, rollback, reset, set-threshold, set-priority, set-interleaving, restore, ask-priority, ask-amount, ask-threshold, ask-total, ask-empty, ask-has-data, ask-streams-ready, ask-readiness, step, after}
 use Rattle.queue_model.specs.Demands.{AllTyped}
-use Rattle.queue_model.specs.Account.{Account, no-bytes, for-stream, unless-refused, handed, choice-bytes, passed, head-bytes, records-left, image-left, account, accounts, Request11-account, passed-after}
+use Rattle.queue_model.specs.Account.{Account, no-bytes, for-stream, unless-refused, handed, choice-bytes, choices-bytes, passed, head-bytes, records-left, image-left, account, accounts, Request11-account}
+use Rattle.queue_model.specs.Passing.{passing-after, passing}
 use Rattle.queue_model.proofs.Tests.{eqb-true, eqb-false, less, same, more, tri}
 use Rattle.queue_model.proofs.Table.{find-here, find-there, find-put-same, find-put-other, find-key, Every}
 use Rattle.queue_model.proofs.Checks.{or-left, or-right, not-false, nil-of, Passed, not-less, all-passed, restore-of}
@@ -295,22 +296,22 @@ sends-hand-out k size q es a s i is w v = go (short-of-head q s i (min (a .bytes
         record { answered = λ m. refl; sends = omega arith }
 
 -- What follows a look, if what follows a drop is right.
-sends-after : (k size : ℕ) (q : Queue) (es : List Event) → Well q → (rest : Queue → ℕ) (again : Queue → List Event → Option Step) (l : Look) → FineLook q l → LookBalances k q l → ((r : Queue) (ds : List Event) → Well r → SendsMaybe k r (rest r) (again r ds))
-    → SendsMaybe k q (passed-after k q rest l) (after-look again size q es l)
-unfolding passed-after after-look
+sends-after : (k size : ℕ) (q : Queue) (es : List Event) → Well q → (rest : Queue → List Queue) (again : Queue → List Event → Option Step) (l : Look) → FineLook q l → LookBalances k q l → ((r : Queue) (ds : List Event) → Well r → SendsMaybe k r (choices-bytes k (rest r)) (again r ds))
+    → SendsMaybe k q (choices-bytes k (passing-after q rest l)) (after-look again size q es l)
+unfolding passing-after choices-bytes after-look
 sends-after k size q es w rest again nothing v b ih = record { answered = λ m. refl; sends = omega arith }
 sends-after k size q es w rest again broken v b ih = tt
 sends-after k size q es w rest again (dropped r ds) v b ih = chain (again r (es ++ ds)) (ih r (es ++ ds) (v .0))
   where
-    chain : (x : Option Step) → SendsMaybe k r (rest r) x → SendsMaybe k q (choice-bytes k q (peek (q .scheduler)) + rest r) x
+    chain : (x : Option Step) → SendsMaybe k r (choices-bytes k (rest r)) x → SendsMaybe k q (choice-bytes k q (peek (q .scheduler)) + choices-bytes k (rest r)) x
     chain none u = tt
     chain (some s) u = let e = u .sends in record { answered = u .answered; sends = omega arith }
 sends-after k size q es w rest again (chosen a s i is) v b ih = sends-hand-out k size q es a s i is w v
 
 sends-pass : (k f now size : ℕ) (q : Queue) (es : List Event) → Well q → SendsMaybe k q (passed k f now q) (pass-over f now size q es)
-unfolding pass-over passed
+unfolding pass-over passed passing
 sends-pass k zero now size q es w = tt
-sends-pass k (suc f) now size q es w = sends-after k size q es w (λ (r : Queue). passed k f now r) (λ (r : Queue) (ds : List Event). pass-over f now size r ds) (look now q) (fine-look now q w) (look-balances k now q) (λ r ds v. sends-pass k f now size r ds v)
+sends-pass k (suc f) now size q es w = sends-after k size q es w (λ (r : Queue). passing f now r) (λ (r : Queue) (ds : List Event). pass-over f now size r ds) (look now q) (fine-look now q w) (look-balances k now q) (λ r ds v. sends-pass k f now size r ds v)
 
 -- What the next fragment takes out, by the answer.
 abbrev goes-out : ℕ → ℕ → Queue → Answer → ℕ

@@ -6,7 +6,7 @@ use mathlib.Core.Option.{Option, none, some}
 use Prim.Native.Nat.{ℕ}
 use lib.Dec.{eqb}
 use Rattle.queue_model.specs.Logic.{if_then_else_, same-bool}
-use Rattle.queue_model.specs.Types.{Item, PauseState, not-paused, pending, paused, resetting, Counters, Stream, Active, Queue, Fragment, done, Step, remaining, with-pause, with-threshold, with-priority, with-numbers, refuse, reply, Message}
+use Rattle.queue_model.specs.Types.{Item, PauseState, not-paused, pending, paused, resetting, Counters, Stream, Active, Queue, Fragment, Answer, done, Step, remaining, with-pause, with-threshold, with-priority, with-numbers, refuse, reply, Message}
 use Rattle.queue_model.specs.Streams.{find-stream, zero-counters, stream-at, stream-key, with-message}
 use Rattle.queue_model.specs.Refusals.{Check, first-refusal, refused-or, checked, short-of}
 use Rattle.queue_model.specs.Amounts.{drop-head-events}
@@ -19,7 +19,8 @@ use Rattle.queue_model.specs.Image.{Handover}
 use Rattle.queue_model.specs.Reader.{read-image}
 use Rattle.queue_model.specs.Restore.{restored, record-checks, restore-read, restore-checks}
 use Rattle.queue_model.specs.Settings.{threshold-checks, priority-checks, switched}
-use Rattle.queue_model.specs.Restart.{Afresh, fragment-in, NotRestored}
+use Rattle.queue_model.specs.Restart.{Afresh, NotRestored}
+use Rattle.queue_model.specs.Answers.{fragments-in, of-stream}
 use Rattle.queue_model.specs.Run.{Call, add, produce, discard, close, ready-ids, commit, rollback, reset, set-threshold, set-priority, set-interleaving, restore, ask-priority, ask-amount, ask-threshold, ask-total, ask-empty, ask-has-data, ask-streams-ready, ask-readiness, step}
 use Rattle.queue_model.proofs.Tests.{eqb-true, eqb-false}
 use Rattle.queue_model.proofs.Table.{Every, every-put, every-map, every-find, every-snoc, own, other, is-own}
@@ -73,8 +74,8 @@ afresh s i n e m w =
 
 -- No fragment of stream k, which stays fresh; or one that starts afresh.
 pub data Follows (k : ℕ) (s : Step) : Type 0 where
-  no-fragment : fragment-in k (s .outcome .answer) ≡ [] → Fresh k (s .next) → Follows k s
-  one-afresh : (f : Fragment) → fragment-in k (s .outcome .answer) ≡ f ∷ [] → Afresh f → Follows k s
+  no-fragment : of-stream k (fragments-in (s .outcome .answer)) ≡ [] → Fresh k (s .next) → Follows k s
+  one-afresh : (f : Fragment) → of-stream k (fragments-in (s .outcome .answer)) ≡ f ∷ [] → Afresh f → Follows k s
 
 module _ (k : ℕ) where
   follows-checked : (cs : List Check) (q : Queue) (s : Step) → Fresh k q → Follows k s → Follows k (checked cs q s)
@@ -139,11 +140,11 @@ module _ (k : ℕ) where
   fresh-past now r q (over j s i is h e p) a = fresh-past now r (drop-in (s .pause-state) q s i is) p (fresh-drop q j s i is h a (s .pause-state))
 
   follows-ends : (r : Queue) (s : Step) → Well r → Ends r s → Fresh k r → Follows k s
-  follows-ends r s w (none-waits e f g) a = no-fragment (ap (fragment-in k) f) (subst (Fresh k) (sym g) a)
+  follows-ends r s w (none-waits e f g) a = no-fragment (ap (λ (a : Answer). of-stream k (fragments-in a)) f) (subst (Fresh k) (sym g) a)
   follows-ends r s w (hands-out c t i is n p d l m f g) a = elim (is-own stream-key t k) [
-    | own e ↦ one-afresh x (ap (fragment-in k) f ∙ ap (λ (b : Bool). if b then x ∷ [] else []) (eqb-true (same-id ∙ e)))
+    | own e ↦ one-afresh x (ap (λ (a : Answer). of-stream k (fragments-in a)) f ∙ ap (λ (b : Bool). if b then x ∷ [] else []) (eqb-true (same-id ∙ e)))
         (afresh t i n (head-zeroed r (c .stream-id) t i is (d .choice-head) a e) (head-no-mids r (c .stream-id) t i is (d .choice-head) a e .0) (head-well r (c .stream-id) t i is w (d .choice-head) .0))
-    | other e ↦ no-fragment (ap (fragment-in k) f ∙ ap (λ (b : Bool). if b then x ∷ [] else []) (eqb-false (λ y. e (sym same-id ∙ y)))) (subst (Fresh k) (sym g) (fresh-handed r (c .stream-id) t i is (d .choice-head) a c n e))
+    | other e ↦ no-fragment (ap (λ (a : Answer). of-stream k (fragments-in a)) f ∙ ap (λ (b : Bool). if b then x ∷ [] else []) (eqb-false (λ y. e (sym same-id ∙ y)))) (subst (Fresh k) (sym g) (fresh-handed r (c .stream-id) t i is (d .choice-head) a c n e))
   ]
     where
       x : Fragment

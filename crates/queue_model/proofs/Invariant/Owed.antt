@@ -26,7 +26,8 @@ use Rattle.queue_model.specs.Reader.{read-image}
 use Rattle.queue_model.specs.Restore.{restored-stream, restored-item, restore-streams, restore-message, restore-messages, half-sent-first, restored, record-checks, restore-read, restore-checks}
 use Rattle.queue_model.specs.Run.{Call, add, produce, discard, close, ready-ids, commit, rollback, reset, set-threshold, set-priority, set-interleaving, restore, ask-priority, ask-amount, ask-threshold, ask-total, ask-empty, ask-has-data, ask-streams-ready, ask-readiness, step}
 use Rattle.queue_model.specs.Demands.{Typed}
-use Rattle.queue_model.specs.Unbroken.{Behind, UnbrokenBehind, Continues, starts, fragments-in, Onward}
+use Rattle.queue_model.specs.Answers.{fragments-in}
+use Rattle.queue_model.specs.Unbroken.{Behind, UnbrokenBehind, Continues, starts, Onward}
 use Rattle.queue_model.proofs.Tests.{ltb-true}
 use Rattle.queue_model.proofs.Table.{Every, every-put, every-map, every-weaken, every-find}
 use Rattle.queue_model.proofs.Checks.{Passed, checked-either, checked-past, restore-of, read-none, read-some}

@@ -134,14 +134,14 @@ drop-options : (q : Queue) (s : Stream) (i : Item) (is : List Item) → (drop-he
 unfolding drop-head
 drop-options q s i is = refl
 
-drop-in-options : (p : PauseState) (q : Queue) (s : Stream) (i : Item) (is : List Item) → (drop-in p q s i is) .options ≡ q .options
+pub drop-in-options : (p : PauseState) (q : Queue) (s : Stream) (i : Item) (is : List Item) → (drop-in p q s i is) .options ≡ q .options
 unfolding drop-in
 drop-in-options not-paused q s i is = drop-options q s i is
 drop-in-options pending q s i is = refl
 drop-in-options paused q s i is = drop-options q s i is
 drop-in-options resetting q s i is = drop-options q s i is
 
-handed-options : (q : Queue) (a : Active) (s : Stream) (i : Item) (is : List Item) (n : ℕ) → (handed-out q a s i is n) .options ≡ q .options
+pub handed-options : (q : Queue) (a : Active) (s : Stream) (i : Item) (is : List Item) (n : ℕ) → (handed-out q a s i is n) .options ≡ q .options
 unfolding handed-out handed-out-last handed-out-part
 handed-options q a s i is n = go (eqb n (remaining i))
   where

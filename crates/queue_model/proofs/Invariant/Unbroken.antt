@@ -20,7 +20,8 @@ use Rattle.queue_model.specs.Restore.{restored-item, half-sent-first}
 use Rattle.queue_model.specs.Run.{Call, add, produce, discard, close, ready-ids, commit, rollback, reset, set-threshold, set-priority, set-interleaving, restore, ask-priority, ask-amount, ask-threshold, ask-total, ask-empty, ask-has-data, ask-streams-ready, ask-readiness, step}
 use Rattle.queue_model.specs.Demands.{Created, Reachable, fresh, Demand2-images}
 use Rattle.queue_model.specs.MidMessage.{half-sent-record, half-sent-records, AtMostOne, Uninterrupted, NeverInterleaved, at-first, later}
-use Rattle.queue_model.specs.Unbroken.{UnbrokenBehind, All, Together, Continues, starts, Unbroken, fragments-in, Onward, Sends, begins, goes-on, changes-over, Request10-unbroken, Request10-together, RestOf, Request10-rest}
+use Rattle.queue_model.specs.Answers.{fragments-in}
+use Rattle.queue_model.specs.Unbroken.{UnbrokenBehind, All, Together, Continues, starts, Unbroken, Onward, Sends, begins, goes-on, changes-over, Request10-unbroken, Request10-together, RestOf, Request10-rest}
 use Rattle.queue_model.proofs.Tests.{ltb-true, ltb-false, eqb-false}
 use Rattle.queue_model.proofs.Table.{Rising, After, Every, every-find, find-key}
 use Rattle.queue_model.proofs.Checks.{checked-either}
