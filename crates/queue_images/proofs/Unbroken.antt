@@ -21,7 +21,7 @@ use Rattle.queue_model.specs.Unbroken.{Behind, UnbrokenBehind}
 use Rattle.queue_model.proofs.Invariant.Unbroken as unbroken
 use Rattle.queue_sending.specs.declared.data.DataToSend.{DataToSend}
 use Rattle.linked_sending.specs.Meaning.{dataOf}
-use Rattle.queue_runs.specs.Calls.{Call, add, produce, discard, close, ready-ids, commit, rollback, reset, set-threshold, set-priority, set-interleaving, restore, ask-priority, ask-amount, ask-threshold, ask-total, ask-empty, ask-has-data, ask-streams-ready, ask-readiness, callOf, Typed}
+use Rattle.queue_runs.specs.Calls.{Call, restore, callOf, Typed}
 use Rattle.queue_runs.specs.Fragments.{dataIn}
 use Rattle.queue_runs.specs.Run.{State, step}
 use Rattle.queue_runs.specs.Creation.{Arguments, optionsWith, newState}
@@ -29,7 +29,7 @@ use Rattle.queue_runs.specs.Meaning.{queueOf, Good}
 use Rattle.queue_runs.proofs.Steps.{step-link, typed-call, store-small, meant}
 use Rattle.queue_runs.proofs.News.{new-link}
 use Rattle.queue_runs.proofs.Fragments.{data-append, step-data}
-use Rattle.queue_runs.proofs.MidMessage.{done-accepted}
+use Rattle.queue_runs.proofs.MidMessage.{uninterleaved}
 use Rattle.queue_images.specs.Demand2.{Saves, freshState}
 use Rattle.queue_images.specs.Unbroken.{Continues, starts, Onward, New, as-created, as-chosen, Sends, begins, goes-on, changes-over, Request10-unbroken, Request10-together}
 use Rattle.queue_images.proofs.Demand2 as images
@@ -43,28 +43,6 @@ record Stands (a : Arguments) (len : ℕ) (s : State) (ds : List DataToSend) : T
   fragments : List Fragment
   sends : model.Sends (optionsWith a len) (queueOf s) fragments
   shown-as : ds ≡ map dataOf fragments
-
-onward : (c : Call) (s : State) → Good s → Typed c → Onward c s → model.Onward (callOf (length (s .store)) c) (queueOf s)
-onward (add time m payload) s g t u = u
-onward (produce es bs time size) s g t u = u
-onward (discard es id k) s g t u = u
-onward (close es id) s g t u = u
-onward ready-ids s g t u = u
-onward commit s g t u = u
-onward rollback s g t u = u
-onward reset s g t u = u
-onward (set-threshold es id n) s g t u = u
-onward (set-priority id p) s g t u = u
-onward (set-interleaving b) s g t u = u
-onward (restore time image) s g t u = λ e. let x = done-accepted time image s g t e in let z : _≡_ {A = ℕ} 0 1 = cc in omega arith
-onward (ask-priority id) s g t u = u
-onward (ask-amount id) s g t u = u
-onward (ask-threshold id) s g t u = u
-onward ask-total s g t u = u
-onward ask-empty s g t u = u
-onward ask-has-data s g t u = u
-onward ask-streams-ready s g t u = u
-onward ask-readiness s g t u = u
 
 -- A new queue without interleaving stands for the model's, whether or not that choice was made.
 fresh-new : (o : plain.Options) → new-queue o ≡ fresh o false
@@ -92,7 +70,7 @@ gone-on a len s ds h c t u =
     let k = step-link c s (h .good) t in
     let o = meant c s .outcome in
     let gs : List Fragment = fragments-in (o .answer) in
-    let m : model.Sends (optionsWith a len) (meant c s .next) (h .fragments ++ gs) = model.goes-on (h .sends) (callOf (length (s .store)) c) (typed-call (length (s .store)) c (store-small s (h .good)) t) (onward c s (h .good) t u) in
+    let m : model.Sends (optionsWith a len) (meant c s .next) (h .fragments ++ gs) = model.goes-on (h .sends) (callOf (length (s .store)) c) (typed-call (length (s .store)) c (store-small s (h .good)) t) (uninterleaved (λ x. ⊥) c s (h .good) t u) in
     record {
       good = k .good;
       store-is = k .same-store ∙ h .store-is;

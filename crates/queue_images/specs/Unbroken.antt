@@ -2,18 +2,18 @@
 -- TSNs"), on the words and stores that the calls leave. Assumes nothing.
 use Prim.Native.Nat.{ℕ, _≤_}
 use mathlib.Core.Path.{_≡_}
-use mathlib.Core.Bool.{Bool, true, false}
-use mathlib.Core.List.{List, [], _∷_, _++_}
+use mathlib.Core.Bool.{Bool, false}
+use mathlib.Core.List.{List, [], _++_}
 use mathlib.Core.Option.{none}
 use lib.ListN.{length, take}
 use Rattle.types.specs.Wrap.{wrap-suc}
 use Rattle.queue_model.specs.Unbroken.{UnbrokenBehind, Together}
 use Rattle.queue_sending.specs.declared.data.DataToSend.{DataToSend}
-use Rattle.queue_runs.specs.Calls.{Call, add, produce, discard, close, ready-ids, commit, rollback, reset, set-threshold, set-priority, set-interleaving, restore, ask-priority, ask-amount, ask-threshold, ask-total, ask-empty, ask-has-data, ask-streams-ready, ask-readiness, Typed}
+use Rattle.queue_runs.specs.Calls.{Call, restore, Typed}
 use Rattle.queue_runs.specs.Fragments.{dataIn}
 use Rattle.queue_runs.specs.Run.{State, step}
 use Rattle.queue_runs.specs.Creation.{Arguments, newState, Creates}
-use Rattle.queue_runs.specs.Refusals.{refusal}
+use Rattle.queue_runs.specs.MidMessage.{Uninterleaved}
 use Rattle.queue_images.specs.Demand2.{Saves, freshState}
 
 -- ------------------------------------------------------------------ lists of fragments
@@ -36,28 +36,9 @@ Unbroken ds = UnbrokenBehind starts Continues none ds
 
 -- ------------------------------------------------------------------ what a queue has sent
 
--- A call that neither switches interleaving on nor restores. (A refused restoring restores nothing.)
+-- A call that neither switches interleaving on nor restores.
 abbrev pub Onward : Call → State → Type 0
-Onward (add time m payload) s = Unit {0}
-Onward (produce es bs time size) s = Unit {0}
-Onward (discard es id k) s = Unit {0}
-Onward (close es id) s = Unit {0}
-Onward ready-ids s = Unit {0}
-Onward commit s = Unit {0}
-Onward rollback s = Unit {0}
-Onward reset s = Unit {0}
-Onward (set-threshold es id t) s = Unit {0}
-Onward (set-priority id p) s = Unit {0}
-Onward (set-interleaving b) s = b ≡ false
-Onward (restore time image) s = refusal (step (restore time image) s .shows .answer) ≡ true
-Onward (ask-priority id) s = Unit {0}
-Onward (ask-amount id) s = Unit {0}
-Onward (ask-threshold id) s = Unit {0}
-Onward ask-total s = Unit {0}
-Onward ask-empty s = Unit {0}
-Onward ask-has-data s = Unit {0}
-Onward ask-streams-ready s = Unit {0}
-Onward ask-readiness s = Unit {0}
+Onward c s = Uninterleaved (λ x. ⊥) c s
 
 -- A new queue without interleaving, in any words and with any bytes in the store: as it is created, or with that choice made.
 pub data New (a : Arguments) (len : ℕ) : State → Type 0 where

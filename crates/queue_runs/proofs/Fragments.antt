@@ -45,7 +45,7 @@ none-shown : (fs : List Fragment) → fs ≡ [] → [] ≡ map dataOf fs
 none-shown fs e = ap (map dataOf) (sym e)
 
 -- A call's outcome shows the fragment that the model's has.
-data-shown : (len : ℕ) (c : Call) (o : Outcome) → Form (callOf len c) o → dataIn (shownOf c o .answer) ≡ map dataOf (fragments-in (o .answer))
+pub data-shown : (len : ℕ) (c : Call) (o : Outcome) → Form (callOf len c) o → dataIn (shownOf c o .answer) ≡ map dataOf (fragments-in (o .answer))
 data-shown len (add time m payload) o f = none-shown (fragments-in (o .answer)) (quiet-none o f)
 data-shown len (produce es bs time size) o f = data-sent (o .answer) (length (o .events))
 data-shown len (discard es id k) o f = none-shown (fragments-in (o .answer)) (loud-none o f)

@@ -21,3 +21,5 @@ pub mod Closing
 pub mod Fragments
 pub mod MidMessage
 pub mod Restart
+pub mod History
+pub mod Chains

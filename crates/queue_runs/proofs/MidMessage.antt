@@ -11,8 +11,10 @@ use Rattle.types.specs.declared.StreamId.{StreamId}
 use Rattle.queue_model.specs.Logic.{if_then_else_}
 use Rattle.queue_model.specs.Types as plain
 use Rattle.queue_model.specs.Types.{Item, Fragment, Outcome}
+use Rattle.queue_model.specs.Image.{Handover}
 use Rattle.queue_model.specs.Waiting.{is-waiting}
 use Rattle.queue_model.specs.MidMessage as model
+use Rattle.queue_model.specs.MidMessage.{AtMostOne}
 use Rattle.queue_model.specs.Unbroken as rest
 use Rattle.queue_model.proofs.Invariant.MidMessage.{request10-remembered}
 use Rattle.queue_model.proofs.Invariant.Unbroken.{request10-rest}
@@ -29,7 +31,7 @@ use Rattle.queue_runs.specs.Run.{State, step}
 use Rattle.queue_runs.specs.Meaning.{queueOf, Good, sentOf}
 use Rattle.queue_runs.specs.Creation.{Arguments, optionsWith, newState}
 use Rattle.queue_runs.specs.Refusals.{refusal}
-use Rattle.queue_runs.specs.MidMessage.{Uninterrupted, NeverInterleaved, at-first, later, Request10-remembered, RestOf, Request10-rest}
+use Rattle.queue_runs.specs.MidMessage.{Uninterleaved, NeverInterleaved, at-first, later, Request10-remembered, RestOf, Request10-rest}
 use Rattle.queue_runs.proofs.Steps.{step-link, typed-call, store-small, meant}
 use Rattle.queue_runs.proofs.News.{new-link}
 use Rattle.queue_runs.proofs.Forms.{Sent, sent-refused, sent-nothing, sent-fragment, form-of}
@@ -49,27 +51,27 @@ done-accepted time image s g t e =
     let o = meant (restore time image) s .outcome in
     ap (λ (x : Shown). refusal (x .answer)) (step-link (restore time image) s g t .shows-are) ∙ ap (λ (x : plain.Answer). refusal (called (promise.callOf x (length (o .events))))) e
 
-uninterrupted : (c : Call) (s : State) → Good s → Typed c → Uninterrupted c s → model.Uninterrupted (callOf (length (s .store)) c) (queueOf s)
-uninterrupted (add time m payload) s g t u = u
-uninterrupted (produce es bs time size) s g t u = u
-uninterrupted (discard es id k) s g t u = u
-uninterrupted (close es id) s g t u = u
-uninterrupted ready-ids s g t u = u
-uninterrupted commit s g t u = u
-uninterrupted rollback s g t u = u
-uninterrupted reset s g t u = u
-uninterrupted (set-threshold es id n) s g t u = u
-uninterrupted (set-priority id p) s g t u = u
-uninterrupted (set-interleaving b) s g t u = u
-uninterrupted (restore time image) s g t u = λ e. u (done-accepted time image s g t e)
-uninterrupted (ask-priority id) s g t u = u
-uninterrupted (ask-amount id) s g t u = u
-uninterrupted (ask-threshold id) s g t u = u
-uninterrupted ask-total s g t u = u
-uninterrupted ask-empty s g t u = u
-uninterrupted ask-has-data s g t u = u
-uninterrupted ask-streams-ready s g t u = u
-uninterrupted ask-readiness s g t u = u
+pub uninterleaved : (P : Option Handover → Type 0) (c : Call) (s : State) → Good s → Typed c → Uninterleaved P c s → model.Uninterleaved P (callOf (length (s .store)) c) (queueOf s)
+uninterleaved P (add time m payload) s g t u = u
+uninterleaved P (produce es bs time size) s g t u = u
+uninterleaved P (discard es id k) s g t u = u
+uninterleaved P (close es id) s g t u = u
+uninterleaved P ready-ids s g t u = u
+uninterleaved P commit s g t u = u
+uninterleaved P rollback s g t u = u
+uninterleaved P reset s g t u = u
+uninterleaved P (set-threshold es id n) s g t u = u
+uninterleaved P (set-priority id p) s g t u = u
+uninterleaved P (set-interleaving b) s g t u = u
+uninterleaved P (restore time image) s g t u = λ e. u (done-accepted time image s g t e)
+uninterleaved P (ask-priority id) s g t u = u
+uninterleaved P (ask-amount id) s g t u = u
+uninterleaved P (ask-threshold id) s g t u = u
+uninterleaved P ask-total s g t u = u
+uninterleaved P ask-empty s g t u = u
+uninterleaved P ask-has-data s g t u = u
+uninterleaved P ask-streams-ready s g t u = u
+uninterleaved P ask-readiness s g t u = u
 
 never-stands : {a : Arguments} {len : ℕ} {s : State} → NeverInterleaved a len s → Stands (optionsWith a len) len s
 never-stands {a} {len} (at-first {before = b} c e) =
@@ -81,7 +83,7 @@ never-stands {a} {len} (later {s = s} n c t u) =
     let k = step-link c s (h .good) t in
     record {
       good = k .good;
-      never = subst (model.NeverInterleaved (optionsWith a len)) (sym (k .next-is)) (model.later (h .never) (callOf (length (s .store)) c) (typed-call (length (s .store)) c (store-small s (h .good)) t) (uninterrupted c s (h .good) t u));
+      never = subst (model.NeverInterleaved (optionsWith a len)) (sym (k .next-is)) (model.later (h .never) (callOf (length (s .store)) c) (typed-call (length (s .store)) c (store-small s (h .good)) t) (uninterleaved AtMostOne c s (h .good) t u));
       store-is = k .same-store ∙ h .store-is;
     }
 

@@ -13,3 +13,5 @@ pub mod Closing
 pub mod Fragments
 pub mod Restart
 pub mod MidMessage
+pub mod History
+pub mod Chains

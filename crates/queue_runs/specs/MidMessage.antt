@@ -3,12 +3,13 @@ use Prim.Native.Nat.{ℕ, _<_}
 use mathlib.Core.Path.{_≡_}
 use mathlib.Core.Bool.{true, false}
 use mathlib.Core.List.{List, _∷_}
-use mathlib.Core.Option.{some}
+use mathlib.Core.Option.{Option, some}
 use lib.ListN.{length}
 use Rattle.types.specs.Keys.{key-id}
 use Rattle.queue_words.specs.Header.{schedulerAt}
 use Rattle.queue_model.specs.Types.{Item, Stream, expired}
 use Rattle.queue_model.specs.Streams.{find-stream}
+use Rattle.queue_model.specs.Image.{Handover}
 use Rattle.queue_model.specs.Reader.{read-image}
 use Rattle.queue_model.specs.Restore.{half-sent-first}
 use Rattle.queue_model.specs.Waiting.{is-waiting}
@@ -21,28 +22,32 @@ use Rattle.queue_runs.specs.Meaning.{queueOf}
 use Rattle.queue_runs.specs.Creation.{Arguments, newState, Creates}
 use Rattle.queue_runs.specs.Refusals.{refusal}
 
--- A call that does not switch interleaving on, and restores no image with more than one half-sent message (a refused restoring restores none).
+-- A call that does not switch interleaving on; what it restores is such (a refused restoring restores nothing).
+abbrev pub Uninterleaved : (Option Handover → Type 0) → Call → State → Type 0
+Uninterleaved P (add time m payload) s = Unit {0}
+Uninterleaved P (produce es bs time size) s = Unit {0}
+Uninterleaved P (discard es id k) s = Unit {0}
+Uninterleaved P (close es id) s = Unit {0}
+Uninterleaved P ready-ids s = Unit {0}
+Uninterleaved P commit s = Unit {0}
+Uninterleaved P rollback s = Unit {0}
+Uninterleaved P reset s = Unit {0}
+Uninterleaved P (set-threshold es id t) s = Unit {0}
+Uninterleaved P (set-priority id p) s = Unit {0}
+Uninterleaved P (set-interleaving b) s = b ≡ false
+Uninterleaved P (restore time image) s = refusal (step (restore time image) s .shows .answer) ≡ false → P (read-image image)
+Uninterleaved P (ask-priority id) s = Unit {0}
+Uninterleaved P (ask-amount id) s = Unit {0}
+Uninterleaved P (ask-threshold id) s = Unit {0}
+Uninterleaved P ask-total s = Unit {0}
+Uninterleaved P ask-empty s = Unit {0}
+Uninterleaved P ask-has-data s = Unit {0}
+Uninterleaved P ask-streams-ready s = Unit {0}
+Uninterleaved P ask-readiness s = Unit {0}
+
+-- It restores no image with more than one half-sent message.
 abbrev pub Uninterrupted : Call → State → Type 0
-Uninterrupted (add time m payload) s = Unit {0}
-Uninterrupted (produce es bs time size) s = Unit {0}
-Uninterrupted (discard es id k) s = Unit {0}
-Uninterrupted (close es id) s = Unit {0}
-Uninterrupted ready-ids s = Unit {0}
-Uninterrupted commit s = Unit {0}
-Uninterrupted rollback s = Unit {0}
-Uninterrupted reset s = Unit {0}
-Uninterrupted (set-threshold es id t) s = Unit {0}
-Uninterrupted (set-priority id p) s = Unit {0}
-Uninterrupted (set-interleaving b) s = b ≡ false
-Uninterrupted (restore time image) s = refusal (step (restore time image) s .shows .answer) ≡ false → AtMostOne (read-image image)
-Uninterrupted (ask-priority id) s = Unit {0}
-Uninterrupted (ask-amount id) s = Unit {0}
-Uninterrupted (ask-threshold id) s = Unit {0}
-Uninterrupted ask-total s = Unit {0}
-Uninterrupted ask-empty s = Unit {0}
-Uninterrupted ask-has-data s = Unit {0}
-Uninterrupted ask-streams-ready s = Unit {0}
-Uninterrupted ask-readiness s = Unit {0}
+Uninterrupted c s = Uninterleaved AtMostOne c s
 
 -- "a queue that never had interleaving, and was new or restored from an image with at most one half-sent message".
 pub data NeverInterleaved (a : Arguments) (len : ℕ) : State → Type 0 where
