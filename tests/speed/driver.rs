@@ -10,6 +10,7 @@
 include!("original.rs");
 
 mod clock;
+mod depth;
 mod dropping;
 mod expired;
 mod images;
@@ -30,6 +31,7 @@ fn main() {
     sending::growth();
     planning::planning();
     expired::passing();
+    depth::depth();
     steady::steady();
     steady::longest_calls();
     println!("\nProfile 3 has 600 messages: 1,024 of 3,000 bytes do not fit into the largest store, 2,000,000 bytes.");
