@@ -2,3 +2,4 @@
 pub mod Demand2
 pub mod Unbroken
 pub mod Refusals
+pub mod Numbers

@@ -13,6 +13,7 @@ pub mod Stays
 pub mod Ties
 pub mod Listed
 pub mod OtherStore
+pub mod Broken
 pub mod Account
 pub mod Waiting
 pub mod FairTurns

@@ -6,6 +6,7 @@ pub mod Creation
 pub mod Refusals
 pub mod Demand3
 pub mod Numbers
+pub mod Broken
 pub mod Account
 pub mod Waiting
 pub mod FairTurns
