@@ -9,3 +9,4 @@ pub mod Handing
 pub mod Worked
 pub mod Frames
 pub mod BeginsAnew
+pub mod Reserved

@@ -57,6 +57,14 @@ pub entry-put-other : (ws : List ℕ) (i : ℕ) (a : ActiveStreamInfo) (j : ℕ)
 unfolding entryAt
 entry-put-other ws i a j n = ap entryOf (active-at-put-other ws i a j n)
 
+-- A row stored for the stream that it had: every row has the stream that it had.
+pub ids-put : (ws : List ℕ) (i : ℕ) (a : ActiveStreamInfo) → length ws ≡ 20768 → i < 256 → FitsActive a → a .«stream_id» .0 ≡ (entryAt ws i) .stream-id → (j : ℕ) → (entryAt (putActive ws i a) j) .stream-id ≡ (entryAt ws j) .stream-id
+ids-put ws i a l h f e j = elim (tri i j) [
+  | less o ↦ ap (λ (x : Active). x .stream-id) (entry-put-other ws i a j (λ g. omega arith))
+  | same g ↦ subst (λ (k : ℕ). (entryAt (putActive ws i a) k) .stream-id ≡ (entryAt ws k) .stream-id) g (ap (λ (x : Active). x .stream-id) (entry-put ws i a l h f) ∙ e)
+  | more o ↦ ap (λ (x : Active). x .stream-id) (entry-put-other ws i a j (λ g. omega arith))
+]
+
 pub entry-state : (ws : List ℕ) (s : SchedulerState) (j : ℕ) → entryAt (putScheduler ws s) j ≡ entryAt ws j
 unfolding entryAt
 entry-state ws s j = ap entryOf (active-put-scheduler ws s j)
@@ -124,8 +132,43 @@ rested-table t e (suc n) = let z : suc n ≡ 0 → ⊥ = λ f. omega arith in ap
 
 -- ---- taking a row out
 
+-- The last of suc m rows in the place of another, with a state of one row fewer.
+module _ (ws : List ℕ) (at m c t : ℕ) where
+  dropped-is : droppedRow ws at c t (suc m) ≡ putScheduler (putActive ws at (activeAt ws m)) (stateOf c (rested t m) m)
+  unfolding droppedRow
+  dropped-is =
+      let e : suc m - 1 ≡ m = omega arith in
+      ap (λ (x : ℕ). putScheduler (putActive ws at (activeAt ws x)) (stateOf c (rested t x) x)) e
+
+  pub dropped-there : (j : ℕ) → (at ≡ j → ⊥) → entryAt (droppedRow ws at c t (suc m)) j ≡ entryAt ws j
+  dropped-there j ne = ap (λ (x : List ℕ). entryAt x j) dropped-is ∙ entry-state (putActive ws at (activeAt ws m)) (stateOf c (rested t m) m) j ∙ entry-put-other ws at (activeAt ws m) j ne
+
+  pub dropped-whole : length (droppedRow ws at c t (suc m)) ≡ length ws
+  dropped-whole = ap length dropped-is ∙ whole-put-scheduler (putActive ws at (activeAt ws m)) (stateOf c (rested t m) m) ∙ whole-put-active ws at (activeAt ws m)
+
+  module _ (long : length ws ≡ 20768) where
+    pub dropped-here : at < 256 → entryAt (droppedRow ws at c t (suc m)) at ≡ entryAt ws m
+    dropped-here h = ap (λ (x : List ℕ). entryAt x at) dropped-is ∙ entry-state (putActive ws at (activeAt ws m)) (stateOf c (rested t m) m) at
+        ∙ entry-put ws at (activeAt ws m) long h (active-at-fits ws m) ∙ sym (entry-row ws m)
+
+    pub dropped-state : schedulerAt (droppedRow ws at c t (suc m)) ≡ stateOf c (rested t m) m
+    dropped-state = ap schedulerAt dropped-is ∙ scheduler-at-put (putActive ws at (activeAt ws m)) (stateOf c (rested t m) m) (whole-put-active ws at (activeAt ws m) ∙ long)
+
+-- A stream's waiting ended: its row is dropped, or it has none and the rows stay.
+module _ (ws : List ℕ) (id : ℕ) where
+  pub out-hit : (at : ℕ) → at < (schedulerAt ws) .active → takenOut ws id at ((schedulerAt ws) .active) ≡ droppedRow ws at (forgotten ((schedulerAt ws) .current) id) ((schedulerAt ws) .«system_virtual_time») ((schedulerAt ws) .active)
+  unfolding takenOut
+  out-hit at h =
+      let s : SchedulerState = schedulerAt ws in
+      ap (λ (b : Bool). if b then droppedRow ws at (forgotten (s .current) id) (s .«system_virtual_time») (s .active) else putScheduler ws (stateOf (forgotten (s .current) id) (rested (s .«system_virtual_time») (s .active)) (s .active))) (ltb-true h)
+
+  pub out-miss : takenOut ws id ((schedulerAt ws) .active) ((schedulerAt ws) .active) ≡ putScheduler ws (stateOf (forgotten ((schedulerAt ws) .current) id) (rested ((schedulerAt ws) .«system_virtual_time») ((schedulerAt ws) .active)) ((schedulerAt ws) .active))
+  unfolding takenOut
+  out-miss =
+      let s : SchedulerState = schedulerAt ws in let k : s .active ≤ s .active = omega arith in
+      ap (λ (b : Bool). if b then droppedRow ws (s .active) (forgotten (s .current) id) (s .«system_virtual_time») (s .active) else putScheduler ws (stateOf (forgotten (s .current) id) (rested (s .«system_virtual_time») (s .active)) (s .active))) (ltb-false k)
+
 module _ (ws : List ℕ) (g : GoodScheduler ws) where
-  -- The last row in the place of another, with a state of one row fewer.
   module _ (at m c t : ℕ) (h : at < suc m) (en : (schedulerAt ws) .active ≡ suc m) where
     unlike-n : Unlike (entryAt ws) (suc m)
     unlike-n = subst (Unlike (entryAt ws)) en (g .unlike)
@@ -133,26 +176,18 @@ module _ (ws : List ℕ) (g : GoodScheduler ws) where
     few-n : suc m ≤ 256
     few-n = subst (λ (x : ℕ). x ≤ 256) en (g .few)
 
-    suc-less : suc m - 1 ≡ m
-    suc-less = omega arith
-
-    dropped-is : droppedRow ws at c t (suc m) ≡ putScheduler (putActive ws at (activeAt ws m)) (stateOf c (rested t m) m)
-    unfolding droppedRow
-    dropped-is = ap (λ (x : ℕ). putScheduler (putActive ws at (activeAt ws x)) (stateOf c (rested t x) x)) suc-less
-
     here : entryAt (droppedRow ws at c t (suc m)) at ≡ entryAt ws m
-    here = ap (λ (x : List ℕ). entryAt x at) dropped-is ∙ entry-state (putActive ws at (activeAt ws m)) (stateOf c (rested t m) m) at
-        ∙ (let k = few-n in entry-put ws at (activeAt ws m) (g .long) (omega arith) (active-at-fits ws m)) ∙ sym (entry-row ws m)
+    here = let k = few-n in dropped-here ws at m c t (g .long) (omega arith)
 
     there : (j : ℕ) → (at ≡ j → ⊥) → entryAt (droppedRow ws at c t (suc m)) j ≡ entryAt ws j
-    there j ne = ap (λ (x : List ℕ). entryAt x j) dropped-is ∙ entry-state (putActive ws at (activeAt ws m)) (stateOf c (rested t m) m) j ∙ entry-put-other ws at (activeAt ws m) j ne
+    there = dropped-there ws at m c t
 
     state-is : schedulerAt (droppedRow ws at c t (suc m)) ≡ stateOf c (rested t m) m
-    state-is = ap schedulerAt dropped-is ∙ scheduler-at-put (putActive ws at (activeAt ws m)) (stateOf c (rested t m) m) (whole-put-active ws at (activeAt ws m) ∙ g .long)
+    state-is = dropped-state ws at m c t (g .long)
 
     pub dropped-good : GoodScheduler (droppedRow ws at c t (suc m))
     dropped-good = let k = few-n in record {
-      long = ap length dropped-is ∙ whole-put-scheduler (putActive ws at (activeAt ws m)) (stateOf c (rested t m) m) ∙ whole-put-active ws at (activeAt ws m) ∙ g .long;
+      long = dropped-whole ws at m c t ∙ g .long;
       few = subst (λ (x : SchedulerState). x .active ≤ 256) (sym state-is) (omega arith);
       unlike = subst (λ (x : SchedulerState). Unlike (entryAt (droppedRow ws at c t (suc m))) (x .active)) (sym state-is) (unlike-drop (entryAt ws) (entryAt (droppedRow ws at c t (suc m))) m at unlike-n h here there);
     }
@@ -170,7 +205,7 @@ module _ (ws : List ℕ) (g : GoodScheduler ws) where
     pub dropped-model : modelScheduler (droppedRow ws at c t (suc m)) ≡ make ((optionsAt ws) .«payload_limit») (currentOf c) (rest-time t (without-active ((entryAt ws at) .stream-id) (tableOf (entryAt ws) (suc m)))) (without-active ((entryAt ws at) .stream-id) (tableOf (entryAt ws) (suc m)))
     dropped-model =
         model-of (droppedRow ws at c t (suc m)) ((optionsAt ws) .«payload_limit») (stateOf c (rested t m) m) (without-active ((entryAt ws at) .stream-id) (tableOf (entryAt ws) (suc m)))
-        (ap (λ (x : List ℕ). (optionsAt x) .«payload_limit») dropped-is ∙ ap (λ (o : Options). o .«payload_limit») (options-put-scheduler (putActive ws at (activeAt ws m)) (stateOf c (rested t m) m) ∙ options-put-active ws at (activeAt ws m)))
+        (ap (λ (x : List ℕ). (optionsAt x) .«payload_limit») (dropped-is ws at m c t) ∙ ap (λ (o : Options). o .«payload_limit») (options-put-scheduler (putActive ws at (activeAt ws m)) (stateOf c (rested t m) m) ∙ options-put-active ws at (activeAt ws m)))
         state-is dropped-table
         ∙ ap (λ (x : ℕ). make ((optionsAt ws) .«payload_limit») (currentOf c) x (without-active ((entryAt ws at) .stream-id) (tableOf (entryAt ws) (suc m)))) dropped-rest
 
@@ -192,18 +227,6 @@ removed ws id = refl
 -- ---- remove_stream
 
 module _ (ws : List ℕ) (g : GoodScheduler ws) (id : ℕ) (fits : id < 65536) where
-  out-hit : (at : ℕ) → at < (schedulerAt ws) .active → (entryAt ws at) .stream-id ≡ id → takenOut ws id at ((schedulerAt ws) .active) ≡ droppedRow ws at (forgotten ((schedulerAt ws) .current) id) ((schedulerAt ws) .«system_virtual_time») ((schedulerAt ws) .active)
-  unfolding takenOut
-  out-hit at h e =
-      let s : SchedulerState = schedulerAt ws in
-      ap (λ (b : Bool). if b then droppedRow ws at (forgotten (s .current) id) (s .«system_virtual_time») (s .active) else putScheduler ws (stateOf (forgotten (s .current) id) (rested (s .«system_virtual_time») (s .active)) (s .active))) (ltb-true h)
-
-  out-miss : takenOut ws id ((schedulerAt ws) .active) ((schedulerAt ws) .active) ≡ putScheduler ws (stateOf (forgotten ((schedulerAt ws) .current) id) (rested ((schedulerAt ws) .«system_virtual_time») ((schedulerAt ws) .active)) ((schedulerAt ws) .active))
-  unfolding takenOut
-  out-miss =
-      let s : SchedulerState = schedulerAt ws in let k : s .active ≤ s .active = omega arith in
-      ap (λ (b : Bool). if b then droppedRow ws (s .active) (forgotten (s .current) id) (s .«system_virtual_time») (s .active) else putScheduler ws (stateOf (forgotten (s .current) id) (rested (s .«system_virtual_time») (s .active)) (s .active))) (ltb-false k)
-
   -- A row that is there.
   taken-hit : (at : ℕ) → at < (schedulerAt ws) .active → (entryAt ws at) .stream-id ≡ id → Steps ws (outcome true (takenOut ws id at ((schedulerAt ws) .active))) (remove-stream id (modelScheduler ws))
   taken-hit at h e = elim (count ((schedulerAt ws) .active)) [
@@ -211,7 +234,7 @@ module _ (ws : List ℕ) (g : GoodScheduler ws) (id : ℕ) (fits : id < 65536) w
     | some-there m z ↦ (let s : SchedulerState = schedulerAt ws in
         let c : ℕ = forgotten (s .current) id in
         let h′ : at < suc m = subst (λ (x : ℕ). at < x) z h in
-        let q : takenOut ws id at (s .active) ≡ droppedRow ws at c (s .«system_virtual_time») (suc m) = out-hit at h e ∙ ap (droppedRow ws at c (s .«system_virtual_time»)) z in
+        let q : takenOut ws id at (s .active) ≡ droppedRow ws at c (s .«system_virtual_time») (suc m) = out-hit ws id at h ∙ ap (droppedRow ws at c (s .«system_virtual_time»)) z in
         record {
           step-done = refl;
           step-good = subst GoodScheduler (sym q) (dropped-good ws g at m c (s .«system_virtual_time») h′ z);
@@ -228,7 +251,7 @@ module _ (ws : List ℕ) (g : GoodScheduler ws) (id : ℕ) (fits : id < 65536) w
   taken-miss none-has =
       let s : SchedulerState = schedulerAt ws in
       let v : SchedulerState = stateOf (forgotten (s .current) id) (rested (s .«system_virtual_time») (s .active)) (s .active) in
-      let q : takenOut ws id (s .active) (s .active) ≡ putScheduler ws v = out-miss in
+      let q : takenOut ws id (s .active) (s .active) ≡ putScheduler ws v = out-miss ws id in
       let ev : schedulerAt (putScheduler ws v) ≡ v = scheduler-at-put ws v (g .long) in
       let same-rows : (i : ℕ) → entryAt (putScheduler ws v) i ≡ entryAt ws i = entry-state ws v in
       let et : tableOf (entryAt (putScheduler ws v)) (s .active) ≡ tableOf (entryAt ws) (s .active) = table-same (entryAt ws) (entryAt (putScheduler ws v)) (s .active) (λ i l. same-rows i) in
@@ -291,7 +314,7 @@ module _ (ws : List ℕ) (g : GoodScheduler ws) (at : ℕ) (h : at < (schedulerA
 
 -- ---- set_bytes_remaining
 
-word-fits : (p : SchedulingParameters) → FitsParameters p → parametersWord p < 4294967296
+pub word-fits : (p : SchedulingParameters) → FitsParameters p → parametersWord p < 4294967296
 word-fits RoundRobin f = omega arith
 word-fits (WeightedFairQueuing w) f = omega arith
 
@@ -338,11 +361,7 @@ module _ (ws : List ℕ) (g : GoodScheduler ws) (id bytes : ℕ) (p : Scheduling
       let there : (j : ℕ) → (at ≡ j → ⊥) → entryAt ws′ j ≡ entryAt ws j = entry-put-other ws at (row-at t) in
       let es : schedulerAt ws′ ≡ s = scheduler-put-active ws at (row-at t) in
       let et : tableOf (entryAt ws′) (s .active) ≡ put-active (entryOf (row-at t)) (tableOf (entryAt ws) (s .active)) = table-set (entryAt ws) (entryAt ws′) (s .active) at (entryOf (row-at t)) (g .unlike) h (sym e) here there in
-      let ids : (j : ℕ) → (entryAt ws′ j) .stream-id ≡ (entryAt ws j) .stream-id = λ j. elim (tri at j) [
-        | less o ↦ ap (λ (x : Active). x .stream-id) (there j (λ f. omega arith))
-        | same f ↦ subst (λ (k : ℕ). (entryAt ws′ k) .stream-id ≡ (entryAt ws k) .stream-id) f (ap (λ (x : Active). x .stream-id) here ∙ sym e)
-        | more o ↦ ap (λ (x : Active). x .stream-id) (there j (λ f. omega arith))
-      ] in
+      let ids : (j : ℕ) → (entryAt ws′ j) .stream-id ≡ (entryAt ws j) .stream-id = ids-put ws at (row-at t) (g .long) (omega arith) (row-fits t) (sym e) in
       let found : find-active id (tableOf (entryAt ws) (s .active)) ≡ some (entryAt ws at) = ap (λ (k : ℕ). find-active k (tableOf (entryAt ws) (s .active))) (sym e) ∙ table-at (entryAt ws) (s .active) at (g .unlike) h in
       let start : start-of (s .«system_virtual_time») (find-active id (tableOf (entryAt ws) (s .active))) ≡ t = ap (start-of (s .«system_virtual_time»)) found ∙ start-some (s .«system_virtual_time») (entryAt ws at) ∙ ap (λ (x : Active). x .start) (entry-row ws at) in
       record {
