@@ -3,3 +3,5 @@ pub mod Exits
 pub mod Waits
 pub mod Restarts
 pub mod Commits
+pub mod Walk
+pub mod Settled

@@ -6,3 +6,4 @@ pub mod Settings
 pub mod Waiting
 pub mod Restart
 pub mod Commit
+pub mod Settled
