@@ -26,6 +26,7 @@ use Rattle.payload_store.specs.Good.{payloadOf}
 use Rattle.message_chains.specs.Amounts.{sum}
 use Rattle.queue_streams.specs.Waiting.{rescheduled}
 use Rattle.queue_restarts.specs.Reset.{putBack, wholeStream, wholeItem, wholeHead, resetIn, resetAt}
+use Rattle.queue_restarts.proofs.Settled.{whole-fits, whole-first}
 use Rattle.queue_state.specs.Chains.{Linked, count, each}
 use Rattle.queue_state.specs.Model.{nextOf, itemOf, itemIn, pauseOf, streamOf, rowAt, streamIn, streamsIn}
 use Rattle.queue_state.specs.Good.{Shape}
@@ -75,10 +76,6 @@ reset-items strict s = go (s .items)
 
 -- ---- the words' row
 
-whole-first : (s : OutgoingStream) (b : ℕ) → (wholeStream s b) .first ≡ s .first
-unfolding wholeStream
-whole-first s b = refl
-
 whole-last : (s : OutgoingStream) (b : ℕ) → (wholeStream s b) .last ≡ s .last
 unfolding wholeStream
 whole-last s b = refl
@@ -86,10 +83,6 @@ whole-last s b = refl
 whole-priority : (s : OutgoingStream) (b : ℕ) → (wholeStream s b) .priority ≡ s .priority
 unfolding wholeStream
 whole-priority s b = refl
-
-whole-fits : (s : OutgoingStream) (b : ℕ) → FitsStream s → FitsStream (wholeStream s b)
-unfolding wholeStream
-whole-fits s b f = record { priority-fits = f .priority-fits; pause-state-fits = omega arith; ssn-fits = omega arith; unordered-mid-fits = omega arith; ordered-mid-fits = omega arith }
 
 whole-is : (id : ℕ) (s : OutgoingStream) (is : List plain.Item) (b : ℕ) → sum (s .«buffered_amount») b ≡ s .«buffered_amount» + put-back is → streamOf id (wholeStream s b) is ≡ opened (streamOf id s is)
 unfolding wholeStream pauseOf

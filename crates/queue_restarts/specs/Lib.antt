@@ -1,3 +1,4 @@
 -- What asking for the ready ids and the whole-queue reset leave, for every input. Assumes nothing.
 pub mod Ready
 pub mod Reset
+pub mod Settled

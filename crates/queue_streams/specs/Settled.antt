@@ -19,7 +19,7 @@ use Rattle.queue_streams.specs.Restart.{opened, reopenedAll, withInterle
 unfoldable pub rescheduleDone : List ℕ → Bool → ℕ → ℕ → ℕ → Bool
 rescheduleDone ws il id first p = setBytesRemaining ws id (headSize ws first) (parametersFor il p) .done
 
--- A step of commit or rollback (`reopenedIn`, specs/Restart): a resetting stream is let wait, or has no message; a first place behind the table is no message.
+-- A step of commit or rollback (`reopenedIn`, specs/Restart): "both let a stream with messages wait". A resetting stream that is not let wait has no message: its first place is 1,024, and none outside the table.
 unfoldable pub reopenDoneIn : Bool → Bool → List ℕ → ℕ → ℕ → OutgoingStream → Bool
 reopenDoneIn zeroed il ws id place s =
     pick (ltb (s .«pause_state») 3) true
@@ -34,7 +34,7 @@ abbrev pub ReopenSettled : Bool → List ℕ → Type 0
 ReopenSettled zeroed ws =
     (i : ℕ) → i < knownCount ws → reopenDoneAt zeroed (totalsAt ws .interleaving) (reopenedAll zeroed (totalsAt ws .interleaving) ws i) (knownAt (reopenedAll zeroed (totalsAt ws .interleaving) ws i) i) ≡ true
 
--- A step of switching (`switchedAt`, specs/Restart).
+-- A step of switching (`switchedAt`, specs/Restart): every stream's weight is read, and none is passed over.
 unfoldable pub switchDoneAt : Bool → List ℕ → Known → Bool
 switchDoneAt il ws k =
     pick (ltb 255 (k .place)) false
