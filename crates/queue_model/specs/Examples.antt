@@ -12,7 +12,7 @@ use Rattle.queue_model.specs.Add.{expiry, new-item}
 use Rattle.queue_model.specs.Produce.{give-numbers}
 use Rattle.queue_model.specs.Questions.{readiness}
 use Rattle.queue_model.specs.Image.{bit, ms-left-at, write-image}
-use Rattle.queue_model.specs.Run.{Call, add, produce, discard, close, ready-ids, commit, rollback, reset, set-threshold, set-priority, set-interleaving, restore, ask-amount, run, after}
+use Rattle.queue_model.specs.Run.{Call, add, produce, discard, close, ready-ids, commit, rollback, reset, set-threshold, set-priority, set-interleaving, restore, ask-priority, ask-amount, ask-threshold, ask-total, ask-empty, ask-has-data, ask-streams-ready, run, after}
 
 -- A queue with payload limit 1,000 and stream thresholds 0; the default priority, the total's threshold, handover with waiting data and the strict rule of a restart as given.
 created : ℕ → ℕ → Bool → Bool → Queue
@@ -193,6 +193,7 @@ facts =
     (shows (put 5 1500 0 none ∷ get 0 1000 ∷ close 2305 5 ∷ ready-ids ∷ get 0 1000 ∷ ready-ids ∷ []) gives (begun 5 ++ ended 5 ++ (5 ∷ [])))
     -- "messages added to a paused or resetting stream do not start it".
     ∷ (shows (close 2305 5 ∷ put 5 10 0 none ∷ get 0 10 ∷ []) gives (888 ∷ []))
+    ∷ (shows (close 2305 5 ∷ ready-ids ∷ put 5 10 0 none ∷ get 0 10 ∷ []) gives (5 ∷ 888 ∷ []))
     -- "When a pending stream's half-sent head expires, the stream becomes paused": it is ready, a message behind it waits for the commit, and is then the first of the stream.
     ∷ (shows (put 5 1500 0 (some 0) ∷ get 0 1000 ∷ close 2305 5 ∷ put 5 10 0 none ∷ get 1000000 1000 ∷ ready-ids ∷ get 1000000 10 ∷ commit ∷ get 1000000 10 ∷ [])
     gives (begun 5 ++ (888 ∷ 5 ∷ 888 ∷ 5 ∷ 10 ∷ 1 ∷ 1 ∷ 0 ∷ 0 ∷ 0 ∷ [])))
@@ -234,6 +235,13 @@ facts =
     ∷ (shows (restore 100000 1 (image-after (half ++ (reset ∷ []))) ∷ get 1 40 ∷ []) gives (3 ∷ 10 ∷ 1 ∷ 1 ∷ 0 ∷ 0 ∷ 0 ∷ []))
     -- Half-sent messages on 5 and 7, a whole one on 3: 5, then 3, then 7.
     ∷ (shows (restore 100000 1 (image-after halves) ∷ get 1 40 ∷ get 1 40 ∷ get 1 40 ∷ []) gives (5 ∷ 10 ∷ 0 ∷ 1 ∷ 0 ∷ 0 ∷ 1 ∷ 3 ∷ 10 ∷ 1 ∷ 1 ∷ 0 ∷ 0 ∷ 0 ∷ 7 ∷ 30 ∷ 0 ∷ 1 ∷ 0 ∷ 0 ∷ 1 ∷ []))
+    -- "When a pending stream's message ends or is discarded, it is paused": a resetting one, which switching interleaving let wait, stays resetting.
+    ∷ (shows (close 2305 5 ∷ put 5 10 0 none ∷ set-interleaving true ∷ ready-ids ∷ get 0 10 ∷ ready-ids ∷ []) gives (5 ∷ 5 ∷ 10 ∷ 1 ∷ 1 ∷ 0 ∷ 0 ∷ 0 ∷ []))
+    -- "The questions are the calls that only ask": whether it is empty, whether a stream waits (not one that was closed to paused), whether one is paused; amounts, thresholds and a priority.
+    ∷ (shows (ask-empty ∷ put 5 10 0 none ∷ ask-empty ∷ []) gives (1 ∷ 0 ∷ []))
+    ∷ (shows (ask-has-data ∷ close 2305 5 ∷ put 5 10 0 none ∷ ask-has-data ∷ put 3 10 0 none ∷ ask-has-data ∷ []) gives (0 ∷ 0 ∷ 1 ∷ []))
+    ∷ (shows (ask-streams-ready ∷ close 2305 5 ∷ ask-streams-ready ∷ ready-ids ∷ ask-streams-ready ∷ []) gives (0 ∷ 1 ∷ 5 ∷ 0 ∷ []))
+    ∷ (shows (put 5 10 0 none ∷ put 3 20 0 none ∷ set-threshold 2305 5 4 ∷ ask-amount 5 ∷ ask-total ∷ ask-threshold 5 ∷ ask-threshold 3 ∷ ask-priority 3 ∷ []) gives (10 ∷ 30 ∷ 4 ∷ 0 ∷ 256 ∷ []))
     -- "Readiness is 2 if handover with waiting data is off and the total is above 0, else 0."
     ∷ ((ready-with [] ∷ ready-with (put 5 10 0 none ∷ []) ∷ []) gives (0 ∷ 2 ∷ []))
     -- "the first that applies is given": of 2, 3, 4, 9 and 10; of 4 and 5.
