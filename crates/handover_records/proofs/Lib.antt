@@ -1,4 +1,3 @@
--- Laws of numbers and rows in a buffer, and of the places of records. Assumes nothing.
-pub mod Halves
-pub mod Rows
+-- Laws of the records in an image and of their places. Assumes nothing.
+pub mod RecordRows
 pub mod Steps

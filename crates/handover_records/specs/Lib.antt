@@ -1,4 +1,3 @@
--- The numbers and records of an image, and where its message records stand. Assumes nothing.
-pub mod Numbers
+-- The records of an image, and where its message records stand. Assumes nothing.
 pub mod Records
 pub mod Positions

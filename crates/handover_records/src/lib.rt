@@ -1,6 +1,5 @@
-// The changeover image's numbers and records (api/handover.rs: only streams and queued messages): reading them from an image, and
-// writing them into a lent buffer. Numbers are unsigned, high byte first.
-pub mod numbers;
+// The changeover image's records (api/handover.rs: only streams and queued messages): reading them from an image, and writing them into
+// a lent buffer.
 pub mod records;
 
 pub use records::HandoverOutgoingStream;

@@ -4,16 +4,16 @@ ghost use Prim.Native.Nat.{_+_, _≤_};
 ghost use lib.ListN.{length, take, drop};
 ghost use Rattle.queue_model.specs.Bytes.{row-bytes};
 ghost use Rattle.queue_model.specs.Image.{stream-widths, message-widths, trailer-widths};
-ghost use Rattle.handover_records.specs.Numbers.{wrote};
+ghost use Rattle.big_endian.specs.Numbers.{wrote};
 ghost use Rattle.handover_records.specs.Records.{streamAt, messageAt, trailerAt, streamRow, messageRow, trailerRow};
-use crate::numbers::put_u8;
-use crate::numbers::put_u16;
-use crate::numbers::put_u32;
-use crate::numbers::put_u64;
-use crate::numbers::read_u8;
-use crate::numbers::read_u16;
-use crate::numbers::read_u32;
-use crate::numbers::read_u64;
+use big_endian::put_u8;
+use big_endian::put_u16;
+use big_endian::put_u32;
+use big_endian::put_u64;
+use big_endian::read_u8;
+use big_endian::read_u16;
+use big_endian::read_u32;
+use big_endian::read_u64;
 
 // 14 bytes.
 pub struct HandoverOutgoingStream {

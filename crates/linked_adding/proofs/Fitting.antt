@@ -1,15 +1,10 @@
--- What the types of the parameters say: the numbers of a message fit, and a payload is bytes. Assumes nothing.
-use mathlib.Core.List.{List, [], _∷_}
+-- What the types of the parameters say: the numbers of a message fit. Assumes nothing.
+use mathlib.Core.List.{List}
 use mathlib.Core.Option.{Option·getD}
-use Prim.Native.Nat.{ℕ, suc, _^_, _<_}
+use Prim.Native.Nat.{_^_, _<_}
 use native.Mathlib.Omega.{arith}
 use borrow.Author.Needs.{needs}
-use borrow.Author.Tests.{lt-ltb}
-use lib.Dec.{T}
-use lib.ListN.{getD}
-use lib.Pow.{areBytes}
-use mir.Syntax.{w8}
-use mir.Val.{Val, Fits}
+use mir.Val.{Val}
 use denote.Shadow.{shadow}
 use Rattle.queue_messages.proofs.message.Lifetime as lifetime
 use Rattle.queue_messages.proofs.message.MaxRetransmissions as retransmissions
@@ -26,7 +21,3 @@ lifetime-fits (life.Limited n) vs h = search needs
 pub retransmissions-fit : (r : MaxRetransmissions) (vs : List Val) → shadow (retransmissions.the-field .row .own (retransmissions.the-type .to r) vs) → Option·getD (retransmissionsOf r) 0 < 2 ^ 16
 retransmissions-fit retr.Unlimited vs h = omega arith
 retransmissions-fit (retr.Limited n) vs h = search needs
-
-pub bytes-fit : (bs : List ℕ) → ((i : ℕ) → Fits w8 (getD bs i 0)) → T (areBytes bs)
-bytes-fit [] f = tt
-bytes-fit (b ∷ bs) f = rw (lt-ltb b 256 (f 0 .fits)) (bytes-fit bs (λ i. f (suc i)))

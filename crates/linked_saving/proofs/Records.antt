@@ -19,7 +19,8 @@ use Rattle.queue_state.specs.Model.{tab, rowAt, itemIn, itemsAt, streamIn}
 use Rattle.queue_state.proofs.Tabs.{tab-same}
 use Rattle.queue_state.proofs.Sums.{each-length}
 use Rattle.handover_records.specs.Records.{streamRow}
-use Rattle.handover_records.proofs.Rows.{row-length, stream-width}
+use Rattle.big_endian.proofs.Rows.{row-length}
+use Rattle.handover_records.proofs.RecordRows.{stream-width}
 use Rattle.saving.specs.Measure.{isPlain}
 use Rattle.saving.specs.Records.{streamRecord}
 use Rattle.saving.specs.Sound.{AllOk, placesAt, StreamOk}

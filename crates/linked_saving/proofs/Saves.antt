@@ -17,7 +17,7 @@ use Rattle.queue_model.specs.Image.{Handover, trailer-widths, streams-bytes, me
 use Rattle.queue_state.specs.Model.{streamIn, streamsIn, model}
 use Rattle.queue_state.specs.Good.{Good}
 use Rattle.queue_state.proofs.Tabs.{tab-same}
-use Rattle.handover_records.specs.Numbers.{wrote}
+use Rattle.big_endian.specs.Numbers.{wrote}
 use Rattle.saving.specs.declared.image.Saved.{Saved}
 use Rattle.saving.specs.declared.image.Saved.the-variants.{Image, Refused}
 use Rattle.saving.specs.declared.measuring.Tally.{Tally}

@@ -14,10 +14,10 @@ use Rattle.queue_words.specs.Header.{optionsAt, totalsAt}
 use Rattle.queue_words.specs.declared.header.Options.{Options}
 use Rattle.queue_words.specs.declared.header.Totals.{Totals}
 use Rattle.queue_state.specs.Model.{rowAt}
-use Rattle.handover_records.specs.Numbers.{wrote}
+use Rattle.big_endian.specs.Numbers.{wrote}
 use Rattle.handover_records.specs.Records.{trailerRow}
 use Rattle.handover_records.specs.declared.records.Trailer.{Trailer}
-use Rattle.handover_records.proofs.Halves.{wrote-length}
+use Rattle.big_endian.proofs.Halves.{wrote-length}
 use Rattle.saving.specs.declared.measuring.Tally.{Tally}
 use Rattle.saving.specs.Measure.{tallyQueue, Small}
 use Rattle.saving.specs.Sound.{StreamOk}

@@ -16,9 +16,10 @@ use Rattle.queue_state.specs.Chains.{sumOf}
 use Rattle.queue_state.specs.Model.{rowAt}
 use Rattle.payload_store.specs.Good.{payloadOf}
 use Rattle.payload_store.proofs.Parts.{part-in, copy-all}
-use Rattle.handover_records.specs.Numbers.{wrote}
+use Rattle.big_endian.specs.Numbers.{wrote}
 use Rattle.handover_records.specs.Records.{streamRow, messageRow, trailerRow}
-use Rattle.handover_records.proofs.Rows.{row-length, stream-width, message-width, trailer-width}
+use Rattle.big_endian.proofs.Rows.{row-length}
+use Rattle.handover_records.proofs.RecordRows.{stream-width, message-width, trailer-width}
 use Rattle.saving.specs.declared.measuring.Tally.{Tally}
 use Rattle.saving.specs.Measure.{isPlain}
 use Rattle.saving.specs.Records.{streamRecord, messageRecord, trailerOf}

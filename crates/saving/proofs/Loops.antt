@@ -20,11 +20,12 @@ use Rattle.queue_words.specs.declared.items.Item.{Item}
 use Rattle.queue_state.specs.Chains.{chain}
 use Rattle.queue_state.specs.Model.{nextOf, rowAt}
 use Rattle.payload_store.specs.Good.{payloadOf}
-use Rattle.handover_records.specs.Numbers.{wrote}
+use Rattle.big_endian.specs.Numbers.{wrote}
 use Rattle.handover_records.specs.Records.{streamRow, messageRow}
 use Rattle.handover_records.specs.declared.records.HandoverStreamMessage.{HandoverStreamMessage}
-use Rattle.handover_records.proofs.Halves.{wrote-twice}
-use Rattle.handover_records.proofs.Rows.{row-length, message-width}
+use Rattle.big_endian.proofs.Halves.{wrote-twice}
+use Rattle.big_endian.proofs.Rows.{row-length}
+use Rattle.handover_records.proofs.RecordRows.{message-width}
 use Rattle.saving.specs.declared.measuring.Tally.{Tally}
 use Rattle.saving.specs.Measure.{isPlain, tallyItem, tallyChain, tallyStream, tallyFrom}
 use Rattle.saving.specs.Records.{streamRecord, messageRecord}

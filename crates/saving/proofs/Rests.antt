@@ -5,8 +5,8 @@ use Prim.Native.Nat.{ℕ, _+_, _≤_}
 use native.Mathlib.Nat.{add-zero}
 use native.Mathlib.Omega.{arith}
 use lib.ListN.{length, length-append, take-append-drop}
-use Rattle.handover_records.specs.Numbers.{wrote}
-use Rattle.handover_records.proofs.Halves.{wrote-length, wrote-twice}
+use Rattle.big_endian.specs.Numbers.{wrote}
+use Rattle.big_endian.proofs.Halves.{wrote-length, wrote-twice}
 
 -- b is the buffer so far, which was b₀; `rest` is to be written from `pos` on; `whole` was to be written from `at` on.
 pub record Rest (b₀ : List ℕ) (at : ℕ) (whole b : List ℕ) (pos : ℕ) (rest : List ℕ) : Type 0 where

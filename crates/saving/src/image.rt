@@ -3,7 +3,7 @@ ghost use mathlib.Core.Path.{_≡_};
 ghost use mathlib.Core.Bool.{true};
 ghost use Prim.Native.Nat.{_+_, _≤_, _<_};
 ghost use lib.ListN.{length};
-ghost use Rattle.handover_records.specs.Numbers.{wrote};
+ghost use Rattle.big_endian.specs.Numbers.{wrote};
 ghost use Rattle.saving.specs.Bytes.{imageBytes, imageSize};
 ghost use Rattle.saving.specs.Measure.{tallyQueue};
 ghost use Rattle.saving.specs.Save.{savedAs, saveImage};

@@ -7,7 +7,7 @@ ghost use Rattle.queue_words.specs.Items.{itemAt};
 ghost use Rattle.queue_words.specs.Known.{idAt};
 ghost use Rattle.queue_state.specs.Chains.{chain};
 ghost use Rattle.queue_state.specs.Model.{nextOf};
-ghost use Rattle.handover_records.specs.Numbers.{wrote};
+ghost use Rattle.big_endian.specs.Numbers.{wrote};
 ghost use Rattle.saving.specs.Records.{leftAt, msLeft, messageRecord};
 ghost use Rattle.saving.specs.Sound.{ItemOk, AllOk, placesAt, StreamOk};
 ghost use Rattle.saving.specs.Bytes.{itemBytes, chainBytes, messagesFrom};

@@ -2,8 +2,9 @@
 use borrow.Author.Needs.{needs}
 use Prim.Native.Nat.{_<_}
 use Rattle.queue_model.specs.Demands.{MessageTyped}
+use Rattle.big_endian.proofs.Typed.{bytes-fit}
 use Rattle.linked_adding.specs.Message.{messageOf}
-use Rattle.linked_adding.proofs.Fitting.{lifetime-fits, retransmissions-fit, bytes-fit}
+use Rattle.linked_adding.proofs.Fitting.{lifetime-fits, retransmissions-fit}
 use Rattle.linked_adding.proofs.Meets.{add-meets}
 use Rattle.linked_adding.proofs.add.Statement.{statement}
 use Rattle.linked_adding.proofs.add.Tie as tie

@@ -1,7 +1,7 @@
 -- `linked_restoring::restore` meets its contract: what the call promises of the words implies the rest (proofs/Meets.antt). Assumes nothing.
 use borrow.Author.Needs.{needs}
 use Prim.Native.Nat.{_<_}
-use Rattle.linked_adding.proofs.Fitting.{bytes-fit}
+use Rattle.big_endian.proofs.Typed.{bytes-fit}
 use Rattle.linked_restoring.proofs.Meets.{restore-meets}
 use Rattle.linked_restoring.proofs.restore.Statement.{statement}
 use Rattle.linked_restoring.proofs.restore.Tie as tie

@@ -1,7 +1,8 @@
 -- `handover_records::records::put_message` meets its contract: each return is what its definition says, by what the calls ensure and the tests taken. Assumes nothing.
 use borrow.Author.Needs.{needs}
 use mathlib.Core.Path.{refl}
-use Rattle.handover_records.proofs.Rows.{rows-wrote, start-width, end-width}
+use Rattle.big_endian.proofs.Rows.{rows-wrote}
+use Rattle.handover_records.proofs.RecordRows.{start-width, end-width}
 use Rattle.queue_model.specs.Image.{message-widths}
 use Rattle.handover_records.specs.Records.{messageRow}
 use lib.ListN.{take, drop}

@@ -1,7 +1,8 @@
 -- `handover_records::records::put_message_end` meets its contract: each return is what its definition says, by what the calls ensure and the tests taken. Assumes nothing.
 use borrow.Author.Needs.{needs}
 use mathlib.Core.Path.{refl}
-use Rattle.handover_records.proofs.Rows.{row-wrote, end-width}
+use Rattle.big_endian.proofs.Rows.{row-wrote}
+use Rattle.handover_records.proofs.RecordRows.{end-width}
 use Rattle.queue_model.specs.Image.{message-widths}
 use Rattle.handover_records.specs.Records.{messageRow}
 use lib.ListN.{drop}

@@ -1,7 +1,8 @@
 -- `handover_records::records::put_stream` meets its contract: each return is what its definition says, by what the calls ensure and the tests taken. Assumes nothing.
 use borrow.Author.Needs.{needs}
 use mathlib.Core.Path.{refl}
-use Rattle.handover_records.proofs.Rows.{row-wrote, stream-width}
+use Rattle.big_endian.proofs.Rows.{row-wrote}
+use Rattle.handover_records.proofs.RecordRows.{stream-width}
 use Rattle.queue_model.specs.Image.{stream-widths}
 use Rattle.handover_records.specs.Records.{streamRow}
 use Rattle.handover_records.proofs.records.put_stream.Statement.{statement}

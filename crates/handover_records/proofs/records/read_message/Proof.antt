@@ -1,7 +1,7 @@
 -- `handover_records::records::read_message` meets its contract: each return is what its definition says, by what the calls ensure and the tests taken. Assumes nothing.
 use borrow.Author.Needs.{needs}
 use mathlib.Core.Path.{sym}
-use Rattle.handover_records.proofs.Rows.{message-read}
+use Rattle.handover_records.proofs.RecordRows.{message-read}
 use Rattle.handover_records.proofs.records.read_message.Statement.{statement}
 use Rattle.handover_records.proofs.records.read_message.Tie as tie
 

@@ -1,7 +1,7 @@
 -- `handover_records::records::read_stream` meets its contract: each return is what its definition says, by what the calls ensure and the tests taken. Assumes nothing.
 use borrow.Author.Needs.{needs}
 use mathlib.Core.Path.{sym}
-use Rattle.handover_records.proofs.Rows.{stream-read}
+use Rattle.handover_records.proofs.RecordRows.{stream-read}
 use Rattle.handover_records.proofs.records.read_stream.Statement.{statement}
 use Rattle.handover_records.proofs.records.read_stream.Tie as tie
 

@@ -11,7 +11,7 @@ use lib.ListN.{length, take, drop, getD, set, length-append, length-drop}
 use lib.Seq.{length-take-le, drop-drop, take-add, take-at, drop-cons, set-split, drop-append-add}
 use Rattle.queue_model.specs.Bytes.{number-bytes, bytes-number}
 use Rattle.queue_model.proofs.Image.ByteRows.{length-number-bytes, read-written, written-read, and-l, and-r, and-intro}
-use Rattle.handover_records.specs.Numbers.{numberAt, wrote}
+use Rattle.big_endian.specs.Numbers.{numberAt, wrote}
 
 -- ------------------------------------------------------------------ reading
 

@@ -7,11 +7,9 @@ use native.Mathlib.Omega.{arith}
 use lib.ListN.{length, take, drop, length-append, take-append-drop}
 use lib.Seq.{drop-drop}
 use Rattle.queue_model.specs.Bytes.{number-bytes, bytes-number, row-bytes, bytes-row, width}
-use Rattle.queue_model.specs.Image.{stream-widths, message-widths, trailer-widths}
 use Rattle.queue_model.proofs.Image.ByteRows.{length-number-bytes}
-use Rattle.handover_records.specs.Numbers.{numberAt, wrote}
-use Rattle.handover_records.specs.Records.{streamAt, streamOf, messageAt, messageOf, trailerAt, trailerOf}
-use Rattle.handover_records.proofs.Halves.{wrote-length, wrote-twice}
+use Rattle.big_endian.specs.Numbers.{numberAt, wrote}
+use Rattle.big_endian.proofs.Halves.{wrote-length, wrote-twice}
 
 -- ------------------------------------------------------------------ reading
 
@@ -29,19 +27,6 @@ row-from bs at k (w ∷ ws) =
 
 pub row-at : (bs : List ℕ) (at : ℕ) (ws : List ℕ) → bytes-row ws (drop at bs) ≡ numbersAt bs at 0 ws
 row-at bs at ws = ap (λ (n : ℕ). bytes-row ws (drop n bs)) (sym (add-zero at)) ∙ row-from bs at 0 ws
-
--- the records, number by number
-pub stream-read : (bs : List ℕ) (at : ℕ) → streamAt bs at ≡ streamOf (numbersAt bs at 0 stream-widths)
-unfolding streamAt
-stream-read bs at = ap streamOf (row-at bs at stream-widths)
-
-pub message-read : (bs : List ℕ) (at : ℕ) → messageAt bs at ≡ messageOf (numbersAt bs at 0 message-widths)
-unfolding messageAt
-message-read bs at = ap messageOf (row-at bs at message-widths)
-
-pub trailer-read : (bs : List ℕ) (at : ℕ) → trailerAt bs at ≡ trailerOf (numbersAt bs at 0 trailer-widths)
-unfolding trailerAt
-trailer-read bs at = ap trailerOf (row-at bs at trailer-widths)
 
 -- ------------------------------------------------------------------ writing
 
@@ -95,25 +80,3 @@ rows-wrote b b1 b2 at k ws ns vs ms h i e r f g =
     let t : wrote (wrote b at (row-bytes ws ns)) (at + k) (row-bytes vs ms) ≡ wrote b at (row-bytes ws ns ++ row-bytes vs ms) =
     rw l at (wrote-twice b at (row-bytes ws ns) (row-bytes vs ms) (omega (arith, l, lv, r))) in
     rw (g, f, t, row-append ws ns vs ms h)
-
--- ------------------------------------------------------------------ the widths of the records
-
-pub stream-width : width stream-widths ≡ 14
-unfolding width
-stream-width = refl
-
-pub message-width : width message-widths ≡ 44
-unfolding width
-message-width = refl
-
-pub start-width : width (take 7 message-widths) ≡ 16
-unfolding width
-start-width = refl
-
-pub end-width : width (drop 7 message-widths) ≡ 28
-unfolding width
-end-width = refl
-
-pub trailer-width : width trailer-widths ≡ 20
-unfolding width
-trailer-width = refl

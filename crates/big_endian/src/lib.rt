@@ -3,39 +3,39 @@ ghost use mathlib.Core.Path.{_≡_};
 ghost use Prim.Native.Nat.{_+_, _≤_};
 ghost use lib.ListN.{length};
 ghost use Rattle.queue_model.specs.Bytes.{number-bytes};
-ghost use Rattle.handover_records.specs.Numbers.{numberAt, wrote};
+ghost use Rattle.big_endian.specs.Numbers.{numberAt, wrote};
 
-pub fn read_u8(image: &[u8], at: usize) -> u8
-    requires { ⌜ at + 1 ≤ length (now image) ⌝ }
-    ensures { λ r. ⌜ r ≡ numberAt (now (image .entry)) at 1 ⌝ }
+pub fn read_u8(bytes: &[u8], at: usize) -> u8
+    requires { ⌜ at + 1 ≤ length (now bytes) ⌝ }
+    ensures { λ r. ⌜ r ≡ numberAt (now (bytes .entry)) at 1 ⌝ }
 {
-    image[at]
+    bytes[at]
 }
 
-pub fn read_u16(image: &[u8], at: usize) -> u16
-    requires { ⌜ at + 2 ≤ length (now image) ⌝ }
-    ensures { λ r. ⌜ r ≡ numberAt (now (image .entry)) at 2 ⌝ }
+pub fn read_u16(bytes: &[u8], at: usize) -> u16
+    requires { ⌜ at + 2 ≤ length (now bytes) ⌝ }
+    ensures { λ r. ⌜ r ≡ numberAt (now (bytes .entry)) at 2 ⌝ }
 {
-    let high = read_u8(image, at) as u16;
-    let low = read_u8(image, at + 1) as u16;
+    let high = read_u8(bytes, at) as u16;
+    let low = read_u8(bytes, at + 1) as u16;
     high * 256 + low
 }
 
-pub fn read_u32(image: &[u8], at: usize) -> u32
-    requires { ⌜ at + 4 ≤ length (now image) ⌝ }
-    ensures { λ r. ⌜ r ≡ numberAt (now (image .entry)) at 4 ⌝ }
+pub fn read_u32(bytes: &[u8], at: usize) -> u32
+    requires { ⌜ at + 4 ≤ length (now bytes) ⌝ }
+    ensures { λ r. ⌜ r ≡ numberAt (now (bytes .entry)) at 4 ⌝ }
 {
-    let high = read_u16(image, at) as u32;
-    let low = read_u16(image, at + 2) as u32;
+    let high = read_u16(bytes, at) as u32;
+    let low = read_u16(bytes, at + 2) as u32;
     high * 65536 + low
 }
 
-pub fn read_u64(image: &[u8], at: usize) -> u64
-    requires { ⌜ at + 8 ≤ length (now image) ⌝ }
-    ensures { λ r. ⌜ r ≡ numberAt (now (image .entry)) at 8 ⌝ }
+pub fn read_u64(bytes: &[u8], at: usize) -> u64
+    requires { ⌜ at + 8 ≤ length (now bytes) ⌝ }
+    ensures { λ r. ⌜ r ≡ numberAt (now (bytes .entry)) at 8 ⌝ }
 {
-    let high = read_u32(image, at) as u64;
-    let low = read_u32(image, at + 4) as u64;
+    let high = read_u32(bytes, at) as u64;
+    let low = read_u32(bytes, at + 4) as u64;
     high * 4294967296 + low
 }
 

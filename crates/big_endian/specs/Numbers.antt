@@ -1,4 +1,4 @@
--- Numbers in an image: "Numbers are unsigned, high byte first." Assumes nothing.
+-- Numbers in bytes: "Numbers are unsigned, high byte first." Assumes nothing.
 use Prim.Native.Nat.{ℕ, _+_}
 use mathlib.Core.List.{List, _++_}
 use lib.ListN.{length, take, drop}

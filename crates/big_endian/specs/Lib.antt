@@ -1,0 +1,2 @@
+-- Numbers in bytes. Assumes nothing.
+pub mod Numbers
