@@ -5,7 +5,7 @@
 // suffice, a gap is searched (src/searching), and where none that is found has room, the payloads are first moved together, in
 // the order of their places (src/nearest). Every public function is total: words that no queue has get the answer 16, and
 // nothing is changed.
-mod copying;
+pub mod copying;
 mod gaps;
 mod nearest;
 mod searching;
