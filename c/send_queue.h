@@ -48,6 +48,11 @@ extern "C" {
 #define DSQ_MAX_TIME UINT64_C(4611686018427387903)
 /* The most streams that a wanted order names. */
 #define DSQ_MAX_PLANNED 32
+/* The longest payload that is written into a chunk, of either kind. */
+#define DSQ_MAX_CHUNK_PAYLOAD 65515
+
+/* So many bytes hold every chunk with a payload of this length: the longer header, and at most 3 bytes of padding. */
+#define DSQ_MAX_CHUNK(payload_length) ((size_t)23 + (payload_length))
 
 /* So many bytes hold every image of a queue with a store of this length: 20 and, at most, 256 records of 14 bytes, 1,024 of 44, and
  * the payloads. */
@@ -88,6 +93,12 @@ enum dsq_refusal {
     DSQ_IMAGE_LARGE = 15,
     /* The words are not those of a queue: somebody else wrote into them. From creation on no call of these functions leads to it. */
     DSQ_WORDS_BROKEN = 16,
+    /* The payload to write into a chunk is empty or above 65,515 bytes. */
+    DSQ_CHUNK_PAYLOAD_WRONG = 17,
+    /* The output is shorter than the padded chunk. */
+    DSQ_CHUNK_OUTPUT_SHORT = 18,
+    /* The bytes read are not one DATA or I-DATA chunk with payload and padding. */
+    DSQ_CHUNK_WRONG = 19,
     /* The wanted order is empty, has more than 32 ids or names one twice, or a size is outside 1 to 262,144, or ids and sizes differ in
      * count. */
     DSQ_ORDER_WRONG = 28,
@@ -97,7 +108,7 @@ enum dsq_refusal {
 
 /* The places of an out-array. An accepted call writes those that are named at it; the others stay. */
 enum dsq_out {
-    DSQ_OUT_VALUE = 0,  /* a question's answer; 1 for a fragment, 0 for none; an image's length; the count of ready ids */
+    DSQ_OUT_VALUE = 0,  /* a question's answer; 1 for a fragment, 0 for none; an image's or a chunk's length; the count of ready ids */
     DSQ_OUT_EVENTS = 1, /* how many events the call wrote, from the list's start on */
     /* What goes with a fragment. */
     DSQ_OUT_LENGTH = 2,               /* its bytes, at the buffer's start */
@@ -139,6 +150,19 @@ enum dsq_event {
 enum dsq_restart {
     DSQ_RESTART_DCSCTP = 0, /* as dcSCTP: it keeps its MID and SSN and counts its FSN on, whatever its stream counts from then on */
     DSQ_RESTART_STRICT = 1  /* as RFC 8260: it starts with FSN 0, and with a MID and SSN from its stream's counters, which are 0 then */
+};
+
+/* The kinds of chunks, and the places of a chunk-array. */
+enum dsq_chunk_kind {
+    DSQ_CHUNK_DATA = 0,  /* RFC 9260 */
+    DSQ_CHUNK_I_DATA = 1 /* RFC 8260 */
+};
+
+enum dsq_chunk {
+    DSQ_CHUNK_KIND = 0,
+    DSQ_CHUNK_TSN = 1,        /* 32 bits */
+    DSQ_CHUNK_PAYLOAD_AT = 2, /* where the payload begins in the bytes read; DSQ_OUT_LENGTH tells its length */
+    DSQ_CHUNK_WORDS = 3
 };
 
 /* What dsq_get_handover_readiness tells. */
@@ -223,6 +247,21 @@ uint8_t dsq_set_buffered_amount_low_threshold(uint64_t queue[DSQ_QUEUE_WORDS], u
  * priority is written for each id, in the same order; the other places stay. (1, 28, 29) */
 uint8_t dsq_plan_priorities(const uint16_t *ids, size_t ids_length, const uint64_t *sizes, size_t sizes_length,
                             uint16_t priorities[DSQ_MAX_PLANNED], uint64_t payload_limit);
+
+/* ---------------------------------------------------------------- chunks on the wire; no queue is looked at */
+
+/* Writes a fragment as a chunk to the output's start: header, payload, and zeros up to a multiple of 4 bytes; the rest of the output
+ * stays. kind: of enum dsq_chunk_kind; as with a flag, anything but 0 is DSQ_CHUNK_I_DATA. A DATA chunk carries ssn and ppid, an I-DATA
+ * chunk mid, and ppid on a first fragment, fsn on others. Tells VALUE, the bytes written, padding included. (17, 18) */
+uint8_t dsq_write_chunk(uint8_t *output, size_t output_length, const uint8_t *payload, size_t payload_length,
+                        uint64_t out[DSQ_OUT_WORDS], uint8_t kind, uint32_t tsn, uint16_t stream_id, uint8_t unordered, uint16_t ssn,
+                        uint32_t mid, uint32_t fsn, uint32_t ppid, uint8_t first, uint8_t last);
+
+/* Reads the chunk that the bytes are, with its padding, of any value, and nothing behind it. Flags other than the three marks and the
+ * reserved bits are not looked at. Nothing is copied: the payload is LENGTH bytes of `bytes` from chunk[DSQ_CHUNK_PAYLOAD_AT] on. Tells
+ * all that goes with a fragment, what the chunk does not carry as 0 (EXPIRES 1, EXPIRES_AT 0); VALUE 1, EVENTS 0; and the places of the
+ * chunk-array. (19) */
+uint8_t dsq_read_chunk(const uint8_t *bytes, size_t bytes_length, uint64_t out[DSQ_OUT_WORDS], uint64_t chunk[DSQ_CHUNK_WORDS]);
 
 /* ---------------------------------------------------------------- questions; they change nothing */
 

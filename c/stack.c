@@ -1,6 +1,6 @@
 /* Measures the stack of the deepest call: 1,024 expired messages that one dsq_produce passes over; then of 128 and of 17 of them, as many as
- * its longest log and the one before have room for, and of one. Then that of adding and of sending the largest payload, which is copied through a block that the compiler must leave out. Each
- * call runs on a thread whose stack was painted before; what is no longer painted was used. */
+ * its longest log and the one before have room for, and of one. Then that of adding and of sending the largest payload, and of writing the longest chunk, which are copied through a block that the
+ * compiler must leave out. Each call runs on a thread whose stack was painted before; what is no longer painted was used. */
 #define _POSIX_C_SOURCE 200809L
 #include "send_queue.h"
 
@@ -19,7 +19,7 @@
 #define MANY 128
 #define FEW 17
 
-enum call { NOTHING, PASS_ALL, PASS_MANY, PASS_FEW, PASS_ONE, ADD, SEND };
+enum call { NOTHING, PASS_ALL, PASS_MANY, PASS_FEW, PASS_ONE, ADD, SEND, WRITE_CHUNK };
 
 static uint64_t queue[DSQ_QUEUE_WORDS], events[DSQ_EVENT_WORDS], out[DSQ_OUT_WORDS];
 static uint8_t store[STORE], buffer[DSQ_MAX_PAYLOAD], payload[DSQ_MAX_PAYLOAD];
@@ -32,6 +32,11 @@ static int add(size_t length, uint16_t stream, uint8_t has_lifetime, uint64_t li
 static int produce(uint64_t time, uint64_t value, uint64_t count) {
     return dsq_produce(queue, store, STORE, events, DSQ_EVENT_WORDS, buffer, sizeof buffer, out, time, sizeof buffer) == 0 && out[DSQ_OUT_VALUE] == value
            && out[DSQ_OUT_EVENTS] == count;
+}
+
+static int write_chunk(void) {
+    return dsq_write_chunk(buffer, sizeof buffer, payload, DSQ_MAX_CHUNK_PAYLOAD, out, DSQ_CHUNK_I_DATA, 1, 2, 0, 0, 3, 4, 53, 1, 1) == 0
+           && out[DSQ_OUT_VALUE] == 65536;
 }
 
 static void *run(void *unused) {
@@ -49,6 +54,8 @@ static void *run(void *unused) {
         done = add(DSQ_MAX_PAYLOAD, 0, 0, 0);
     if (call == SEND)
         done = produce(10000000, 1, 2);
+    if (call == WRITE_CHUNK)
+        done = write_chunk();
     if (!done) {
         fprintf(stderr, "stack: call %d did not do its work\n", (int)call);
         exit(1);
@@ -79,7 +86,7 @@ static size_t used(enum call which) {
 }
 
 int main(void) {
-    size_t without, all, many, few, one, adding, sending;
+    size_t without, all, many, few, one, adding, sending, writing;
     unsigned i;
     if (dsq_create(queue, store, STORE, 1200, 256, 0, 0, 1, DSQ_RESTART_DCSCTP) != 0)
         return 1;
@@ -101,14 +108,16 @@ int main(void) {
     one = used(PASS_ONE) - without;
     adding = used(ADD) - without;
     sending = used(SEND) - without;
+    writing = used(WRITE_CHUNK) - without;
     printf("stack: %lu KB for 1,024 expired messages in one call, %lu bytes for %d, %lu for %d, %lu for one\n", (unsigned long)((all + 1023) / 1024), (unsigned long)many, MANY, (unsigned long)few, FEW,
            (unsigned long)one);
-    printf("stack: %lu bytes to add 262,144 bytes, %lu to send them\n", (unsigned long)adding, (unsigned long)sending);
+    printf("stack: %lu bytes to add 262,144 bytes, %lu to send them, %lu to write the longest chunk\n", (unsigned long)adding, (unsigned long)sending,
+           (unsigned long)writing);
     if (all > DEEP || many > LONGEST || few > LOGGED || one > LOGGED) {
         fprintf(stderr, "stack: more than the header promises\n");
         return 1;
     }
-    if (adding > SHALLOW || sending > SHALLOW) {
+    if (adding > SHALLOW || sending > SHALLOW || writing > SHALLOW) {
         fprintf(stderr, "stack: the block is on the stack\n");
         return 1;
     }

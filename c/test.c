@@ -1265,6 +1265,172 @@ static void damaged_words(void)
     give_back(h);
 }
 
+/* ---------------------------------------------------------------- chunks on the wire */
+
+/* A fragment to write with all that is lent for it; every byte of the output is 165 before. */
+struct wire {
+    uint8_t *output;
+    size_t output_length;
+    uint8_t *payload;
+    size_t payload_length;
+    uint64_t *out;
+    uint64_t *chunk;
+    uint8_t first;
+};
+
+static struct wire *wired(size_t output_length, size_t payload_length)
+{
+    struct wire *w = allocate(sizeof *w, 0);
+    size_t i;
+    w->output = allocate(output_length, 165);
+    w->output_length = output_length;
+    w->payload = allocate(payload_length, 0);
+    w->payload_length = payload_length;
+    for (i = 0; i < payload_length; i++)
+        w->payload[i] = (uint8_t)(i * 7 + 1);
+    w->out = allocate(DSQ_OUT_WORDS * sizeof *w->out, 0x0A);
+    w->chunk = allocate(DSQ_CHUNK_WORDS * sizeof *w->chunk, 0x0C);
+    w->first = 1;
+    return w;
+}
+
+static void unwire(struct wire *w)
+{
+    free(w->output);
+    free(w->payload);
+    free(w->out);
+    free(w->chunk);
+    free(w);
+}
+
+static uint8_t write_chunk(struct wire *w, uint8_t kind)
+{
+    return dsq_write_chunk(w->output, w->output_length, w->payload, w->payload_length, w->out, kind, 0xFFFEFDFC, 0x0102, 7, 0x0304,
+                           0x05060708, 0x090A0B0C, 0x0D0E0F10, w->first, 0);
+}
+
+/* Whether the output is 165 from a place on. */
+static int unwritten(const struct wire *w, size_t from)
+{
+    size_t i;
+    for (i = from; i < w->output_length; i++)
+        if (w->output[i] != 165)
+            return 0;
+    return 1;
+}
+
+/* Whether each word is as it was lent. */
+static int untold(const uint64_t *words, size_t n, int mark)
+{
+    uint64_t lent;
+    size_t i;
+    memset(&lent, mark, sizeof lent);
+    for (i = 0; i < n; i++)
+        if (words[i] != lent)
+            return 0;
+    return 1;
+}
+
+/* The call is refused with this number, and nothing is written. */
+static void no_chunk(uint8_t number, size_t room, uint8_t kind, size_t payload_length)
+{
+    struct wire *w = wired(room, payload_length);
+    CHECK(write_chunk(w, kind) == number);
+    CHECK(unwritten(w, 0) && untold(w->out, DSQ_OUT_WORDS, 0x0A));
+    unwire(w);
+}
+
+static void no_read(const uint8_t *bytes, size_t n)
+{
+    struct wire *w = wired(1, 0);
+    uint8_t *exact = allocate(n, 0);
+    if (n)
+        memcpy(exact, bytes, n);
+    CHECK(dsq_read_chunk(exact, n, w->out, w->chunk) == DSQ_CHUNK_WRONG);
+    CHECK(untold(w->out, DSQ_OUT_WORDS, 0x0A) && untold(w->chunk, DSQ_CHUNK_WORDS, 0x0C));
+    free(exact);
+    unwire(w);
+}
+
+/* Writes a chunk, reads it and compares all that is told. */
+static void there_and_back(uint8_t kind, size_t payload_length, uint8_t first)
+{
+    int i_data = kind != DSQ_CHUNK_DATA;
+    size_t header = i_data ? 20 : 16, length = (header + payload_length + 3) / 4 * 4;
+    struct wire *w = wired(length + 5, payload_length);
+    uint8_t *bytes;
+    w->first = first;
+    CHECK(write_chunk(w, kind) == DSQ_ACCEPTED);
+    CHECK(w->out[DSQ_OUT_VALUE] == length && untold(w->out + 1, DSQ_OUT_WORDS - 1, 0x0A));
+    CHECK(unwritten(w, length));
+    bytes = allocate(length, 0);
+    memcpy(bytes, w->output, length);
+    CHECK(dsq_read_chunk(bytes, length, w->out, w->chunk) == DSQ_ACCEPTED);
+    CHECK(w->chunk[DSQ_CHUNK_KIND] == (i_data ? DSQ_CHUNK_I_DATA : DSQ_CHUNK_DATA));
+    CHECK(w->chunk[DSQ_CHUNK_TSN] == 0xFFFEFDFC && w->chunk[DSQ_CHUNK_PAYLOAD_AT] == header);
+    CHECK(w->out[DSQ_OUT_VALUE] == 1 && w->out[DSQ_OUT_EVENTS] == 0 && w->out[DSQ_OUT_LENGTH] == payload_length);
+    CHECK(w->out[DSQ_OUT_MESSAGE_ID] == 0 && w->out[DSQ_OUT_STREAM_ID] == 0x0102 && w->out[DSQ_OUT_UNORDERED] == 1);
+    CHECK(w->out[DSQ_OUT_SSN] == (i_data ? 0 : 0x0304) && w->out[DSQ_OUT_MID] == (i_data ? 0x05060708 : 0));
+    CHECK(w->out[DSQ_OUT_FSN] == (i_data && !first ? 0x090A0B0C : 0));
+    CHECK(w->out[DSQ_OUT_PPID] == (i_data && !first ? 0 : 0x0D0E0F10));
+    CHECK(w->out[DSQ_OUT_FIRST] == (first ? 1 : 0) && w->out[DSQ_OUT_LAST] == 0);
+    CHECK(w->out[DSQ_OUT_MAX_RETRANSMISSIONS] == 0 && w->out[DSQ_OUT_LIFECYCLE_ID] == 0);
+    CHECK(w->out[DSQ_OUT_EXPIRES] == 1 && w->out[DSQ_OUT_EXPIRES_AT] == 0);
+    CHECK(memcmp(bytes + header, w->payload, payload_length) == 0);
+    free(bytes);
+    unwire(w);
+}
+
+static void chunks(void)
+{
+    static const uint8_t written[] = {0x40, 0x06, 0x00, 0x16, 0xFF, 0xFE, 0xFD, 0xFC, 0x01, 0x02, 0x00, 0x00,
+                                      0x05, 0x06, 0x07, 0x08, 0x0D, 0x0E, 0x0F, 0x10, 0x01, 0x08, 0x00, 0x00};
+    static const size_t lengths[] = {1, 2, 3, 4, 5, 1200, DSQ_MAX_CHUNK_PAYLOAD};
+    struct wire *w = wired(sizeof written, 2);
+    size_t i;
+    CHECK(write_chunk(w, DSQ_CHUNK_I_DATA) == DSQ_ACCEPTED && memcmp(w->output, written, sizeof written) == 0);
+    CHECK(DSQ_MAX_CHUNK(2) >= sizeof written);
+    unwire(w);
+    for (i = 0; i < sizeof lengths / sizeof *lengths; i++) {
+        there_and_back(DSQ_CHUNK_DATA, lengths[i], 1);
+        there_and_back(DSQ_CHUNK_DATA, lengths[i], 0);
+        there_and_back(DSQ_CHUNK_I_DATA, lengths[i], 200);
+        there_and_back(255, lengths[i], 0);
+    }
+}
+
+static void chunk_refusals(void)
+{
+    uint8_t bytes[32] = {0, 3, 0, 17};
+    size_t n;
+
+    /* 17, before 18 */
+    no_chunk(DSQ_CHUNK_PAYLOAD_WRONG, 100, DSQ_CHUNK_DATA, 0);
+    no_chunk(DSQ_CHUNK_PAYLOAD_WRONG, 0, DSQ_CHUNK_I_DATA, 0);
+    no_chunk(DSQ_CHUNK_PAYLOAD_WRONG, 70000, DSQ_CHUNK_DATA, DSQ_MAX_CHUNK_PAYLOAD + 1);
+    no_chunk(DSQ_CHUNK_PAYLOAD_WRONG, 0, DSQ_CHUNK_I_DATA, DSQ_MAX_CHUNK_PAYLOAD + 1);
+
+    /* 18, with the padding */
+    no_chunk(DSQ_CHUNK_OUTPUT_SHORT, 0, DSQ_CHUNK_DATA, 1);
+    no_chunk(DSQ_CHUNK_OUTPUT_SHORT, 19, DSQ_CHUNK_DATA, 1);
+    no_chunk(DSQ_CHUNK_OUTPUT_SHORT, 23, DSQ_CHUNK_I_DATA, 3);
+    no_chunk(DSQ_CHUNK_OUTPUT_SHORT, 65535, DSQ_CHUNK_I_DATA, DSQ_MAX_CHUNK_PAYLOAD);
+
+    /* 19: a chunk of 20 bytes cut anywhere or with more behind it; another type; a header alone */
+    for (n = 0; n < 20; n++)
+        no_read(bytes, n);
+    for (n = 21; n <= sizeof bytes; n++)
+        no_read(bytes, n);
+    bytes[0] = 64;
+    no_read(bytes, 20);
+    bytes[0] = 1;
+    no_read(bytes, 20);
+    bytes[0] = 0;
+    bytes[3] = 16;
+    no_read(bytes, 16);
+    no_read(bytes, 20);
+}
+
 int main(void)
 {
     layout();
@@ -1278,6 +1444,8 @@ int main(void)
     refusals();
     planning();
     planning_refusals();
+    chunks();
+    chunk_refusals();
     broken_words();
     damaged_words();
     if (failed) {

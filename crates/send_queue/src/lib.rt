@@ -31,6 +31,13 @@ pub use linked_streams::set_priority;
 pub use priority_plan::MAX_PLANNED;
 pub use priority_plan::PlannedPriorities;
 pub use priority_plan::plan_priorities;
+// Chunks on the wire.
+pub use chunks::Chunk;
+pub use chunks::ChunkKind;
+pub use chunks::ChunkRead;
+pub use chunks::ChunkWritten;
+pub use chunks::read_chunk;
+pub use chunks::write_chunk;
 // The questions.
 pub use linked_streams::buffered_amount;
 pub use linked_streams::buffered_amount_low_threshold;

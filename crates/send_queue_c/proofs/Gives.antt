@@ -14,10 +14,16 @@ use Rattle.queue_sending.specs.Data.{ProducedWith, producedWith}
 use Rattle.queue_sending.specs.declared.data.Produced.{Produced}
 use Rattle.saving.specs.Save.{SavedAs, savedAs}
 use Rattle.saving.specs.declared.image.Saved.{Saved}
+use Rattle.chunks.specs.Writing.{outcome, writeChunk}
+use Rattle.chunks.specs.declared.chunk.ChunkKind.{ChunkKind}
+use Rattle.queue_sending.specs.declared.data.DataToSend.{DataToSend}
+use Rattle.chunks.specs.declared.chunk.ChunkRead.{ChunkRead}
+use Rattle.chunks.specs.declared.chunk.ChunkWritten.{ChunkWritten}
 use Rattle.queue_streams.specs.Answers.{callNumber, numberNumber, flagNumber}
 use Rattle.queue_sending.specs.Data.{producedNumber}
 use Rattle.send_queue_c.specs.Numbers.{callOut, numberOut, flagOut, producedOut, readyNumber, readyIds, readyOut, plannedPlaces, savedNumber, savedOut}
-use Rattle.send_queue_c.specs.Given.{Gives, GivesEvents, GivesStore, GivesFragment, GivesIds, GivesPriorities, GivesNumber, GivesFlag, GivesImage}
+use Rattle.send_queue_c.specs.Chunks.{writtenNumber, writtenOut, readNumber, readOut, readPlaces}
+use Rattle.send_queue_c.specs.Given.{Gives, GivesEvents, GivesStore, GivesFragment, GivesIds, GivesPriorities, GivesWritten, GivesRead, GivesNumber, GivesFlag, GivesImage}
 
 pub gives : (d : Called) (c : Call) (r : ℕ) (ws′ : List ℕ) → called c ws′ ≡ d → r ≡ callNumber c → Gives d r ws′
 gives d c r ws′ e n = rw (← e) (record { number = n; queue = refl })
@@ -45,3 +51,11 @@ gives-image d s out r b′ out′ e t = rw (← e) (record { number = t .0; imag
 
 pub gives-priorities : (d a : PlannedPriorities) (places : List ℕ) (r : ℕ) (places′ : List ℕ) → a ≡ d → (r ≡ callNumber (a .answer)) × (places′ ≡ plannedPlaces places a) → GivesPriorities d places r places′
 gives-priorities d a places r places′ e t = rw (← e) (record { number = t .0; priorities = t .1 })
+
+-- the kind and the fragment are those that the numbers stand for
+pub gives-written : (bs : List ℕ) (k k′ : ChunkKind) (tsn : ℕ) (f f′ : DataToSend) (p : List ℕ) (a : ChunkWritten) (out : List ℕ) (r : ℕ) (bs′ out′ : List ℕ) → outcome a bs′ ≡ writeChunk bs k tsn f p → k ≡ k′ → f ≡ f′
+    → (r ≡ writtenNumber a) × (out′ ≡ writtenOut out a) → GivesWritten (writeChunk bs k′ tsn f′ p) out r bs′ out′
+gives-written bs k k′ tsn f f′ p a out r bs′ out′ e ek ef t = rw (← ek, ← ef, ← e) (record { number = t .0; output = refl; places = t .1 })
+
+pub gives-read : (d a : ChunkRead) (out chunk : List ℕ) (r : ℕ) (out′ chunk′ : List ℕ) → a ≡ d → (r ≡ readNumber a) × (out′ ≡ readOut out a) × (chunk′ ≡ readPlaces chunk a) → GivesRead d out chunk r out′ chunk′
+gives-read d a out chunk r out′ chunk′ e t = rw (← e) (record { number = t .0; fragment = t .1; places = t .2 })

@@ -10,9 +10,12 @@ use Rattle.priority_plan.specs.declared.plan.PlannedPriorities.{PlannedPrioriti
 use Rattle.queue_restarts.specs.Ready.{Readied}
 use Rattle.queue_sending.specs.Data.{ProducedWith}
 use Rattle.saving.specs.Save.{SavedAs}
+use Rattle.chunks.specs.Writing.{Outcome}
+use Rattle.chunks.specs.declared.chunk.ChunkRead.{ChunkRead}
 use Rattle.queue_streams.specs.Answers.{callNumber, numberNumber, flagNumber}
 use Rattle.queue_sending.specs.Data.{producedNumber}
 use Rattle.send_queue_c.specs.Numbers.{callOut, numberOut, flagOut, producedOut, readyNumber, readyIds, readyOut, plannedPlaces, savedNumber, savedOut}
+use Rattle.send_queue_c.specs.Chunks.{writtenNumber, writtenOut, readNumber, readOut, readPlaces}
 
 -- A call that changes the words alone.
 pub record Gives (d : Called) (r : ℕ) (ws′ : List ℕ) : Type 0 where
@@ -51,6 +54,17 @@ pub record GivesIds (d : Readied) (ids out : List ℕ) (r : ℕ) (ws′ ids′ o
 pub record GivesPriorities (d : PlannedPriorities) (places : List ℕ) (r : ℕ) (places′ : List ℕ) : Type 0 where
   pub number : r ≡ callNumber (d .answer)
   pub priorities : places′ ≡ plannedPlaces places d
+
+-- A chunk written, and one read.
+pub record GivesWritten (d : Outcome) (out : List ℕ) (r : ℕ) (bs′ out′ : List ℕ) : Type 0 where
+  pub number : r ≡ writtenNumber (d .answer)
+  pub output : bs′ ≡ d .output
+  pub places : out′ ≡ writtenOut out (d .answer)
+
+pub record GivesRead (d : ChunkRead) (out chunk : List ℕ) (r : ℕ) (out′ chunk′ : List ℕ) : Type 0 where
+  pub number : r ≡ readNumber d
+  pub fragment : out′ ≡ readOut out d
+  pub places : chunk′ ≡ readPlaces chunk d
 
 -- A question for a number, and one for yes or no.
 pub record GivesNumber (d : Number) (out : List ℕ) (r : ℕ) (out′ : List ℕ) : Type 0 where

@@ -9,3 +9,4 @@ pub mod planning;
 pub mod questions;
 pub mod sending;
 pub mod streams;
+pub mod wire;

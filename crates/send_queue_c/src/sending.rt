@@ -46,7 +46,7 @@ fn expiry_time(e: Expiry) -> u64
 }
 
 // What goes with a fragment.
-fn show(out: &mut [u64; OUT_WORDS], k: usize, d: DataToSend)
+pub fn show(out: &mut [u64; OUT_WORDS], k: usize, d: DataToSend)
     ensures { λ _. ⌜ now (out .exit) ≡ shown (now (out .entry)) k d ⌝ }
 {
     let e = d.expires_at;
