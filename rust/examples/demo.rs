@@ -2,8 +2,8 @@
 //!
 //! First the heads get their first packets in a wanted order, a closed head whose half-sent profile runs out of time is ready at once, a
 //! queue without interleaving is carried to a second host in the middle of a profile, and a head restarts in the middle of one. Then comes the job: the heads' backlogs run low and
-//! are topped up, a head's job is closed in the middle of a profile, and half-way the queue is carried to a second host as an image. At the
-//! end every profile is compared byte for byte with what was queued.
+//! are topped up, a head's job is closed in the middle of a profile, and half-way the queue is carried to a second host as an image. Every
+//! fragment goes over the wire as a chunk, and the heads read chunks. At the end every profile is compared byte for byte with what was queued.
 
 use desqariy::*;
 use std::collections::BTreeMap;
@@ -12,6 +12,8 @@ use std::time::Duration;
 
 const STREAMS: std::ops::RangeInclusive<u16> = 1..=8;
 const PACKET: usize = 1_200;
+/// The longest chunk: the header of an I-DATA chunk and a packet's payload.
+const CHUNK: usize = 20 + PACKET;
 const MARK: usize = 3_000;
 /// So many packets are shown.
 const SHOWN: u64 = 10;
@@ -32,14 +34,24 @@ fn number(stream: u16, place: u64) -> u64 {
     u64::from(stream) * 100 + place
 }
 
-/// The other end: puts fragments together again.
+/// The other end: reads chunks and puts their fragments together again.
 #[derive(Default)]
 struct Receiver {
+    next: Tsn,
     open: BTreeMap<(StreamKey, u32), (Fsn, Vec<u8>)>,
     whole: Vec<(StreamId, Vec<u8>)>,
 }
 
 impl Receiver {
+    fn read(&mut self, bytes: &[u8]) -> Outcome<()> {
+        let chunk = read_chunk(bytes)?;
+        if chunk.tsn != self.next {
+            return Err(format!("chunk {} comes where {} should", chunk.tsn, self.next).into());
+        }
+        self.next = chunk.tsn.add_to(1);
+        self.take(&chunk.fragment)
+    }
+
     fn take(&mut self, d: &DataToSend) -> Outcome<()> {
         let key = (d.data.stream_key, d.data.mid.0);
         if d.data.is_beginning && self.open.insert(key, (d.data.fsn, Vec::new())).is_some() {
@@ -65,6 +77,7 @@ struct Feeder {
     link: Receiver,
     now: SocketTime,
     fragments: u64,
+    tsn: Tsn,
     /// A head's next profile, which waits outside the queue until the head's backlog is low.
     next: BTreeMap<StreamId, u64>,
     queued: Vec<u64>,
@@ -83,17 +96,19 @@ impl Feeder {
 
     /// Sends packets, at most so many; how many there were.
     fn send(&mut self, packets: usize) -> Outcome<usize> {
-        let mut packet = [0; PACKET];
+        let (mut packet, mut chunk) = ([0; PACKET], [0; CHUNK]);
         for sent in 0..packets {
             self.now = self.now + Duration::from_micros(100);
             let fragment = self.queue.produce_into(self.now, &mut packet)?;
             if let Some(d) = &fragment {
-                self.link.take(d)?;
+                let n = write_chunk(&mut chunk, ChunkKind::IData, self.tsn, &d.data)?;
+                self.link.read(&chunk[..n])?;
+                self.tsn = self.tsn.add_to(1);
                 self.fragments += 1;
                 if self.fragments <= SHOWN {
                     let (stream, data) = (d.data.stream_key.id(), &d.data);
                     println!(
-                        "  packet {}: head {stream}, fragment {}, {} bytes",
+                        "  packet {}: head {stream}, fragment {}, {} bytes; an I-DATA chunk of {n}",
                         self.fragments,
                         data.fsn,
                         data.payload.len()
@@ -261,6 +276,7 @@ fn main() -> Outcome<()> {
         link: Receiver::default(),
         now: SocketTime::zero(),
         fragments: 0,
+        tsn: Tsn(0),
         next: STREAMS.map(|stream| (StreamId(stream), number(stream, 4))).collect(),
         queued: Vec::new(),
         dropped: Vec::new(),

@@ -7,6 +7,10 @@
 //! inside its buffers only (that is proved), keeps no pointer and has no state of its own. It never unwinds. With too little stack the process
 //! ends at the guard page: large frames touch their pages in order.
 
+use crate::chunk::ChunkKind;
+use crate::fragment::Data;
+use crate::ids::Tsn;
+use crate::limits::CHUNK_WORDS;
 use crate::limits::EVENT_WORDS;
 use crate::limits::MAX_PLANNED;
 use crate::limits::MAX_STREAMS;
@@ -24,6 +28,8 @@ pub(crate) type Out = [u64; OUT_WORDS];
 pub(crate) type ReadyIds = [u16; MAX_STREAMS];
 /// Room for the priorities of a wanted order.
 pub(crate) type Priorities = [u16; MAX_PLANNED];
+/// What goes with a chunk read: 0 its kind, 1 its TSN, 2 where its payload begins.
+pub(crate) type ChunkWords = [u64; CHUNK_WORDS];
 
 mod c {
     unsafe extern "C" {
@@ -100,6 +106,24 @@ mod c {
             priorities: *mut u16,
             payload_limit: u64,
         ) -> u8;
+        pub fn dsq_write_chunk(
+            output: *mut u8,
+            output_length: usize,
+            payload: *const u8,
+            payload_length: usize,
+            out: *mut u64,
+            kind: u8,
+            tsn: u32,
+            stream_id: u16,
+            unordered: u8,
+            ssn: u16,
+            mid: u32,
+            fsn: u32,
+            ppid: u32,
+            first: u8,
+            last: u8,
+        ) -> u8;
+        pub fn dsq_read_chunk(bytes: *const u8, bytes_length: usize, out: *mut u64, chunk: *mut u64) -> u8;
         pub fn dsq_get_streams_ready_to_reset(queue: *mut u64, ids: *mut u16, out: *mut u64) -> u8;
         pub fn dsq_commit_reset_streams(queue: *mut u64) -> u8;
         pub fn dsq_rollback_reset_streams(queue: *mut u64) -> u8;
@@ -275,6 +299,34 @@ pub(crate) fn plan_priorities(ids: &[u16], sizes: &[u64], priorities: &mut Prior
             payload_limit,
         )
     }
+}
+
+pub(crate) fn write_chunk(output: &mut [u8], out: &mut Out, kind: ChunkKind, tsn: Tsn, data: &Data<'_>) -> u8 {
+    // SAFETY: all three are references, the bytes' lengths are their own; the payload is only read.
+    unsafe {
+        c::dsq_write_chunk(
+            output.as_mut_ptr(),
+            output.len(),
+            data.payload.as_ptr(),
+            data.payload.len(),
+            out.as_mut_ptr(),
+            kind as u8,
+            tsn.0,
+            data.stream_key.id().0,
+            data.stream_key.is_unordered().into(),
+            data.ssn.0,
+            data.mid.0,
+            data.fsn.0,
+            data.ppid.0,
+            data.is_beginning.into(),
+            data.is_end.into(),
+        )
+    }
+}
+
+pub(crate) fn read_chunk(bytes: &[u8], out: &mut Out, chunk: &mut ChunkWords) -> u8 {
+    // SAFETY: all three are references, the bytes' length is their own and they are only read.
+    unsafe { c::dsq_read_chunk(bytes.as_ptr(), bytes.len(), out.as_mut_ptr(), chunk.as_mut_ptr()) }
 }
 
 pub(crate) fn get_streams_ready_to_reset(queue: &mut Words, ids: &mut ReadyIds, out: &mut Out) -> u8 {

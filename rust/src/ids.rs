@@ -38,6 +38,7 @@ macro_rules! counter {
 counter!(Ssn, u16, "Stream sequence number.");
 counter!(Mid, u32, "Message identifier (RFC 8260).");
 counter!(Fsn, u32, "Fragment sequence number (RFC 8260).");
+counter!(Tsn, u32, "Transmission sequence number, which the association gives a chunk.");
 counter!(OutgoingMessageId, u32, "The queue's own number of a message: 0 for the first, then one more for each.");
 
 /// Stream identifier.

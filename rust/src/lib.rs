@@ -2,6 +2,7 @@
 #![deny(unsafe_code)]
 #![deny(missing_docs)]
 
+mod chunk;
 mod event;
 #[allow(unsafe_code)]
 mod ffi;
@@ -19,6 +20,10 @@ mod refusal;
 mod streams;
 mod time;
 
+pub use chunk::Chunk;
+pub use chunk::ChunkKind;
+pub use chunk::read_chunk;
+pub use chunk::write_chunk;
 pub use event::Event;
 pub use event::Events;
 pub use fragment::Data;
@@ -30,6 +35,8 @@ pub use ids::PpId;
 pub use ids::Ssn;
 pub use ids::StreamId;
 pub use ids::StreamKey;
+pub use ids::Tsn;
+pub use limits::MAX_CHUNK_PAYLOAD;
 pub use limits::MAX_MESSAGES;
 pub use limits::MAX_PAYLOAD;
 pub use limits::MAX_PAYLOAD_LIMIT;

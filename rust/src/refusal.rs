@@ -42,6 +42,12 @@ pub enum Refusal {
     ImageLarge = 15,
     /// The queue's words are not those of a queue. Proved never to happen to one that only its own calls have changed.
     WordsBroken = 16,
+    /// The payload to write into a chunk is empty or above 65,515 bytes.
+    ChunkPayloadWrong = 17,
+    /// The output is shorter than the padded chunk.
+    ChunkOutputShort = 18,
+    /// The bytes read are not one DATA or I-DATA chunk with payload and padding.
+    ChunkWrong = 19,
     /// The wanted order is empty, has more than 32 ids or names one twice, or a size is outside 1 to 262,144, or ids and sizes differ in
     /// count.
     OrderWrong = 28,
@@ -50,7 +56,7 @@ pub enum Refusal {
 }
 
 impl Refusal {
-    const ALL: [Self; 18] = [
+    const ALL: [Self; 21] = [
         Self::PayloadLimitWrong,
         Self::StoreWrong,
         Self::EventListShort,
@@ -67,11 +73,14 @@ impl Refusal {
         Self::PriorityOther,
         Self::ImageLarge,
         Self::WordsBroken,
+        Self::ChunkPayloadWrong,
+        Self::ChunkOutputShort,
+        Self::ChunkWrong,
         Self::OrderWrong,
         Self::OrderImpossible,
     ];
 
-    /// Its number: 1 to 16, 28 or 29.
+    /// Its number: 1 to 19, 28 or 29.
     pub fn number(self) -> u8 {
         self as u8
     }
@@ -110,6 +119,9 @@ impl fmt::Display for Refusal {
                 "the image, with the streams that only messages name, passes 256 streams, 1,024 messages or the store"
             }
             Self::WordsBroken => "the words are not those of a queue",
+            Self::ChunkPayloadWrong => "the payload to write into a chunk is empty or above 65,515 bytes",
+            Self::ChunkOutputShort => "the output is shorter than the padded chunk",
+            Self::ChunkWrong => "the bytes read are not one DATA or I-DATA chunk with payload and padding",
             Self::OrderWrong => {
                 "the wanted order is empty, has more than 32 ids or names one twice, or a size is outside 1 to 262,144, or ids and \
                  sizes differ in count"

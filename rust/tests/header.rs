@@ -99,7 +99,7 @@ fn of_parameter(name: &str, kind: &str, list: &mut Vec<String>) {
 
 fn of_source() -> Functions {
     let mut functions = Functions::new();
-    for file in ["images", "layout", "messages", "planning", "questions", "sending", "streams"] {
+    for file in ["images", "layout", "messages", "planning", "questions", "sending", "streams", "wire"] {
         for part in text(&format!("../crates/send_queue_c/src/{file}.rt")).split("pub extern \"C\" fn ").skip(1) {
             let (name, rest) = part.split_once('(').unwrap();
             let (parameters, rest) = rest.split_once(") -> ").unwrap();
@@ -138,6 +138,9 @@ fn the_lengths_and_places_are_the_proved_ones() {
     let places = text("../crates/send_queue_c/src/numbers.rt");
     let lists = text("../crates/priority_plan/src/lists.rt");
     let layout = text("../crates/send_queue_c/src/layout.rt");
+    let wire = text("../crates/send_queue_c/src/wire.rt");
+    let writing = text("../crates/chunks/src/writing.rt");
+    let kinds = text("src/chunk.rs");
     for (define, source, constant) in [
         ("#define DSQ_LAYOUT", &layout, "const LAYOUT: u64"),
         ("#define DSQ_LAYOUT", &limits, "const LAYOUT: u64"),
@@ -153,6 +156,15 @@ fn the_lengths_and_places_are_the_proved_ones() {
         ("DSQ_OUT_WORDS =", &limits, "const OUT_WORDS: usize"),
         ("#define DSQ_MAX_PLANNED", &lists, "const MAX_PLANNED: usize"),
         ("#define DSQ_MAX_PLANNED", &limits, "const MAX_PLANNED: usize"),
+        ("DSQ_CHUNK_WORDS =", &wire, "const CHUNK_WORDS: usize"),
+        ("DSQ_CHUNK_WORDS =", &limits, "const CHUNK_WORDS: usize"),
+        ("DSQ_CHUNK_KIND =", &wire, "const KIND: usize"),
+        ("DSQ_CHUNK_TSN =", &wire, "const TSN: usize"),
+        ("DSQ_CHUNK_PAYLOAD_AT =", &wire, "const PAYLOAD_AT: usize"),
+        ("#define DSQ_MAX_CHUNK_PAYLOAD", &writing, "const MAX_WRITTEN: usize"),
+        ("#define DSQ_MAX_CHUNK_PAYLOAD", &limits, "const MAX_CHUNK_PAYLOAD: usize"),
+        ("DSQ_CHUNK_DATA =", &kinds, "Data ="),
+        ("DSQ_CHUNK_I_DATA =", &kinds, "IData ="),
         ("#define DSQ_MAX_STREAMS", &limits, "const MAX_STREAMS: usize"),
         ("#define DSQ_MAX_MESSAGES", &limits, "const MAX_MESSAGES: usize"),
         ("#define DSQ_MAX_PAYLOAD ", &limits, "const MAX_PAYLOAD: usize"),
@@ -173,7 +185,7 @@ fn the_lengths_and_places_are_the_proved_ones() {
 
 /// The layout, and a sum over what the header declares. Whoever changes a declaration decides whether a host compiled before would be wrong
 /// with it. Then the layout moves, here and in the header, limits.rs and send_queue_c. What is only added has a new sum and no new layout.
-const LAYOUT: (u64, u32) = (4, 3_804_457_469);
+const LAYOUT: (u64, u32) = (4, 2_044_506_992);
 
 #[test]
 fn the_layout_goes_with_what_the_header_declares() {

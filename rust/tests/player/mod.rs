@@ -5,6 +5,7 @@
 
 mod line;
 mod payload;
+mod wire;
 
 use desqariy::*;
 use line::Line;
@@ -70,9 +71,14 @@ fn plan(mut line: Line) -> String {
 }
 
 fn fragment_line(d: &DataToSend) -> String {
+    format!("p 0 1{}", fragment_fields(d))
+}
+
+/// All that goes with a fragment, and the line's end.
+fn fragment_fields(d: &DataToSend) -> String {
     let never = d.expires_at == SocketTime::infinite_future();
     format!(
-        "p 0 1 {} {} {} {} {} {} {} {} {} {} {} {} {} {} {}\n",
+        " {} {} {} {} {} {} {} {} {} {} {} {} {} {} {}\n",
         d.message_id,
         d.data.stream_key.id(),
         u8::from(d.data.stream_key.is_unordered()),
@@ -138,6 +144,9 @@ impl Player {
     /// The answer's lines, each ended.
     pub fn call(&mut self, text: &str) -> String {
         self.calls += 1;
+        if let Some(bytes) = text.strip_prefix("R ") {
+            return wire::read(bytes);
+        }
         let mut line = Line::new(text);
         let (letter, by_rule) = (line.letter, self.answered_by_rule);
         let answer = match letter {
@@ -177,6 +186,7 @@ impl Player {
                 "i 0\n".into()
             }
             "P" => plan(line),
+            "W" => wire::write(line),
             "q" => self.questions(StreamId(line.take())),
             "s" => self.save(SocketTime(line.take())),
             "h" => self.show(line),
