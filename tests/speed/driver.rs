@@ -19,6 +19,7 @@ mod sending;
 mod sides;
 mod stack;
 mod steady;
+mod wire;
 
 fn main() {
     let stack = std::env::args().nth(1).map_or(264, |a| a.parse().expect("usage: driver [KB OF STACK]"));
@@ -30,6 +31,7 @@ fn main() {
     images::saving_and_restoring();
     sending::growth();
     planning::planning();
+    wire::chunks();
     expired::passing();
     depth::depth();
     steady::steady();
