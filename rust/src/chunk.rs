@@ -35,6 +35,7 @@ pub struct Chunk<'a> {
 /// of the output stays as it was.
 ///
 /// Refused: [`Refusal::ChunkPayloadWrong`], [`Refusal::ChunkOutputShort`].
+#[inline]
 pub fn write_chunk(output: &mut [u8], kind: ChunkKind, tsn: Tsn, data: &Data<'_>) -> Result<usize, Refusal> {
     let mut out = [0; OUT_WORDS];
     Refusal::judge(ffi::write_chunk(output, &mut out, kind, tsn, data))?;
@@ -45,6 +46,7 @@ pub fn write_chunk(output: &mut [u8], kind: ChunkKind, tsn: Tsn, data: &Data<'_>
 /// marks and the reserved bits are not looked at.
 ///
 /// Refused: [`Refusal::ChunkWrong`].
+#[inline]
 pub fn read_chunk(bytes: &[u8]) -> Result<Chunk<'_>, Refusal> {
     let mut out = [0; OUT_WORDS];
     let mut chunk = [0; CHUNK_WORDS];

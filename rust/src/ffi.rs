@@ -301,6 +301,7 @@ pub(crate) fn plan_priorities(ids: &[u16], sizes: &[u64], priorities: &mut Prior
     }
 }
 
+#[inline]
 pub(crate) fn write_chunk(output: &mut [u8], out: &mut Out, kind: ChunkKind, tsn: Tsn, data: &Data<'_>) -> u8 {
     // SAFETY: all three are references, the bytes' lengths are their own; the payload is only read.
     unsafe {
@@ -324,6 +325,7 @@ pub(crate) fn write_chunk(output: &mut [u8], out: &mut Out, kind: ChunkKind, tsn
     }
 }
 
+#[inline]
 pub(crate) fn read_chunk(bytes: &[u8], out: &mut Out, chunk: &mut ChunkWords) -> u8 {
     // SAFETY: all three are references, the bytes' length is their own and they are only read.
     unsafe { c::dsq_read_chunk(bytes.as_ptr(), bytes.len(), out.as_mut_ptr(), chunk.as_mut_ptr()) }

@@ -91,6 +91,7 @@ impl Refusal {
     }
 
     /// What a call's number says: 0 is accepted.
+    #[inline]
     pub(crate) fn judge(number: u8) -> Result<(), Self> {
         if number == 0 { Ok(()) } else { Err(Self::from_number(number).expect("the number is a refusal's")) }
     }
