@@ -39,13 +39,14 @@ fn room(size: usize) -> usize {
 
 fn writing(kind: ChunkKind, name: &str, size: usize) {
     let payloads = vec![7; size * CHUNKS];
+    let fragments: Vec<Data> = payloads.chunks_exact(size).map(data).collect();
     let mut packets = vec![0; room(size) * CHUNKS];
     let mut copies = packets.clone();
     let [written] = best(
         &mut |laps: &mut [Lap; 1]| {
             laps[0].run(|| {
-                for (packet, payload) in packets.chunks_exact_mut(room(size)).zip(payloads.chunks_exact(size)) {
-                    black_box(write_chunk(black_box(packet), kind, black_box(Tsn(9)), black_box(&data(payload))).is_ok());
+                for (packet, fragment) in packets.chunks_exact_mut(room(size)).zip(&fragments) {
+                    black_box(write_chunk(black_box(packet), kind, black_box(Tsn(9)), black_box(fragment)).is_ok());
                 }
                 CHUNKS as u64
             })
