@@ -47,6 +47,8 @@ use crate::state::bit;
 use crate::state::low8;
 use crate::state::low16;
 use crate::state::wide16;
+use crate::wire::answer_read;
+use crate::wire::answer_write;
 use send_queue::Data;
 use send_queue::DataToSend;
 use send_queue::Expiry;
@@ -162,10 +164,10 @@ fn put_data(output: &mut [u8; BUFFER], state: &mut [u64; STATE], d: Data) {
     put_number(output, state, bit(d.is_end));
 }
 
-fn put_fragment(output: &mut [u8; BUFFER], state: &mut [u64; STATE], d: DataToSend, sum: u64) {
+// A fragment, and the end of the line.
+pub fn put_fields(output: &mut [u8; BUFFER], state: &mut [u64; STATE], d: DataToSend, sum: u64) {
     let data = d.data;
     let expires_at = d.expires_at;
-    put_text(output, state, b"p 0 1");
     put_number(output, state, d.message_id.0 as u64);
     put_data(output, state, data);
     put_number(output, state, d.max_retransmissions as u64);
@@ -202,7 +204,8 @@ fn put_produced(
             let data = d.data;
             let bytes = data.length;
             let sum = sum_of(fragment, bytes as usize);
-            put_fragment(output, state, d, sum);
+            put_text(output, state, b"p 0 1");
+            put_fields(output, state, d, sum);
             Wrote {
                 refusal: 0,
                 events: n,
@@ -366,6 +369,8 @@ pub fn answer(
         b'q' => answer_questions(&*queue, output, state),
         b'k' | b'b' | b'r' | b'y' | b'i' => answer_plain(queue, kept, output, state),
         b'P' => answer_plan(output, state),
+        b'W' => answer_write(payload, output, state),
+        b'R' => answer_read(&*payload, output, state),
         _ => answer_changeover(queue, kept, store, kept_store, image, output, state),
     }
 }

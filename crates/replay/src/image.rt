@@ -46,7 +46,8 @@ fn put_bytes(bytes: &[u8], output: &mut [u8; BUFFER], state: &mut [u64; STATE]) 
     }
 }
 
-fn put_part(
+// The bytes from one place to another.
+pub fn put_part(
     image: &[u8],
     from: usize,
     to: usize,

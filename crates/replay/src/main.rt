@@ -2,6 +2,7 @@
 // trace cannot show, or a line is malformed, a line of the answers begins with BROKEN.
 mod answers;
 mod changeover;
+mod given;
 mod image;
 mod input;
 mod lent;
@@ -13,8 +14,10 @@ mod plan;
 mod ranges;
 mod settle;
 mod state;
+mod wire;
 
 use answers::answer;
+use given::parse_bytes;
 use input::BAD_LINE;
 use input::NO_LINE;
 use input::read_line;
@@ -37,6 +40,7 @@ use state::STORE;
 
 // Whether the next line is there and is a call. A malformed line is told.
 fn next_call(
+    payload: &mut [u8; PAYLOAD],
     input: &mut [u8; BUFFER],
     output: &mut [u8; BUFFER],
     state: &mut [u64; STATE],
@@ -47,7 +51,7 @@ fn next_call(
         return false;
     }
     count_line(state);
-    let good = is_line(&line, n, state);
+    let good = is_line(&line, n, payload, state);
     if good {
         return true;
     }
@@ -63,9 +67,18 @@ fn count_line(state: &mut [u64; STATE]) {
     }
 }
 
-fn is_line(line: &[u8; LINE_BYTES], n: usize, state: &mut [u64; STATE]) -> bool {
+// The bytes of a line `R` go to the payload.
+fn is_line(
+    line: &[u8; LINE_BYTES],
+    n: usize,
+    payload: &mut [u8; PAYLOAD],
+    state: &mut [u64; STATE],
+) -> bool {
     if n == BAD_LINE {
         return false;
+    }
+    if line[0] == b'R' {
+        return parse_bytes(line, n, payload, state);
     }
     let parsed = parse(line, n, state);
     if parsed {
@@ -90,7 +103,7 @@ fn run(
 ) {
     let mut left = u64::MAX;
     while left > 0 {
-        let more = next_call(input, output, state);
+        let more = next_call(payload, input, output, state);
         if more == false {
             return;
         }

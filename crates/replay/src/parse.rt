@@ -49,14 +49,16 @@ fn number(line: &[u8; LINE_BYTES], from: usize, to: usize) -> Digits {
     Digits::Value(value)
 }
 
-// Where the word from a place on ends: at a space or at the line's end.
-fn word_end(line: &[u8; LINE_BYTES], from: usize, end: usize) -> usize {
+// Where a byte first stands from a place on; else the end.
+pub fn find(line: &[u8; LINE_BYTES], from: usize, end: usize, byte: u8) -> usize
+    ensures { λ r. ⌜ from ≤ r ⌝ }
+{
     if end > LINE_BYTES {
         return from;
     }
     let mut i = from;
     while i < end {
-        if line[i] == b' ' {
+        if line[i] == byte {
             return i;
         }
         i += 1;
@@ -78,6 +80,15 @@ fn is_spelled(line: &[u8; LINE_BYTES], from: usize, to: usize) -> bool {
     line[from] != b'0'
 }
 
+// The number of such a word.
+pub fn spelled(line: &[u8; LINE_BYTES], from: usize, to: usize) -> Digits {
+    let is_one = is_spelled(line, from, to);
+    if is_one {
+        return number(line, from, to);
+    }
+    Digits::Bad
+}
+
 // Takes the k-th number, which stands after the space at a place, and answers where it ends; the place itself if there is none.
 fn take_number(
     line: &[u8; LINE_BYTES],
@@ -95,12 +106,8 @@ fn take_number(
     if k >= NUMBERS {
         return at;
     }
-    let to = word_end(line, at + 1, end);
-    let spelled = is_spelled(line, at + 1, to);
-    if spelled {
-        return store_number(line, at, to, state, k);
-    }
-    at
+    let to = find(line, at + 1, end, b' ');
+    store_number(line, at, to, state, k)
 }
 
 fn store_number(
@@ -116,7 +123,7 @@ fn store_number(
     if at >= LINE_BYTES {
         return at;
     }
-    let n = number(line, at + 1, to);
+    let n = spelled(line, at + 1, to);
     match n {
         Digits::Value(v) => {
             state[k] = v;

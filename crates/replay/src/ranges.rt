@@ -23,6 +23,9 @@ const NEW: u64 = 6;
 
 pub const NEW_WITH_RULE: u64 = 7;
 
+// Of a line `W`; no other of these lines has more.
+const MOST_NUMBERS: u64 = 13;
+
 fn count_of(letter: u8) -> u64 {
     match letter {
         b'g' | b'k' | b'b' | b'r' => 0,
@@ -31,6 +34,7 @@ fn count_of(letter: u8) -> u64 {
         b'v' => 4,
         b'n' => NEW,
         b'a' => 11,
+        b'W' => MOST_NUMBERS,
         _ => NO_CALL,
     }
 }
@@ -63,6 +67,16 @@ fn most_add(k: usize) -> u64 {
     }
 }
 
+fn most_write(k: usize) -> u64 {
+    match k {
+        0 | 4 | 9 | 10 => FLAG,
+        1 | 11 => 70000,
+        2 | 6 | 7 | 8 => BITS32,
+        3 | 5 => BITS16,
+        _ => ANY,
+    }
+}
+
 fn most_discard(k: usize) -> u64 {
     match k {
         0 => BITS16,
@@ -89,6 +103,7 @@ fn most(letter: u8, k: usize) -> u64 {
         b'n' => most_new(k),
         b'v' => most_lent(k),
         b'a' => most_add(k),
+        b'W' => most_write(k),
         b'd' => most_discard(k),
         b't' => most_threshold(k),
         b'c' | b'q' | b'y' => BITS16,
@@ -102,7 +117,7 @@ fn most(letter: u8, k: usize) -> u64 {
 // Whether the line may come while there is no queue.
 fn needs_no_queue(letter: u8) -> bool {
     match letter {
-        b'n' | b'v' | b'h' | b'x' | b'l' => true,
+        b'n' | b'v' | b'h' | b'x' | b'l' | b'W' => true,
         _ => false,
     }
 }
@@ -115,7 +130,7 @@ fn has_queue(state: &[u64; STATE], letter: u8) -> bool {
 }
 
 fn numbers_fit(state: &[u64; STATE], letter: u8, count: usize) -> bool {
-    if count > 11 {
+    if count > 13 {
         return false;
     }
     let mut k = 0;
