@@ -45,6 +45,6 @@ runTo ms (suc n) = runOn (runTo ms n) (getD ms n 0) n
 abbrev pub bytesOf : Run → Gaps
 bytesOf r = gaps (r .from * 4096) (r .upto * 4096) 0 0
 
--- the longest run of pieces that no payload touches; a store of more than 512 pieces is not searched
+-- the longest run of pieces that no payload touches, at its end neither; a store of 512 pieces or more is not searched
 unfoldable pub found : List ℕ → ℕ → Gaps
 found ws len = pick (leb 2097152 len) (gaps 0 0 0 0) (bytesOf (runTo (touchedTo ws 1024) (len / 4096)))

@@ -13,7 +13,7 @@ use queue_words::items::load_place;
 
 const PIECE: u64 = 4096;
 
-// So many pieces are looked at: a store that has more is not searched.
+// A store that has so many pieces, or more, is not searched.
 const PIECES: usize = 512;
 
 const SEARCHED: u64 = 2097152;

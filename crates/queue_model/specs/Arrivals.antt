@@ -198,7 +198,7 @@ ledger strict k (e ∷ es) l = ledger strict k es (enter strict k e l)
 
 -- ------------------------------------------------------------------ what is passed over and sent
 
--- The first message, if there is one, is such.
+-- There is a first message, and it is such.
 abbrev pub HeadIs : (Item → Bool) → List Item → Type 0
 HeadIs test [] = ⊥
 HeadIs test (i ∷ is) = test i ≡ true

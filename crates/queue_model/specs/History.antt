@@ -23,7 +23,7 @@ pub record Piece : Type 0 where
 abbrev pub piece : Fragment → Piece
 piece f = record { stream-id = f .stream-id; message-id = f .message-id; last = f .last; size = length (f .bytes) }
 
--- A call, whether it was refused, the fragment that it handed out, if any, and the streams whose expired head it passed over, in order.
+-- A call, whether it was refused, the fragment that it handed out, if any, and the streams whose expired head it passed over, in order; of a refused next fragment those that it would have passed over.
 pub record Entry : Type 0 where
   pub call : Call
   pub refused : Bool

@@ -1,4 +1,4 @@
--- A chain for each head (document 02, 4/13): the chain of a stream, read off the words, and what it holds after any calls. Assumes nothing.
+-- A chain for each head (document 02, 4/13): the chain of a stream, read off the words, and what it holds after any calls. (Saving is no call of these lists: queue_images, Demand2.) Assumes nothing.
 use Prim.Native.Nat.{ℕ, _+_, _≤_}
 use mathlib.Core.Path.{_≡_}
 use mathlib.Core.List.{List}
