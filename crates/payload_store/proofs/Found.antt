@@ -14,7 +14,7 @@ use Rattle.payload_store.specs.declared.searching.Run.{Run}
 use Rattle.payload_store.specs.Words.{placeOf, sizeOf}
 use Rattle.payload_store.specs.Moving.{Fits}
 use Rattle.payload_store.specs.Gaps.{gaps}
-use Rattle.payload_store.specs.Searching.{marked, pieces, touched, touchedTo, run, runOn, runTo, bytesOf, found}
+use Rattle.payload_store.specs.Searching.{marked, pieces, touched, touchedTo, run, runOn, runTo, within, bytesOf, found}
 use Rattle.payload_store.specs.Good.{ClearOf, Lay}
 use Rattle.payload_store.proofs.Cases.{by-index, by-lt}
 use Rattle.payload_store.proofs.Clear.{Ordered, lay-with}
@@ -202,7 +202,7 @@ found-none : (ws : List ℕ) (len : ℕ) → 2097152 ≤ len → found ws len �
 unfolding found
 found-none ws len h = rw (le-leb 2097152 len h)
 
-found-some : (ws : List ℕ) (len : ℕ) → len < 2097152 → found ws len ≡ bytesOf (runTo (touchedTo ws 1024) (len / 4096))
+found-some : (ws : List ℕ) (len : ℕ) → len < 2097152 → found ws len ≡ bytesOf len (runTo (touchedTo ws 1024) (len / 4096 + 1))
 unfolding found
 found-some ws len h = rw (lt-leb 2097152 len h)
 
@@ -210,24 +210,42 @@ found-some ws len h = rw (lt-leb 2097152 len h)
 pub fits-pieces : (ws : List ℕ) (len : ℕ) → Fits ws len → len < 2097152 → Fits ws 2097151
 fits-pieces ws len f h = record { inside = λ i b. omega (arith, f .inside i b) }
 
-pub run-small : (ms : List ℕ) (len : ℕ) (r : Run) → r ≡ runTo ms (len / 4096) → len < 2097152 → (r .from ≤ 512) × (r .upto ≤ 512)
+pub piece-few : (len : ℕ) → len < 2097152 → len / 4096 + 1 ≤ 512
+piece-few len h = omega (arith, piece-low len)
+
+pub run-small : (ms : List ℕ) (len : ℕ) (r : Run) → r ≡ runTo ms (len / 4096 + 1) → len < 2097152 → (r .from ≤ 512) × (r .upto ≤ 512)
 run-small ms len r e h =
-    let g = runs-law ms (len / 4096) in
+    let g = runs-law ms (len / 4096 + 1) in
     rw e (omega (arith, g .from-in, g .upto-in, piece-low len), omega (arith, g .upto-in, piece-low len))
 
 pub out-large : (ws : List ℕ) (len : ℕ) → 2097152 ≤ len → gaps 0 0 0 0 ≡ found ws len
 out-large ws len h = sym (found-none ws len h)
 
-pub out-run : (ws ms : List ℕ) (len n : ℕ) (r : Run) → len < 2097152 → ms ≡ touchedTo ws 1024 → n ≡ len / 4096 → r ≡ runTo ms n → bytesOf r ≡ found ws len
-out-run ws ms len n r h em en er = rw (er, en, em) (sym (found-some ws len h))
+pub out-run : (ws ms : List ℕ) (len n limit : ℕ) (r : Run) → len < 2097152 → ms ≡ touchedTo ws 1024 → n ≡ len / 4096 + 1 → r ≡ runTo ms n → limit ≡ within len (r .upto * 4096)
+    → gaps (r .from * 4096) limit 0 0 ≡ found ws len
+out-run ws ms len n limit r h em en er el = rw (el, er, en, em) (sym (found-some ws len h))
+
+-- a run's bytes: below the store's length, and no further than the run
+within-law : (len x : ℕ) → (within len x ≤ len) × (within len x ≤ x)
+unfolding within
+within-law len x = by-lt len x (λ h. rw (lt-ltb len x h) (omega arith, omega arith)) (λ h. rw (le-ltb len x h) (h, omega arith))
+
+above-within : (len x y : ℕ) → y ≤ len → y ≤ x → y ≤ within len x
+unfolding within
+above-within len x y a b = by-lt len x (λ h. rw (lt-ltb len x h) a) (λ h. rw (le-ltb len x h) b)
+
+-- it begins in the store
+run-begins : (ms : List ℕ) (len : ℕ) (r : Run) → Runs ms (len / 4096 + 1) r → r .from * 4096 ≤ len
+run-begins ms len r g = ⊎-elim (λ z. omega (arith, g .from-in)) (λ z. omega (arith, g .upto-in, piece-low len)) (g .some)
 
 -- on any words
 found-ordered : (ws : List ℕ) (len : ℕ) → Ordered (found ws len) len
 found-ordered ws len = by-lt len 2097152
-    (λ h. let g = runs-law (touchedTo ws 1024) (len / 4096) in
+    (λ h. let g = runs-law (touchedTo ws 1024) (len / 4096 + 1) in
+    let r = runTo (touchedTo ws 1024) (len / 4096 + 1) in
     rw (found-some ws len h) (record {
-      limit-in = omega (arith, g .upto-in, piece-low len);
-      end-in = omega (arith, g .from-in);
+      limit-in = within-law len (r .upto * 4096) .0;
+      end-in = above-within len (r .upto * 4096) (r .from * 4096) (run-begins (touchedTo ws 1024) len r g) (omega (arith, g .from-in));
       upto-in = omega arith;
       from-in = omega arith;
     }))
@@ -237,12 +255,16 @@ found-ordered ws len = by-lt len 2097152
 pub found-gap : (ws : List ℕ) (len : ℕ) (f : Gaps) → f ≡ found ws len → (f .end ≤ f .limit) × (f .limit ≤ len)
 found-gap ws len f e = let o = found-ordered ws len in rw e (o .end-in, o .limit-in)
 
+clear-within : (ws : List ℕ) (len a b : ℕ) → ClearOf ws a b → ClearOf ws a (within len b)
+clear-within ws len a b c i h s = ⊎-elim (λ z. inl z) (λ z. inr (omega (arith, within-law len b .1))) (c i h s)
+
 -- THE THEOREM of the search: whatever is found, every payload is clear of it
 pub found-lay : (ws st : List ℕ) (g : Gaps) → Lay ws st g → Lay ws st (found ws (length st))
 found-lay ws st g l = by-lt (length st) 2097152
     (λ h. let o = found-ordered ws (length st) in
     let f = fits-pieces ws (length st) (record { inside = l .inside }) h in
-    let c = run-clear ws (length st / 4096) (runTo (touchedTo ws 1024) (length st / 4096)) f (runs-law (touchedTo ws 1024) (length st / 4096)) in
+    let r = runTo (touchedTo ws 1024) (length st / 4096 + 1) in
+    let c = clear-within ws (length st) (r .from * 4096) (r .upto * 4096) (run-clear ws (length st / 4096 + 1) r f (runs-law (touchedTo ws 1024) (length st / 4096 + 1))) in
     let e = found-some ws (length st) h in
     lay-with ws st g (found ws (length st)) l o (rw e (inl (omega arith))) (rw e c) (rw e (λ i b s. inr (omega arith))))
     (λ h. let o = found-ordered ws (length st) in

@@ -41,10 +41,14 @@ unfoldable pub runTo : List ℕ → ℕ → Run
 runTo ms zero = run 0 0 0
 runTo ms (suc n) = runOn (runTo ms n) (getD ms n 0) n
 
--- the bytes of a run
-abbrev pub bytesOf : Run → Gaps
-bytesOf r = gaps (r .from * 4096) (r .upto * 4096) 0 0
+-- no more than the store has
+unfoldable pub within : ℕ → ℕ → ℕ
+within len x = pick (ltb len x) len x
+
+-- the bytes of a run; of the store's last piece, which may be short, those that are there
+abbrev pub bytesOf : ℕ → Run → Gaps
+bytesOf len r = gaps (r .from * 4096) (within len (r .upto * 4096)) 0 0
 
 -- the longest run of pieces that no payload touches, at its end neither; a store of 512 pieces or more is not searched
 unfoldable pub found : List ℕ → ℕ → Gaps
-found ws len = pick (leb 2097152 len) (gaps 0 0 0 0) (bytesOf (runTo (touchedTo ws 1024) (len / 4096)))
+found ws len = pick (leb 2097152 len) (gaps 0 0 0 0) (bytesOf len (runTo (touchedTo ws 1024) (len / 4096 + 1)))

@@ -5,7 +5,7 @@ ghost use Prim.Native.Nat.{_+_, _<_, _≤_};
 ghost use lib.ListN.{length, replicate};
 ghost use Rattle.payload_store.specs.Words.{placeOf, sizeOf};
 ghost use Rattle.payload_store.specs.Moving.{Fits};
-ghost use Rattle.payload_store.specs.Searching.{marked, pieces, touched, touchedTo, runOn, runTo, found};
+ghost use Rattle.payload_store.specs.Searching.{marked, pieces, touched, touchedTo, runOn, runTo, within, found};
 use queue_words::QUEUE_WORDS;
 use queue_words::header::Gaps;
 use queue_words::items::load_length;
@@ -113,6 +113,15 @@ fn longest(marks: &[u8], n: usize) -> Run
     r
 }
 
+fn within(len: u64, x: u64) -> u64
+    ensures { λ r. ⌜ r ≡ within len x ⌝ }
+{
+    if len < x {
+        return len;
+    }
+    x
+}
+
 // The gap that is found; it may be empty, or have too few bytes.
 pub fn find_gap(queue: &[u64; QUEUE_WORDS], len: u64) -> Gaps
     requires { ⌜ Fits (now queue) len ⌝ }
@@ -128,11 +137,12 @@ pub fn find_gap(queue: &[u64; QUEUE_WORDS], len: u64) -> Gaps
     }
     let mut marks = [0u8; PIECES];
     mark_all(queue, &mut marks);
-    let n = len / PIECE;
+    let n = len / PIECE + 1;
     let r = longest(&marks, n as usize);
+    let limit = within(len, r.upto as u64 * PIECE);
     Gaps {
         end: r.from as u64 * PIECE,
-        limit: r.upto as u64 * PIECE,
+        limit: limit,
         from: 0,
         upto: 0,
     }
