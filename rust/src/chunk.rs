@@ -37,9 +37,9 @@ pub struct Chunk<'a> {
 /// Refused: [`Refusal::ChunkPayloadWrong`], [`Refusal::ChunkOutputShort`].
 #[inline]
 pub fn write_chunk(output: &mut [u8], kind: ChunkKind, tsn: Tsn, data: &Data<'_>) -> Result<usize, Refusal> {
-    let mut out = [0; OUT_WORDS];
-    Refusal::judge(ffi::write_chunk(output, &mut out, kind, tsn, data))?;
-    Ok(out[0] as usize)
+    let (number, written) = ffi::write_chunk(output, kind, tsn, data);
+    Refusal::judge(number)?;
+    Ok(written as usize)
 }
 
 /// The chunk that the bytes are: one chunk with its payload and its padding, of any value, and nothing behind it. Flags other than the three

@@ -17,6 +17,7 @@ use crate::limits::MAX_STREAMS;
 use crate::limits::OUT_WORDS;
 use crate::limits::QUEUE_WORDS;
 use crate::options::Options;
+use std::mem::MaybeUninit;
 
 /// A queue's state.
 pub(crate) type Words = [u64; QUEUE_WORDS];
@@ -301,16 +302,19 @@ pub(crate) fn plan_priorities(ids: &[u16], sizes: &[u64], priorities: &mut Prior
     }
 }
 
+/// The number, and how many bytes were written, 0 where it is a refusal's.
 #[inline]
-pub(crate) fn write_chunk(output: &mut [u8], out: &mut Out, kind: ChunkKind, tsn: Tsn, data: &Data<'_>) -> u8 {
-    // SAFETY: all three are references, the bytes' lengths are their own; the payload is only read.
-    unsafe {
+pub(crate) fn write_chunk(output: &mut [u8], kind: ChunkKind, tsn: Tsn, data: &Data<'_>) -> (u8, u64) {
+    // not cleared: of these words the call reads none, and it writes the first where it accepts
+    let mut out = MaybeUninit::<Out>::uninit();
+    // SAFETY: output and payload are references, the bytes' lengths are their own; the payload is only read. The out-array has its length.
+    let number = unsafe {
         c::dsq_write_chunk(
             output.as_mut_ptr(),
             output.len(),
             data.payload.as_ptr(),
             data.payload.len(),
-            out.as_mut_ptr(),
+            out.as_mut_ptr().cast(),
             kind as u8,
             tsn.0,
             data.stream_key.id().0,
@@ -322,7 +326,10 @@ pub(crate) fn write_chunk(output: &mut [u8], out: &mut Out, kind: ChunkKind, tsn
             data.is_beginning.into(),
             data.is_end.into(),
         )
-    }
+    };
+    // SAFETY: the call has accepted, so it has written the first word.
+    let written = if number == 0 { unsafe { out.as_ptr().cast::<u64>().read() } } else { 0 };
+    (number, written)
 }
 
 #[inline]

@@ -60,7 +60,7 @@ fn writing(kind: ChunkKind, name: &str, size: usize) {
             })
         },
     );
-    row(&format!("10: {name} chunk of {size} bytes written (beside the bare copy of its payload)"), written);
+    row(&format!("11: {name} chunk of {size} bytes written (beside the bare copy of its payload)"), written);
 }
 
 fn reading(kind: ChunkKind, name: &str, size: usize) {
@@ -86,7 +86,7 @@ fn reading(kind: ChunkKind, name: &str, size: usize) {
             })
         },
     );
-    row(&format!("10: {name} chunk of {size} bytes read, nothing copied (beside the bare copy of its payload)"), read);
+    row(&format!("11: {name} chunk of {size} bytes read, nothing copied (beside the bare copy of its payload)"), read);
 }
 
 pub fn chunks() {
