@@ -1,5 +1,6 @@
 -- The row that is moved next, and one turn. Assumes nothing.
 use mathlib.Core.Path.{_≡_, refl, sym, ap, _∙_}
+use mathlib.Core.Bool.{Bool, true, false, not}
 use mathlib.Core.List.{List}
 use Prim.Native.Nat.{ℕ, zero, suc, _+_, _-_, _≤_, _<_}
 use native.Mathlib.Omega.{arith}
@@ -8,8 +9,10 @@ use borrow.Author.Tests.{lt-ltb, le-ltb, le-leb, lt-leb, eq-eqb, ne-eqb}
 use lib.ListN.{length}
 use Rattle.queue_words.specs.Items.{putPlace}
 use Rattle.payload_store.specs.Words.{placeOf, sizeOf}
-use Rattle.payload_store.specs.Moving.{choose, least, moved, Pack, pack, turnAt, turn, turns, together, Fits}
-use Rattle.payload_store.proofs.Cases.{by-index, by-lt}
+use Rattle.payload_store.specs.Moving.{choose, least, moved, Pack, pack, turnAt, turn, turns, together}
+use Rattle.payload_store.specs.Searching.{lies}
+use Rattle.payload_store.proofs.Cases.{by-index, by-lt, false-true}
+use Rattle.payload_store.proofs.Found.{lies-yes, lies-in}
 use Rattle.payload_store.proofs.Moves.{moved-length}
 use Rattle.payload_store.proofs.Laws.{place-length, place-same, place-other, place-size}
 
@@ -75,11 +78,19 @@ unfolding least
 least-law ws cur zero h = record { live = λ l. absurd (omega arith); above = λ l. absurd (omega arith); some = λ j l s p. absurd (omega arith); first = λ j l s p. absurd (omega arith) }
 least-law ws cur (suc n) h = choose-law ws cur (least ws cur n) n (omega arith) (least-law ws cur n (omega arith))
 
--- a turn that moves row r, and one that has nothing to do
-pub turn-moves : (ws st : List ℕ) (cur r : ℕ) → r ≡ least ws cur 1024 → r < 1024
+-- every row's payload lies in a store of len bytes
+pub record Fits (ws : List ℕ) (len : ℕ) : Type 0 where
+  pub inside : (i : ℕ) → i < 1024 → placeOf ws i + sizeOf ws i ≤ len
+
+-- a turn that moves row r, and those that have nothing to do
+pub turn-moves : (ws st : List ℕ) (cur r : ℕ) → r ≡ least ws cur 1024 → r < 1024 → placeOf ws r + sizeOf ws r ≤ length st
     → turn (pack ws st cur) ≡ pack (putPlace ws r cur) (moved st (placeOf ws r) cur (sizeOf ws r)) (cur + sizeOf ws r)
 unfolding turn turnAt
-turn-moves ws st cur r e h = rw (← e, lt-leb 1024 r h)
+turn-moves ws st cur r e h i = rw (← e, lt-leb 1024 r h, lies-yes (placeOf ws r) (sizeOf ws r) (length st) i)
+
+turn-stops : (ws st : List ℕ) (cur r : ℕ) → r ≡ least ws cur 1024 → r < 1024 → lies (placeOf ws r) (sizeOf ws r) (length st) ≡ false → turn (pack ws st cur) ≡ pack ws st cur
+unfolding turn turnAt
+turn-stops ws st cur r e h i = rw (← e, lt-leb 1024 r h, i)
 
 pub turn-rests : (s : Pack) → 1024 ≤ least (s .words) (s .cursor) 1024 → turn s ≡ s
 unfolding turn turnAt
@@ -102,8 +113,15 @@ pub record Going (ws₀ st₀ ws st : List ℕ) (cur k : ℕ) : Type 0 where
   pub few : k ≤ length st₀
   pub long : length ws ≡ 20768
   pub same : length st ≡ length st₀
-  pub fit : Fits ws (length st₀)
   pub are : pack ws st cur ≡ turns (pack ws₀ st₀ 0) k
+
+is-so : (b : Bool) → not b ≡ false → b ≡ true
+is-so true e = refl
+is-so false e = false-true (sym e)
+
+is-not : (b : Bool) → not b ≡ true → b ≡ false
+is-not true e = false-true e
+is-not false e = refl
 
 -- the row that is moved: it lies in the store, at or above the cursor
 pub record Moving (ws st : List ℕ) (cur r p n : ℕ) : Type 0 where
@@ -111,40 +129,46 @@ pub record Moving (ws st : List ℕ) (cur r p n : ℕ) : Type 0 where
   pub down : cur ≤ p
   pub alive : 1 ≤ n
 
-pub moving : (ws₀ st₀ ws st : List ℕ) (cur k r p n : ℕ) → Going ws₀ st₀ ws st cur k → r ≡ least ws cur 1024 → r < 1024
-    → p ≡ placeOf ws r → n ≡ sizeOf ws r → Moving ws st cur r p n
-moving ws₀ st₀ ws st cur k r p n g e h ep en =
+pub moving : (ws₀ st₀ ws st : List ℕ) (cur k r p n len : ℕ) (b : Bool) → Going ws₀ st₀ ws st cur k → r ≡ least ws cur 1024 → r < 1024
+    → p ≡ placeOf ws r → n ≡ sizeOf ws r → len ≡ length st₀ → b ≡ lies p n len → not b ≡ false → Moving ws st cur r p n
+moving ws₀ st₀ ws st cur k r p n len b g e h ep en el eb et =
     let q : Least ws cur 1024 r = rw e (least-law ws cur 1024 (omega arith)) in
     record {
-      in-store = omega (arith, g .fit .inside r h, g .same);
+      in-store = omega (arith, lies-in p n len (sym eb ∙ is-so b et), g .same);
       down = omega (arith, q .above h);
       alive = omega (arith, q .live h);
     }
 
-pub going-start : (ws st : List ℕ) → length ws ≡ 20768 → Fits ws (length st) → Going ws st ws st 0 0
+pub going-start : (ws st : List ℕ) → length ws ≡ 20768 → Going ws st ws st 0 0
 unfolding turns
-going-start ws st l f = record { few = omega arith; long = l; same = refl; fit = f; are = refl }
+going-start ws st l = record { few = omega arith; long = l; same = refl; are = refl }
 
 pub going-on : (ws₀ st₀ ws st ws′ st′ : List ℕ) (cur k r p n : ℕ) → Going ws₀ st₀ ws st cur k → k < length st₀ → r ≡ least ws cur 1024 → r < 1024
-    → p ≡ placeOf ws r → n ≡ sizeOf ws r → st′ ≡ moved st p cur n → ws′ ≡ putPlace ws r cur → Going ws₀ st₀ ws′ st′ (cur + n) (k + 1)
+    → p ≡ placeOf ws r → n ≡ sizeOf ws r → Moving ws st cur r p n → st′ ≡ moved st p cur n → ws′ ≡ putPlace ws r cur → Going ws₀ st₀ ws′ st′ (cur + n) (k + 1)
 unfolding turns
-going-on ws₀ st₀ ws st ws′ st′ cur k r p n g hk e h ep en es ew =
-    let m = moving ws₀ st₀ ws st cur k r p n g e h ep en in
-    let t : turn (turns (pack ws₀ st₀ 0) k) ≡ pack ws′ st′ (cur + n) = ap turn (sym (g .are)) ∙ (turn-moves ws st cur r e h ∙ rw (ew, es, ep, en)) in
+going-on ws₀ st₀ ws st ws′ st′ cur k r p n g hk e h ep en m es ew =
+    let t : turn (turns (pack ws₀ st₀ 0) k) ≡ pack ws′ st′ (cur + n) = ap turn (sym (g .are)) ∙ (turn-moves ws st cur r e h (omega (arith, m .in-store)) ∙ rw (ew, es, ep, en)) in
     record {
       few = omega arith;
       long = rw ew (place-length ws r cur ∙ g .long);
       same = ap length es ∙ (moved-length st p cur n ∙ g .same);
-      fit = rw ew (fits-turn ws (length st₀) cur r (g .long) h (omega (arith, m .down)) (g .fit));
       are = rw add-one (sym t);
     }
 
-pub going-rests : (ws₀ st₀ ws st : List ℕ) (cur k r : ℕ) → Going ws₀ st₀ ws st cur k → r ≡ least ws cur 1024 → 1024 ≤ r → pack ws st cur ≡ together ws₀ st₀
+going-over : (ws₀ st₀ ws st : List ℕ) (cur k : ℕ) → Going ws₀ st₀ ws st cur k → turn (pack ws st cur) ≡ pack ws st cur → pack ws st cur ≡ together ws₀ st₀
 unfolding together
-going-rests ws₀ st₀ ws st cur k r g e h =
-    let t : turn (pack ws st cur) ≡ pack ws st cur = turn-rests (pack ws st cur) (omega arith) in
+going-over ws₀ st₀ ws st cur k g t =
     let m : length st₀ - k + k ≡ length st₀ = omega (arith, g .few) in
     g .are ∙ (sym (turns-rest (pack ws₀ st₀ 0) k (length st₀ - k) (rw (g .are) at t)) ∙ ap (turns (pack ws₀ st₀ 0)) m)
+
+pub going-rests : (ws₀ st₀ ws st : List ℕ) (cur k r : ℕ) → Going ws₀ st₀ ws st cur k → r ≡ least ws cur 1024 → 1024 ≤ r → pack ws st cur ≡ together ws₀ st₀
+going-rests ws₀ st₀ ws st cur k r g e h = going-over ws₀ st₀ ws st cur k g (turn-rests (pack ws st cur) (omega arith))
+
+pub going-stops : (ws₀ st₀ ws st : List ℕ) (cur k r p n len : ℕ) (b : Bool) → Going ws₀ st₀ ws st cur k → r ≡ least ws cur 1024 → r < 1024
+    → p ≡ placeOf ws r → n ≡ sizeOf ws r → len ≡ length st₀ → b ≡ lies p n len → not b ≡ true → pack ws st cur ≡ together ws₀ st₀
+going-stops ws₀ st₀ ws st cur k r p n len b g e h ep en el eb et =
+    let z : lies (placeOf ws r) (sizeOf ws r) (length st) ≡ false = rw (← ep, ← en, g .same, ← el) (sym eb ∙ is-not b et) in
+    going-over ws₀ st₀ ws st cur k g (turn-stops ws st cur r e h z)
 
 pub going-end : (ws₀ st₀ ws st : List ℕ) (cur k : ℕ) → Going ws₀ st₀ ws st cur k → length st₀ ≤ k → pack ws st cur ≡ together ws₀ st₀
 unfolding together

@@ -1,6 +1,7 @@
 -- Dropping a payload: its test, its ways out, and what it leaves where the invariant holds. Assumes nothing.
 use mathlib.Core.Path.{_≡_, refl, sym, ap, _∙_}
 use mathlib.Core.Logic.{_⊎_, inl, inr, ⊎-elim}
+use mathlib.Core.Bool.{Bool, true, false}
 use mathlib.Core.List.{List}
 use Prim.Native.Nat.{ℕ, _+_, _-_, _≤_, _<_}
 use native.Mathlib.Omega.{arith}
@@ -13,7 +14,7 @@ use Rattle.queue_words.specs.declared.header.Gaps.{Gaps}
 use Rattle.queue_words.specs.declared.header.Totals.{Totals}
 use Rattle.queue_words.specs.Items.{putLength}
 use Rattle.payload_store.specs.Words.{usedOf, gapsOf, placeOf, sizeOf, putBytes}
-use Rattle.payload_store.specs.Gaps.{gaps, gapsLeft}
+use Rattle.payload_store.specs.Gaps.{gaps, keeps, gapsLeft}
 use Rattle.payload_store.specs.Dropping.{dropCode, gapsThen, dropped, dropPayload}
 use Rattle.payload_store.specs.Good.{payloadOf, sumTo, ClearOf, Good}
 use Rattle.payload_store.specs.Promise.{Dropped}
@@ -115,7 +116,7 @@ module _ (ws st : List ℕ) (r : ℕ) (l : Good ws st) (h : r < 1024) (live : 1 
     asides = grown (g .from) (g .upto) e (l .aside);
   }
 
-  -- or elsewhere: it is the second gap then
+  -- or elsewhere: it is the second gap then, or that stays
   new-clear : Clear ws st r (gaps (g .end) (g .limit) p top)
   new-clear = record {
     order = record { limit-in = l .limit-in; end-in = l .end-in; upto-in = l .inside r h; from-in = omega arith };
@@ -132,7 +133,11 @@ module _ (ws st : List ℕ) (r : ℕ) (l : Good ws st) (h : r < 1024) (live : 1 
       (λ e. rw (le-ltb (18446744073709551615 - p) (sizeOf ws r) o, eq-eqb p (g .limit) e) (limit-clear e))
       (λ ne. by-index p (g .upto)
       (λ e. rw (le-ltb (18446744073709551615 - p) (sizeOf ws r) o, ne-eqb p (g .limit) ne, eq-eqb p (g .upto) e) (upto-clear ne e))
-      (λ nu. rw (le-ltb (18446744073709551615 - p) (sizeOf ws r) o, ne-eqb p (g .limit) ne, ne-eqb p (g .upto) nu) new-clear)))
+      (λ nu. rw (le-ltb (18446744073709551615 - p) (sizeOf ws r) o, ne-eqb p (g .limit) ne, ne-eqb p (g .upto) nu) (stays (keeps g (sizeOf ws r))))))
+    where
+      stays : (b : Bool) → Clear ws st r (pick b g (gaps (g .end) (g .limit) p top))
+      stays true = same-clear
+      stays false = new-clear
 
 module _ (ws st : List ℕ) (r : ℕ) (e : Gaps) (g : Good ws st) (h : r < 1024) (eo : Clear ws st r e) where
   abbrev ws′ : List ℕ

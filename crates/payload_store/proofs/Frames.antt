@@ -16,7 +16,7 @@ use Rattle.queue_words.specs.declared.header.Totals.{Totals}
 use Rattle.queue_words.proofs.Laws.{item-put-place, item-put-place-other, options-put-place, scheduler-put-place, known-put-place, stream-put-place, active-put-place, item-put-length, item-put-length-other, totals-put-length, options-put-length, scheduler-put-length, known-put-length, stream-put-length, active-put-length, options-put-totals, scheduler-put-totals, known-put-totals, stream-put-totals, active-put-totals}
 use Rattle.payload_store.specs.Words.{usedOf, gapsOf, placeOf, sizeOf, withBytes, putBytes}
 use Rattle.payload_store.specs.Gaps.{gaps, room, gapFor, gapsLeft}
-use Rattle.payload_store.specs.Searching.{found}
+use Rattle.payload_store.specs.Searching.{lies, found}
 use Rattle.payload_store.specs.Moving.{Pack, pack, least, moved, turnAt, turn, turns, together}
 use Rattle.payload_store.specs.Putting.{Outcome, outcome, placed, putCode, putElsewhere, putPayload}
 use Rattle.payload_store.specs.Dropping.{dropCode, gapsThen, dropped, dropPayload}
@@ -111,15 +111,16 @@ module _ (ws : List ℕ) (l : length ws ≡ 20768) where
 -- moving together
 turn-frame : (s : Pack) → length (s .words) ≡ 20768 → Frame (s .words) (turn s .words)
 unfolding turn turnAt
-turn-frame s l = go (leb 1024 (least (s .words) (s .cursor) 1024)) refl
+turn-frame s l = go (leb 1024 (least (s .words) (s .cursor) 1024)) refl (lies (placeOf (s .words) r) (sizeOf (s .words) r) (length (s .store)))
   where
     r : ℕ
     r = least (s .words) (s .cursor) 1024
 
-    go : (t : Bool) → leb 1024 r ≡ t
-        → Frame (s .words) (pick t s (pack (putPlace (s .words) r (s .cursor)) (moved (s .store) (placeOf (s .words) r) (s .cursor) (sizeOf (s .words) r)) (s .cursor + sizeOf (s .words) r)) .words)
-    go true e = frame-none (s .words)
-    go false e = place-frame (s .words) l r (s .cursor) (leb-false 1024 r e)
+    go : (t : Bool) → leb 1024 r ≡ t → (u : Bool)
+        → Frame (s .words) (pick t s (pick u (pack (putPlace (s .words) r (s .cursor)) (moved (s .store) (placeOf (s .words) r) (s .cursor) (sizeOf (s .words) r)) (s .cursor + sizeOf (s .words) r)) s) .words)
+    go true e u = frame-none (s .words)
+    go false e false = frame-none (s .words)
+    go false e true = place-frame (s .words) l r (s .cursor) (leb-false 1024 r e)
 
 turns-frame : (s : Pack) (k : ℕ) → length (s .words) ≡ 20768 → Frame (s .words) (turns s k .words)
 unfolding turns
@@ -149,7 +150,7 @@ unfolding putElsewhere
 elsewhere-frame ws st i bs l h = go (leb (length bs) (room f))
   where
     f : Gaps
-    f = found ws (length st)
+    f = found ws (usedOf ws) (length st)
 
     t : Pack
     t = together ws st
@@ -200,9 +201,9 @@ drop-frame ws i l = go (eqb (dropCode ws i) 0) refl
 -- a put elsewhere is never refused
 elsewhere-done : (ws st : List ℕ) (i : ℕ) (bs : List ℕ) → putElsewhere ws st i bs .answer ≡ 0
 unfolding putElsewhere placed
-elsewhere-done ws st i bs = go (leb (length bs) (room (found ws (length st))))
+elsewhere-done ws st i bs = go (leb (length bs) (room (found ws (usedOf ws) (length st))))
   where
-    go : (a : Bool) → pick a (placed ws st (found ws (length st)) i bs) (placed (together ws st .words) (together ws st .store) (gaps (usedOf (together ws st .words)) (length st) 0 0) i bs) .answer ≡ 0
+    go : (a : Bool) → pick a (placed ws st (found ws (usedOf ws) (length st)) i bs) (placed (together ws st .words) (together ws st .store) (gaps (usedOf (together ws st .words)) (length st) 0 0) i bs) .answer ≡ 0
     go true = refl
     go false = refl
 

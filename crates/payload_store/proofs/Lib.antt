@@ -5,10 +5,10 @@ pub mod Laws
 pub mod Moves
 pub mod Parts
 pub mod Blocks
-pub mod Choice
-pub mod Groups
 pub mod Clear
 pub mod Found
+pub mod Choice
+pub mod Groups
 pub mod Tests
 pub mod Together
 pub mod Goods

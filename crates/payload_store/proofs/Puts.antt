@@ -207,7 +207,7 @@ module _ (ws st : List ℕ) (r n : ℕ) (g : Good ws st) (h : r < 1024) (dead : 
     le-ltb (length st - usedOf ws) n (omega arith),
     ordered,
     lt-leb n (room (gapFor (gapsOf ws) n)) a,
-    true-all ws (length st) (usedOf ws) (record { fits = record { inside = g .inside }; sum = sym (g .used-is) }),
+    true-all ws (length st) (usedOf ws) (record { inside = g .inside }) (sym (g .used-is)),
   )
 
 -- and fails
@@ -244,7 +244,7 @@ after-moving ws st t r bs o m p = record {
 -- elsewhere: in the gap that is found, or after moving together
 elsewhere-law : (ws st : List ℕ) (r : ℕ) (bs : List ℕ) → Good ws st → r < 1024 → sizeOf ws r ≡ 0 → usedOf ws + length bs ≤ length st → Put ws st r bs (putElsewhere ws st r bs)
 elsewhere-law ws st r bs g h dead fits =
-    let f = found ws (length st) in
+    let f = found ws (usedOf ws) (length st) in
     let l = found-lay ws st (gapsOf ws) g in
     by-lt (room f) (length bs)
     (λ a. let m = together-law ws st (gapsOf ws) g in
@@ -252,10 +252,10 @@ elsewhere-law ws st r bs g h dead fits =
     let u : usedOf (t .words) ≡ usedOf ws = ap (λ (x : Totals). x .used) (m .totals) in
     let p = gaps (usedOf (t .words)) (length st) 0 0 in
     let e : placed (t .words) (t .store) p r bs ≡ putElsewhere ws st r bs =
-    out-moved ws st bs r f refl (placed (t .words) (t .store) p r bs) (t .words) (t .store) (t .cursor) (totalsAt (t .words)) a refl refl refl in
+    out-moved ws st bs r (totalsAt ws) f refl refl (placed (t .words) (t .store) p r bs) (t .words) (t .store) (t .cursor) (totalsAt (t .words)) a refl refl refl in
     rw (← e) (after-moving ws st t r bs (placed (t .words) (t .store) p r bs) m
     (placed-law (t .words) (t .store) p r bs (rw u (m .lay)) h (m .sizes r ∙ dead) (omega (arith, u)))))
-    (λ a. let e : placed ws st f r bs ≡ putElsewhere ws st r bs = out-found ws st bs r f refl (placed ws st f r bs) a refl in
+    (λ a. let e : placed ws st f r bs ≡ putElsewhere ws st r bs = out-found ws st bs r (totalsAt ws) f refl refl (placed ws st f r bs) a refl in
     rw (← e) (placed-law ws st f r bs l h dead (omega (arith, l .end-in))))
 
 -- THE THEOREM of putting
@@ -277,13 +277,13 @@ put-full ws st r bs g h dead full =
     let c = code-full ws (length st) r (length bs) h dead (used-fits ws st (gapsOf ws) g) full in
     sym (out-refused ws st bs r 8 (sym c) (λ z. omega arith) (λ z. omega arith))
 
--- used bytes that are not the sum of the lengths are noticed before anything is moved
+-- used bytes that are not the sum of the lengths, of all rows or of some first ones, are noticed before anything is searched or moved
 pub put-notices : (ws st : List ℕ) (r : ℕ) (bs : List ℕ) → r < 1024 → sizeOf ws r ≡ 0 → usedOf ws + length bs ≤ length st → gapsWrong (gapsOf ws) (length st) ≡ false
-    → room (gapFor (gapsOf ws) (length bs)) < length bs → (sumTo (sizeOf ws) 1024 ≡ usedOf ws → ⊥) → putPayload ws st r bs ≡ outcome 16 ws st
+    → room (gapFor (gapsOf ws) (length bs)) < length bs → ((n : ℕ) → n ≤ 1024 → sumTo (sizeOf ws) n ≡ usedOf ws → ⊥) → putPayload ws st r bs ≡ outcome 16 ws st
 put-notices ws st r bs h dead fits o tight wrong =
     let c = code-wrong ws (length st) r (length bs) h dead fits o tight (not-all (allFit ws (length st) (usedOf ws)) refl) in
     sym (out-refused ws st bs r 16 (sym c) (λ z. omega arith) (λ z. omega arith))
   where
     not-all : (t : Bool) → allFit ws (length st) (usedOf ws) ≡ t → allFit ws (length st) (usedOf ws) ≡ false
-    not-all true q = absurd (wrong (all-true ws (length st) (usedOf ws) q .sum))
+    not-all true q = let s = all-true ws (length st) (usedOf ws) q in absurd (wrong (s .rows) (s .few) (s .sum))
     not-all false q = q

@@ -14,26 +14,29 @@ use Rattle.queue_words.specs.declared.header.Totals.{Totals}
 use Rattle.queue_words.specs.Items.{putPlace}
 use Rattle.payload_store.specs.declared.Tally.{Tally}
 use Rattle.payload_store.specs.Words.{usedOf, gapsOf, placeOf, sizeOf}
-use Rattle.payload_store.specs.Moving.{Fits, together, Pack, pack, turn, turnAt, turns, least, moved}
+use Rattle.payload_store.specs.Moving.{together, Pack, pack, turn, turnAt, turns, least, moved}
 use Rattle.payload_store.specs.Putting.{tally, rowFits, fitsTo, allFit, putCode, putElsewhere, putPayload, placed, outcome, Outcome}
 use Rattle.payload_store.specs.Gaps.{gaps, room, gapsWrong, gapFor}
-use Rattle.payload_store.specs.Searching.{found}
+use Rattle.payload_store.specs.Searching.{lies, found}
 use Rattle.payload_store.specs.Good.{sumTo}
 use Rattle.payload_store.proofs.Cases.{by-index, pick-else, pick-then, pick-both, false-true}
 use Rattle.payload_store.proofs.Clear.{Ordered, right-ordered, for-ordered}
+use Rattle.payload_store.proofs.Choice.{Fits}
 use Rattle.payload_store.proofs.Found.{found-gap}
 use Rattle.payload_store.proofs.Moves.{moved-length}
 use Rattle.payload_store.proofs.Laws.{place-totals, place-length}
 
--- what a tally that is still ok says of row n
+-- what a tally that is still ok says of row n, where bytes are left
 record Fitting (ws : List ℕ) (len n : ℕ) (t t′ : Tally) : Type 0 where
   was : t .ok ≡ true
   in-store : placeOf ws n + sizeOf ws n ≤ len
   rest : t′ .left + sizeOf ws n ≡ t .left
 
-fitting : (ws : List ℕ) (len n : ℕ) (t : Tally) → rowFits ws len n t .ok ≡ true → Fitting ws len n t (rowFits ws len n t)
+fitting : (ws : List ℕ) (len n : ℕ) (t : Tally) → (t .left ≡ 0 → ⊥) → rowFits ws len n t .ok ≡ true → Fitting ws len n t (rowFits ws len n t)
 unfolding rowFits
-fitting ws len n t e = go (ltb len (sizeOf ws n)) refl (ltb (len - sizeOf ws n) (placeOf ws n)) refl (ltb (t .left) (sizeOf ws n)) refl e
+fitting ws len n t ne e =
+    rw (ne-eqb (t .left) 0 ne)
+    (go (ltb len (sizeOf ws n)) refl (ltb (len - sizeOf ws n) (placeOf ws n)) refl (ltb (t .left) (sizeOf ws n)) refl (rw (ne-eqb (t .left) 0 ne) at e))
   where
     go : (a : Bool) → ltb len (sizeOf ws n) ≡ a → (b : Bool) → ltb (len - sizeOf ws n) (placeOf ws n) ≡ b → (c : Bool) → ltb (t .left) (sizeOf ws n) ≡ c
         → (pick a (tally false (t .left)) (pick b (tally false (t .left)) (pick c (tally false (t .left)) (tally (t .ok) (t .left - sizeOf ws n))))) .ok ≡ true
@@ -47,33 +50,65 @@ fitting ws len n t e = go (ltb len (sizeOf ws n)) refl (ltb (len - sizeOf ws n) 
       rest = omega (arith, ltb-false (t .left) (sizeOf ws n) ec);
     }
 
--- what the test of the first n rows says
+-- where nothing is left, no further row is judged
+fits-skips : (ws : List ℕ) (len used n : ℕ) → fitsTo ws len used n .left ≡ 0 → fitsTo ws len used (suc n) ≡ fitsTo ws len used n
+unfolding fitsTo rowFits
+fits-skips ws len used n e = rw (eq-eqb (fitsTo ws len used n .left) 0 e)
+
+fits-stay : (ws : List ℕ) (len used n k : ℕ) → fitsTo ws len used n .left ≡ 0 → fitsTo ws len used (k + n) ≡ fitsTo ws len used n
+fits-stay ws len used n zero e = let z : 0 + n ≡ n = omega arith in ap (fitsTo ws len used) z
+fits-stay ws len used n (suc k) e =
+    let z : suc k + n ≡ suc (k + n) = omega arith in
+    let i = fits-stay ws len used n k e in
+    ap (fitsTo ws len used) z ∙ (fits-skips ws len used (k + n) (ap (λ (t : Tally). t .left) i ∙ e) ∙ i)
+
+-- what the test of the first n rows says of those that were judged
 record FitTo (ws : List ℕ) (len used n left : ℕ) : Type 0 where
-  inside : (i : ℕ) → i < n → placeOf ws i + sizeOf ws i ≤ len
-  sum : left + sumTo (sizeOf ws) n ≡ used
+  rows : ℕ
+  few : rows ≤ n
+  inside : (i : ℕ) → i < rows → placeOf ws i + sizeOf ws i ≤ len
+  sum : left + sumTo (sizeOf ws) rows ≡ used
+  all : (left ≡ 0 → ⊥) → rows ≡ n
+
+fits-none : (ws : List ℕ) (len used : ℕ) → FitTo ws len used 0 (fitsTo ws len used 0 .left)
+unfolding fitsTo sumTo
+fits-none ws len used = record { rows = 0; few = omega arith; inside = λ i h. absurd (omega arith); sum = omega arith; all = λ ne. refl }
+
+fits-fitting : (ws : List ℕ) (len used n : ℕ) → (fitsTo ws len used n .left ≡ 0 → ⊥) → fitsTo ws len used (suc n) .ok ≡ true → Fitting ws len n (fitsTo ws len used n) (fitsTo ws len used (suc n))
+unfolding fitsTo
+fits-fitting ws len used n nz e = fitting ws len n (fitsTo ws len used n) nz e
 
 fits-to : (ws : List ℕ) (len used n : ℕ) → fitsTo ws len used n .ok ≡ true → FitTo ws len used n (fitsTo ws len used n .left)
-unfolding fitsTo sumTo
-fits-to ws len used zero e = record { inside = λ i h. absurd (omega arith); sum = omega arith }
-fits-to ws len used (suc n) e =
-    let f = fitting ws len n (fitsTo ws len used n) e in
+unfolding sumTo
+fits-to ws len used zero e = fits-none ws len used
+fits-to ws len used (suc n) e = by-index (fitsTo ws len used n .left) 0
+    (λ z. let q = fits-skips ws len used n z in
+    let g = fits-to ws len used n (rw q at e) in
+    rw q (record { rows = g .rows; few = omega (arith, g .few); inside = g .inside; sum = g .sum; all = λ ne. absurd (ne z) }))
+    (λ nz. let f = fits-fitting ws len used n nz e in
     let g = fits-to ws len used n (f .was) in
+    let a = g .all nz in
     record {
+      rows = suc n;
+      few = omega arith;
       inside = λ i h. by-index i n (λ q. rw q (f .in-store)) (λ q. g .inside i (omega arith));
-      sum = omega (arith, f .rest, g .sum);
-    }
+      sum = omega (arith, f .rest, rw a at (g .sum));
+      all = λ ne. refl;
+    })
 
--- all rows fit: each payload lies in the store, and together they are the used bytes
+-- some first rows fit: each payload lies in the store, and together they are the used bytes
 pub record Sound (ws : List ℕ) (len used : ℕ) : Type 0 where
-  pub fits : Fits ws len
-  pub sum : sumTo (sizeOf ws) 1024 ≡ used
+  pub rows : ℕ
+  pub few : rows ≤ 1024
+  pub inside : (i : ℕ) → i < rows → placeOf ws i + sizeOf ws i ≤ len
+  pub sum : sumTo (sizeOf ws) rows ≡ used
 
 pub all-true : (ws : List ℕ) (len used : ℕ) → allFit ws len used ≡ true → Sound ws len used
 unfolding allFit
 all-true ws len used e =
     let p = pick-both (fitsTo ws len used 1024 .ok) (eqb (fitsTo ws len used 1024 .left) 0) e in
     let g = fits-to ws len used 1024 (p .0) in
-    record { fits = record { inside = g .inside }; sum = omega (arith, g .sum, eqb-true (fitsTo ws len used 1024 .left) 0 (p .1)) }
+    record { rows = g .rows; few = g .few; inside = g .inside; sum = omega (arith, g .sum, eqb-true (fitsTo ws len used 1024 .left) 0 (p .1)) }
 
 -- the ways out of all_fit
 all-done : (ws : List ℕ) (len used n : ℕ) (t : Tally) → t ≡ fitsTo ws len used n → n ≡ 1024 → pick (t .ok) (eqb (t .left) 0) false ≡ allFit ws len used
@@ -86,6 +121,16 @@ all-ok ws len used n t e en h = rw h at (all-done ws len used n t e en)
 pub all-bad : (ws : List ℕ) (len used n : ℕ) (t : Tally) → t ≡ fitsTo ws len used n → n ≡ 1024 → t .ok ≡ false → false ≡ allFit ws len used
 all-bad ws len used n t e en h = rw h at (all-done ws len used n t e en)
 
+pub all-early : (ws : List ℕ) (len used n : ℕ) (t : Tally) → n ≤ 1024 → t ≡ fitsTo ws len used n → t .left ≡ 0 → t .ok ≡ allFit ws len used
+all-early ws len used n t h e z =
+    let m : 1024 - n + n ≡ 1024 = omega arith in
+    let q : t ≡ fitsTo ws len used 1024 = e ∙ (sym (fits-stay ws len used n (1024 - n) (rw e at z)) ∙ ap (fitsTo ws len used) m) in
+    go (t .ok) refl q
+  where
+    go : (b : Bool) → t .ok ≡ b → t ≡ fitsTo ws len used 1024 → t .ok ≡ allFit ws len used
+    go true k q = k ∙ (sym (eq-eqb (t .left) 0 z) ∙ all-ok ws len used 1024 t q refl k)
+    go false k q = k ∙ all-bad ws len used 1024 t q refl k
+
 to-fits : (ws : List ℕ) (len used n : ℕ) → n ≤ 1024 → Fits ws len → sumTo (sizeOf ws) n ≤ used → (fitsTo ws len used n .ok ≡ true) × (fitsTo ws len used n .left + sumTo (sizeOf ws) n ≡ used)
 unfolding fitsTo rowFits sumTo
 to-fits ws len used zero h f s = (refl, omega arith)
@@ -93,14 +138,16 @@ to-fits ws len used (suc n) h f s =
     let q : placeOf ws n + sizeOf ws n ≤ len = f .inside n (omega arith) in
     let r = to-fits ws len used n (omega arith) f (omega arith) in
     let l : sizeOf ws n ≤ fitsTo ws len used n .left = omega (arith, r .1) in
-    rw (le-ltb len (sizeOf ws n) (omega arith), le-ltb (len - sizeOf ws n) (placeOf ws n) (omega arith), le-ltb (fitsTo ws len used n .left) (sizeOf ws n) l)
-    (r .0, omega (arith, r .1))
+    by-index (fitsTo ws len used n .left) 0
+    (λ z. rw (eq-eqb (fitsTo ws len used n .left) 0 z) (r .0, omega (arith, r .1)))
+    (λ nz. rw (ne-eqb (fitsTo ws len used n .left) 0 nz, le-ltb len (sizeOf ws n) (omega arith), le-ltb (len - sizeOf ws n) (placeOf ws n) (omega arith), le-ltb (fitsTo ws len used n .left) (sizeOf ws n) l)
+    (r .0, omega (arith, r .1)))
 
-pub true-all : (ws : List ℕ) (len used : ℕ) → Sound ws len used → allFit ws len used ≡ true
+pub true-all : (ws : List ℕ) (len used : ℕ) → Fits ws len → sumTo (sizeOf ws) 1024 ≡ used → allFit ws len used ≡ true
 unfolding allFit
-true-all ws len used s =
-    let r = to-fits ws len used 1024 (omega arith) (s .fits) (omega (arith, s .sum)) in
-    rw (r .0, eq-eqb (fitsTo ws len used 1024 .left) 0 (omega (arith, r .1, s .sum)))
+true-all ws len used f s =
+    let r = to-fits ws len used 1024 (omega arith) f (omega arith) in
+    rw (r .0, eq-eqb (fitsTo ws len used 1024 .left) 0 (omega (arith, r .1)))
 
 pub record PutOk (ws : List ℕ) (len i n : ℕ) : Type 0 where
   pub row : i < 1024
@@ -155,14 +202,15 @@ pub record Kept (s t : Pack) : Type 0 where
 
 turn-kept : (s : Pack) → Kept s (turn s)
 unfolding turn turnAt
-turn-kept s = go (leb 1024 (least (s .words) (s .cursor) 1024))
+turn-kept s = go (leb 1024 (least (s .words) (s .cursor) 1024)) (lies (placeOf (s .words) r) (sizeOf (s .words) r) (length (s .store)))
   where
     r : ℕ
     r = least (s .words) (s .cursor) 1024
 
-    go : (t : Bool) → Kept s (pick t s (pack (putPlace (s .words) r (s .cursor)) (moved (s .store) (placeOf (s .words) r) (s .cursor) (sizeOf (s .words) r)) (s .cursor + sizeOf (s .words) r)))
-    go true = record { totals = refl; long = refl; same = refl }
-    go false = record { totals = place-totals (s .words) r (s .cursor); long = place-length (s .words) r (s .cursor); same = moved-length (s .store) (placeOf (s .words) r) (s .cursor) (sizeOf (s .words) r) }
+    go : (t u : Bool) → Kept s (pick t s (pick u (pack (putPlace (s .words) r (s .cursor)) (moved (s .store) (placeOf (s .words) r) (s .cursor) (sizeOf (s .words) r)) (s .cursor + sizeOf (s .words) r)) s))
+    go true u = record { totals = refl; long = refl; same = refl }
+    go false false = record { totals = refl; long = refl; same = refl }
+    go false true = record { totals = place-totals (s .words) r (s .cursor); long = place-length (s .words) r (s .cursor); same = moved-length (s .store) (placeOf (s .words) r) (s .cursor) (sizeOf (s .words) r) }
 
 turns-kept : (s : Pack) (k : ℕ) → Kept s (turns s k)
 unfolding turns
@@ -177,12 +225,15 @@ unfolding together
 together-kept ws st ws1 st1 cur e = rw e (turns-kept (pack ws st 0) (length st))
 
 -- the gap that is found lies in the store
-pub room-found : (ws : List ℕ) (len n i : ℕ) (f : Gaps) → f ≡ found ws len → i < 1024 → n ≤ f .limit - f .end → usedOf ws + n ≤ len
+pub room-found : (ws : List ℕ) (used len n i : ℕ) (f : Gaps) → f ≡ found ws used len → i < 1024 → n ≤ f .limit - f .end → usedOf ws + n ≤ len
     → (i < 1024) × (f .end + n ≤ len) × (usedOf ws + n ≤ len)
-room-found ws len n i f ef h a u = (h, omega (arith, found-gap ws len f ef .0, found-gap ws len f ef .1), u)
+room-found ws used len n i f ef h a u = (h, omega (arith, found-gap ws used len f ef .0, found-gap ws used len f ef .1), u)
 
 -- the ways out of put_elsewhere
-module _ (ws st bs : List ℕ) (i : ℕ) (f : Gaps) (ef : f ≡ found ws (length st)) where
+module _ (ws st bs : List ℕ) (i : ℕ) (s : Totals) (f : Gaps) (es : s ≡ totalsAt ws) (eg : f ≡ found ws (s .used) (length st)) where
+  ef : f ≡ found ws (usedOf ws) (length st)
+  ef = rw es at eg
+
   pub out-found : (o : Outcome) → length bs ≤ f .limit - f .end → o ≡ placed ws st f i bs → o ≡ putElsewhere ws st i bs
   unfolding putElsewhere
   out-found o a eo = rw (← ef, le-leb (length bs) (room f) a) eo
@@ -227,8 +278,8 @@ module _ (ws : List ℕ) (len i n code : ℕ) (t : Totals) (ec : code ≡ putCod
       let p = put-zero ws len i n (sym ec ∙ e) in
       (p .0 .row, rw (eg, et) (p .1), p .0 .room)
 
-pub room-elsewhere : (ws : List ℕ) (len i n code : ℕ) → code ≡ putCode ws len i n → code ≡ 1 → (i < 1024) × Fits ws len × (usedOf ws + n ≤ len)
-room-elsewhere ws len i n code ec e = let p = put-one ws len i n (sym ec ∙ e) in (p .0 .row, p .1 .fits, p .0 .room)
+pub room-elsewhere : (ws : List ℕ) (len i n code : ℕ) → code ≡ putCode ws len i n → code ≡ 1 → (i < 1024) × (usedOf ws + n ≤ len)
+room-elsewhere ws len i n code ec e = let p = put-one ws len i n (sym ec ∙ e) in (p .0 .row, p .0 .room)
 
 pub ok-before : (ws : List ℕ) (len i n code : ℕ) → code ≡ putCode ws len i n → code ≡ 1 → PutOk ws len i n
 ok-before ws len i n code ec e = put-one ws len i n (sym ec ∙ e) .0

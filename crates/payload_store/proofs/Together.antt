@@ -152,7 +152,7 @@ pub record Prog (ws₀ st₀ : List ℕ) (k : ℕ) (s : Pack) : Type 0 where
 turn-prog : (ws₀ st₀ : List ℕ) (k : ℕ) (s : Pack) → Prog ws₀ st₀ k s → Prog ws₀ st₀ (suc k) (turn s)
 turn-prog ws₀ st₀ k s g = by-lt (least (s .words) (s .cursor) 1024) 1024
     (λ h. let q = least-law (s .words) (s .cursor) 1024 (omega arith) in
-    rw (turn-moves (s .words) (s .store) (s .cursor) (least (s .words) (s .cursor) 1024) refl h)
+    rw (turn-moves (s .words) (s .store) (s .cursor) (least (s .words) (s .cursor) 1024) refl h (omega (arith, g .mid .inside (least (s .words) (s .cursor) 1024) h, g .mid .same)))
     (record {
       mid = mid-turn ws₀ st₀ (s .words) (s .store) (s .cursor) (least (s .words) (s .cursor) 1024) (g .mid) h q;
       going = ⊎-elim (λ l. inl (omega (arith, q .live h))) (λ l. absurd (omega arith)) (g .going);

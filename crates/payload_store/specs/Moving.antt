@@ -8,6 +8,7 @@ use lib.ListN.{length, getD, set}
 use Rattle.queue_words.specs.Flags.{pick}
 use Rattle.queue_words.specs.Items.{putPlace}
 use Rattle.payload_store.specs.Words.{placeOf, sizeOf}
+use Rattle.payload_store.specs.Searching.{lies}
 
 -- of the best row so far (1024: none) and row i: the one with a payload at or above the cursor whose place is least
 unfoldable pub choose : List ℕ → ℕ → ℕ → ℕ → ℕ
@@ -58,13 +59,15 @@ pub record Pack : Type 0 where
 abbrev pub pack : List ℕ → List ℕ → ℕ → Pack
 pack ws st cur = record { words = ws; store = st; cursor = cur }
 
--- row r's payload goes to the cursor; no row: nothing is left to do
+-- row r's payload goes to the cursor; no row, or a payload outside the store: nothing is left to do
 unfoldable pub turnAt : Pack → ℕ → Pack
 turnAt s r =
     pick (leb 1024 r) s
+    (pick (lies (placeOf (s .words) r) (sizeOf (s .words) r) (length (s .store)))
     (pack (putPlace (s .words) r (s .cursor))
     (moved (s .store) (placeOf (s .words) r) (s .cursor) (sizeOf (s .words) r))
     (s .cursor + sizeOf (s .words) r))
+    s)
 
 unfoldable pub turn : Pack → Pack
 turn s = turnAt s (least (s .words) (s .cursor) 1024)
@@ -76,7 +79,3 @@ turns s (suc k) = turn (turns s k)
 -- as many turns as the store has bytes: never more are needed
 unfoldable pub together : List ℕ → List ℕ → Pack
 together ws st = turns (pack ws st 0) (length st)
-
--- every row's payload lies in a store of len bytes
-pub record Fits (ws : List ℕ) (len : ℕ) : Type 0 where
-  pub inside : (i : ℕ) → i < 1024 → placeOf ws i + sizeOf ws i ≤ len

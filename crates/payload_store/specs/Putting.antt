@@ -17,20 +17,21 @@ abbrev pub tally : Bool → ℕ → Tally
 tally ok left = record { ok = ok; left = left }
 
 -- Document 01: "A message occupies its full payload length"; 16: "or a place kept in the state lies outside its table".
--- does row i's payload lie in a store of len bytes, and is it no longer than what is left of the used bytes
+-- does row i's payload lie in a store of len bytes, and is it no longer than what is left of the used bytes; where nothing is left, it is not judged
 unfoldable pub rowFits : List ℕ → ℕ → ℕ → Tally → Tally
 rowFits ws len i t =
-    pick (ltb len (sizeOf ws i)) (tally false (t .left))
+    pick (eqb (t .left) 0) t
+    (pick (ltb len (sizeOf ws i)) (tally false (t .left))
     (pick (ltb (len - sizeOf ws i) (placeOf ws i)) (tally false (t .left))
     (pick (ltb (t .left) (sizeOf ws i)) (tally false (t .left))
-    (tally (t .ok) (t .left - sizeOf ws i))))
+    (tally (t .ok) (t .left - sizeOf ws i)))))
 
 -- after the first n rows
 unfoldable pub fitsTo : List ℕ → ℕ → ℕ → ℕ → Tally
 fitsTo ws len used zero = tally true used
 fitsTo ws len used (suc n) = rowFits ws len n (fitsTo ws len used n)
 
--- all rows fit, and nothing is left
+-- the rows judged fit, and nothing is left
 unfoldable pub allFit : List ℕ → ℕ → ℕ → Bool
 allFit ws len used = pick (fitsTo ws len used 1024 .ok) (eqb (fitsTo ws len used 1024 .left) 0) false
 
@@ -65,10 +66,10 @@ placed ws st g i bs =
     (putBytes (putLength (putPlace ws i (g .end)) i (length bs)) (usedOf ws + length bs) (gaps (g .end + length bs) (g .limit) (g .from) (g .upto)))
     (written st (g .end) bs)
 
--- where the known gaps have no room: in a gap that is found, or behind the other payloads, moved together
+-- where the known gaps have no room: in the gap that is found, or behind the other payloads, moved together
 unfoldable pub putElsewhere : List ℕ → List ℕ → ℕ → List ℕ → Outcome
 putElsewhere ws st i bs =
-    pick (leb (length bs) (room (found ws (length st)))) (placed ws st (found ws (length st)) i bs)
+    pick (leb (length bs) (room (found ws (usedOf ws) (length st)))) (placed ws st (found ws (usedOf ws) (length st)) i bs)
     (placed (together ws st .words) (together ws st .store) (gaps (usedOf (together ws st .words)) (length st) 0 0) i bs)
 
 -- the whole call; refused, it leaves words and store as they were

@@ -1,4 +1,5 @@
--- Searching a gap: what the code finds, for any words. Assumes nothing.
+-- Searching gaps: what the code finds, for any words. Assumes nothing.
+use mathlib.Core.Bool.{Bool, true, false}
 use mathlib.Core.List.{List}
 use Prim.Native.Nat.{ℕ, zero, suc, _+_, _-_, _*_, _/_}
 use lib.Dec.{ltb, leb, eqb}
@@ -9,46 +10,62 @@ use Rattle.payload_store.specs.declared.searching.Run.{Run}
 use Rattle.payload_store.specs.Words.{placeOf, sizeOf}
 use Rattle.payload_store.specs.Gaps.{gaps}
 
--- k pieces from a on are marked
-unfoldable pub marked : List ℕ → ℕ → ℕ → List ℕ
-marked ms a zero = ms
-marked ms a (suc k) = set (marked ms a k) (a + k) 1
+-- a payload lies in a store of len bytes
+unfoldable pub lies : ℕ → ℕ → ℕ → Bool
+lies place size len = pick (ltb len size) false (leb place (len - size))
 
--- how many pieces of 4,096 bytes a payload touches, the one at its end among them
-unfoldable pub pieces : ℕ → ℕ → ℕ
-pieces place size = pick (eqb size 0) 0 ((place + size) / 4096 - place / 4096 + 1)
+-- how far the payloads reach that begin in each piece of 8,192 bytes (0: none does): those of piece k up to piece x, or further
+unfoldable pub raised : List ℕ → ℕ → ℕ → List ℕ
+raised rs k x = pick (ltb (getD rs k 0) x) (set rs k x) rs
 
--- the marks with those of row i's payload
-unfoldable pub touched : List ℕ → List ℕ → ℕ → List ℕ
-touched ws ms i = marked ms (placeOf ws i / 4096) (pieces (placeOf ws i) (sizeOf ws i))
+-- with row i's payload, of so many bytes: up to the piece behind the one at its end
+unfoldable pub reached : List ℕ → List ℕ → ℕ → ℕ → List ℕ
+reached ws rs i size =
+    pick (eqb size 0) rs
+    (pick (lies (placeOf ws i) size 2097151) (raised rs (placeOf ws i / 8192) ((placeOf ws i + size) / 8192 + 1)) rs)
 
--- with those of the first n rows
-unfoldable pub touchedTo : List ℕ → ℕ → List ℕ
-touchedTo ws zero = replicate 512 0
-touchedTo ws (suc n) = touched ws (touchedTo ws n) n
+-- how many of the used bytes are not in the first n rows
+unfoldable pub leftTo : List ℕ → ℕ → ℕ → ℕ
+leftTo ws used zero = used
+leftTo ws used (suc n) = leftTo ws used n - sizeOf ws n
 
-abbrev pub run : ℕ → ℕ → ℕ → Run
-run f u o = record { from = f; upto = u; start = o }
+-- with the first n rows, up to the one with which the used bytes are all there
+unfoldable pub reachTo : List ℕ → ℕ → ℕ → List ℕ
+reachTo ws used zero = replicate 256 0
+reachTo ws used (suc n) = pick (eqb (leftTo ws used n) 0) (reachTo ws used n) (reached ws (reachTo ws used n) n (sizeOf ws n))
 
--- the longest run without a mark, and where the run that goes on began, with piece k, which has the mark m
+abbrev pub run : ℕ → ℕ → ℕ → ℕ → ℕ → Run
+run f u l h o = record { from = f; upto = u; low = l; high = h; start = o }
+
+-- the two longest runs, and where the one that goes on began, with the free piece k at its end
+unfoldable pub freeAt : Run → ℕ → Run
+freeAt r k =
+    pick (eqb (r .upto) k) (run (r .start) (k + 1) (r .low) (r .high) (r .start))
+    (pick (ltb (r .upto - r .from) (k + 1 - r .start)) (run (r .start) (k + 1) (r .from) (r .upto) (r .start))
+    (pick (ltb (r .high - r .low) (k + 1 - r .start)) (run (r .from) (r .upto) (r .start) (k + 1) (r .start)) r))
+
+unfoldable pub greater : ℕ → ℕ → ℕ
+greater a b = pick (ltb a b) b a
+
+-- with piece k, from which payloads reach up to piece x: it is free where none begins in it and none reaches into it
 unfoldable pub runOn : Run → ℕ → ℕ → Run
-runOn r m k =
-    pick (ltb 0 m) (run (r .from) (r .upto) (k + 1))
-    (pick (leb (k + 1 - r .start) (r .upto - r .from)) r (run (r .start) (k + 1) (r .start)))
+runOn r x k =
+    pick (ltb 0 x) (run (r .from) (r .upto) (r .low) (r .high) (greater (greater (r .start) x) (k + 1)))
+    (pick (ltb k (r .start)) r (freeAt r k))
 
 -- among the first n pieces
 unfoldable pub runTo : List ℕ → ℕ → Run
-runTo ms zero = run 0 0 0
-runTo ms (suc n) = runOn (runTo ms n) (getD ms n 0) n
+runTo rs zero = run 0 0 0 0 0
+runTo rs (suc n) = runOn (runTo rs n) (getD rs n 0) n
 
 -- no more than the store has
 unfoldable pub within : ℕ → ℕ → ℕ
 within len x = pick (ltb len x) len x
 
--- the bytes of a run; of the store's last piece, which may be short, those that are there
+-- the bytes of the runs; of the store's last piece, which may be short, those that are there
 abbrev pub bytesOf : ℕ → Run → Gaps
-bytesOf len r = gaps (r .from * 4096) (within len (r .upto * 4096)) 0 0
+bytesOf len r = gaps (r .from * 8192) (within len (r .upto * 8192)) (r .low * 8192) (within len (r .high * 8192))
 
--- the longest run of pieces that no payload touches, at its end neither; a store of 512 pieces or more is not searched
-unfoldable pub found : List ℕ → ℕ → Gaps
-found ws len = pick (leb 2097152 len) (gaps 0 0 0 0) (bytesOf len (runTo (touchedTo ws 1024) (len / 4096 + 1)))
+-- the two longest runs of pieces into which no payload reaches, the longest one first; a store of 256 pieces or more is not searched
+unfoldable pub found : List ℕ → ℕ → ℕ → Gaps
+found ws used len = pick (leb 2097152 len) (gaps 0 0 0 0) (bytesOf len (runTo (reachTo ws used 1024) ((len + 8192 - 1) / 8192)))

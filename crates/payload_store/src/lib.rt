@@ -15,7 +15,7 @@ ghost use mathlib.Core.List.{_++_};
 ghost use Prim.Native.Nat.{_+_, _<_, _≤_};
 ghost use lib.ListN.{length, take, drop};
 ghost use Rattle.payload_store.specs.Words.{usedOf, putBytes};
-ghost use Rattle.payload_store.specs.Moving.{choose, moved, pack, together, Fits, Hints};
+ghost use Rattle.payload_store.specs.Moving.{choose, moved, pack, together, Hints};
 ghost use Rattle.payload_store.specs.Putting.{rowFits, allFit, putCode, outcome, written, placed, putElsewhere, putPayload};
 ghost use Rattle.payload_store.specs.Reading.{readCode, readPart};
 ghost use Rattle.payload_store.specs.Dropping.{dropCode, dropPayload};
@@ -36,7 +36,8 @@ use queue_words::items::load_place;
 use queue_words::items::store_length;
 use queue_words::items::store_place;
 use queue_words::whole;
-use searching::find_gap;
+use searching::find_gaps;
+use searching::lies;
 
 // The used bytes and the gaps.
 fn store_bytes(queue: &mut [u64; QUEUE_WORDS], used: u64, gaps: Gaps)
@@ -84,9 +85,9 @@ fn move_down(store: &mut [u8], from: usize, to: usize, n: usize)
 }
 
 // Moves the payloads together, towards 0, in the order of their places; by what is kept of the groups of rows, at first nothing.
-// Answers where they end.
+// Answers where they end. It stops at a payload that lies outside the store, which no queue has.
 fn move_all(queue: &mut [u64; QUEUE_WORDS], store: &mut [u8], kept: &mut [u64]) -> u64
-    requires { ⌜ Fits (now queue) (length (now store)) × Hints (now queue) 0 (now kept) ⌝ }
+    requires { ⌜ Hints (now queue) 0 (now kept) ⌝ }
     ensures { λ r. ⌜ pack (now (queue .exit)) (now (store .exit)) r ≡ together (now (queue .entry)) (now (store .entry)) ⌝ }
 {
     whole(queue);
@@ -100,6 +101,10 @@ fn move_all(queue: &mut [u64; QUEUE_WORDS], store: &mut [u8], kept: &mut [u64]) 
         }
         let from = load_place(queue, r);
         let n = load_length(queue, r);
+        let inside = lies(from, n, len as u64);
+        if !inside {
+            return cursor;
+        }
         move_down(store, from as usize, cursor as usize, n as usize);
         store_place(queue, r, cursor);
         kept[r / GROUP] = UNKNOWN;
@@ -110,7 +115,6 @@ fn move_all(queue: &mut [u64; QUEUE_WORDS], store: &mut [u8], kept: &mut [u64]) 
 }
 
 fn move_together(queue: &mut [u64; QUEUE_WORDS], store: &mut [u8]) -> u64
-    requires { ⌜ Fits (now queue) (length (now store)) ⌝ }
     ensures { λ r. ⌜ pack (now (queue .exit)) (now (store .exit)) r ≡ together (now (queue .entry)) (now (store .entry)) ⌝ }
 {
     let mut kept = [UNKNOWN; GROUPS];
@@ -127,6 +131,9 @@ fn row_fits(queue: &[u64; QUEUE_WORDS], len: u64, i: usize, t: Tally) -> Tally
     requires { ⌜ i < 1024 ⌝ }
     ensures { λ r. ⌜ r ≡ rowFits (now (queue .entry)) len i t ⌝ }
 {
+    if t.left == 0 {
+        return t;
+    }
     let size = load_length(queue, i);
     if size > len {
         return Tally {
@@ -153,7 +160,8 @@ fn row_fits(queue: &[u64; QUEUE_WORDS], len: u64, i: usize, t: Tally) -> Tally
     }
 }
 
-// Does every row's payload lie in a store of len bytes, and are they as many bytes together as are used? Reads only.
+// Are the payloads of some first rows as many bytes together as are used, and does each lie in a store of len bytes? The rows
+// behind those are not looked at: a queue has no payload there. Reads only.
 fn all_fit(queue: &[u64; QUEUE_WORDS], len: u64, used: u64) -> bool
     ensures { λ r. ⌜ r ≡ allFit (now (queue .entry)) len used ⌝ }
 {
@@ -163,6 +171,9 @@ fn all_fit(queue: &[u64; QUEUE_WORDS], len: u64, used: u64) -> bool
     };
     let mut i = 0;
     while i < 1024 {
+        if t.left == 0 {
+            return t.ok;
+        }
         t = row_fits(queue, len, i, t);
         i += 1;
     }
@@ -245,12 +256,13 @@ fn place_payload(
 
 // Puts a payload into row i where the known gaps have no room: into a gap that is found, or behind the others, moved together.
 fn put_elsewhere(queue: &mut [u64; QUEUE_WORDS], store: &mut [u8], i: usize, payload: &[u8]) -> u8
-    requires { ⌜ (i < 1024) × Fits (now queue) (length (now store)) × (usedOf (now queue) + length (now payload) ≤ length (now store)) ⌝ }
+    requires { ⌜ (i < 1024) × (usedOf (now queue) + length (now payload) ≤ length (now store)) ⌝ }
     ensures { λ r. ⌜ outcome r (now (queue .exit)) (now (store .exit)) ≡ putElsewhere (now (queue .entry)) (now (store .entry)) i (now (payload .entry)) ⌝ }
 {
     let len = store.len() as u64;
     let n = payload.len() as u64;
-    let f = find_gap(&*queue, len);
+    let u = load_totals(&*queue);
+    let f = find_gaps(&*queue, u.used, len);
     if n <= f.limit - f.end {
         return place_payload(queue, store, f, i, payload);
     }

@@ -9,14 +9,17 @@ use Rattle.payload_store.proofs.searching.longest.Statement.{statement}
 use Rattle.payload_store.proofs.searching.longest.Tie as tie
 
 abbrev Inv-loop : tie.InvT-loop
-Inv-loop marks n r₀ k₀ r k = (k ≤ n) × (r ≡ runTo marks k)
+Inv-loop reach n r₀ k₀ r k = (k ≤ n) × (r ≡ runTo reach k)
 
 abbrev μ-loop : tie.MeasureT-loop
-μ-loop marks n r₀ k₀ r k = n - k
+μ-loop reach n r₀ k₀ r k = n - k
 
 loop-holds : tie.Need-loop-holds Inv-loop μ-loop
 unfolding runTo
 loop-holds c = (omega arith, refl)
+
+mul-run-on : tie.Need-mul-run-on Inv-loop μ-loop
+mul-run-on c = omega arith
 
 shared-slice-read-run-on : tie.Need-shared-slice-read-run-on Inv-loop μ-loop
 shared-slice-read-run-on c = omega arith
@@ -40,4 +43,4 @@ returns c =
     (c .before .loop .inv .1) ∙ ap (runTo _) e
 
 pub longest-spec : {M : Type 1} → statement M
-longest-spec = tie.close (tie.spec Inv-loop μ-loop loop-holds shared-slice-read-run-on run-on-requires add-k loop-less loop-again returns)
+longest-spec = tie.close (tie.spec Inv-loop μ-loop loop-holds mul-run-on shared-slice-read-run-on run-on-requires add-k loop-less loop-again returns)
