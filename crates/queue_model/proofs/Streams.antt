@@ -8,6 +8,7 @@ use lib.ListN.{length}
 use Rattle.queue_model.specs.Table.{sum-by}
 use Rattle.queue_model.specs.Types.{Item, Stream, Options, remaining}
 use Rattle.queue_model.specs.Streams.{stream-key, find-stream, put-stream, new-stream, at, payload-bytes, head-size}
+unfoldable pub use Rattle.queue_model.specs.Streams.{unsent-bytes, size-of, size-at}
 use Rattle.queue_model.proofs.Table.{find-here, find-there, find-key, find-put-same, find-put-other, found, missing, look-up, own, other, is-own, Rising, Every, every-find, sum-put-new, sum-put-old}
 
 -- ---- the stream of an id
@@ -41,10 +42,6 @@ sum-put-at f o s ss r z = elim (look-up stream-key (s .id) ss) [
 
 -- ---- sums over messages
 
--- The unsent bytes of messages.
-abbrev pub unsent-bytes : List Item → ℕ
-unsent-bytes is = sum-by (λ (i : Item). remaining i) is
-
 pub unsent-le : (is : List Item) → unsent-bytes is ≤ payload-bytes is
 unsent-le [] = omega arith
 unsent-le (i ∷ is) = let ih = unsent-le is in omega arith
@@ -64,13 +61,6 @@ length-snoc [] i = refl
 length-snoc (j ∷ is) i = ap suc (length-snoc is i)
 
 -- ---- the size of an id's first message, 0 where there is none
-
-abbrev pub size-of : Option Stream → ℕ
-size-of none = 0
-size-of (some s) = head-size (s .items)
-
-pub size-at : ℕ → List Stream → ℕ
-size-at k ss = size-of (find-stream k ss)
 
 pub size-found : (k : ℕ) (s : Stream) (ss : List Stream) → find-stream k ss ≡ some s → size-at k ss ≡ head-size (s .items)
 unfolding size-at

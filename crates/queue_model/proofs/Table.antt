@@ -9,6 +9,7 @@ use lib.Dec.{eqb}
 use lib.ListN.{length}
 use Rattle.queue_model.specs.Logic.{if_then_else_}
 use Rattle.queue_model.specs.Table.{find, put, without, sum-by}
+pub use Rattle.queue_model.specs.Table.{Every, After, Rising}
 use Rattle.queue_model.proofs.Tests.{ltb-true, ltb-false, eqb-true, eqb-false, less, same, more, tri}
 
 -- A list is empty or has a first element.
@@ -19,11 +20,6 @@ pub data Split {A : Type 0} (xs : List A) : Type 0 where
 pub split : {A : Type 0} (xs : List A) → Split xs
 split [] = empty refl
 split (x ∷ xs) = first x xs refl
-
--- A property of every row.
-abbrev pub Every : {A : Type 0} → (A → Type 0) → List A → Type 0
-Every P [] = Unit {0}
-Every P (x ∷ xs) = P x × Every P xs
 
 module _ {A : Type 0} (key : A → ℕ) where
   -- ---- the clauses as equations
@@ -135,58 +131,49 @@ module _ {A : Type 0} (key : A → ℕ) where
 
   -- ---- rows in ascending order
 
-  -- Every key is above k; and a list whose keys rise.
-  abbrev pub After : ℕ → List A → Type 0
-  After k [] = Unit {0}
-  After k (x ∷ xs) = (k < key x) × After k xs
-
-  abbrev pub Rising : List A → Type 0
-  Rising [] = Unit {0}
-  Rising (x ∷ xs) = After (key x) xs × Rising xs
-
-  pub after-down : {j k : ℕ} (xs : List A) → j < k → After k xs → After j xs
+  pub after-down : {j k : ℕ} (xs : List A) → j < k → After key k xs → After key j xs
   after-down [] h a = tt
   after-down (x ∷ xs) h a = let l = a .0 in (omega arith, after-down xs h (a .1))
 
-  pub after-put : (k : ℕ) (x : A) (xs : List A) → k < key x → After k xs → After k (put key x xs)
-  after-put k x [] h a = subst (After k) (sym (put-end x)) (h, tt)
+  pub after-put : (k : ℕ) (x : A) (xs : List A) → k < key x → After key k xs → After key k (put key x xs)
+  after-put k x [] h a = subst (After key k) (sym (put-end x)) (h, tt)
   after-put k x (y ∷ ys) h a = elim (tri (key y) (key x)) [
-    | less l ↦ subst (After k) (sym (put-later x y ys l)) (a .0, after-put k x ys h (a .1))
-    | same e ↦ subst (After k) (sym (put-here x y ys e)) (h, a .1)
-    | more l ↦ subst (After k) (sym (put-before x y ys l)) (h, a)
+    | less l ↦ subst (After key k) (sym (put-later x y ys l)) (a .0, after-put k x ys h (a .1))
+    | same e ↦ subst (After key k) (sym (put-here x y ys e)) (h, a .1)
+    | more l ↦ subst (After key k) (sym (put-before x y ys l)) (h, a)
   ]
 
-  pub rising-put : (x : A) (xs : List A) → Rising xs → Rising (put key x xs)
-  rising-put x [] a = subst Rising (sym (put-end x)) (tt, tt)
+  pub rising-put : (x : A) (xs : List A) → Rising key xs → Rising key (put key x xs)
+  rising-put x [] a = subst (Rising key) (sym (put-end x)) (tt, tt)
   rising-put x (y ∷ ys) a = elim (tri (key y) (key x)) [
-    | less l ↦ subst Rising (sym (put-later x y ys l)) (after-put (key y) x ys l (a .0), rising-put x ys (a .1))
-    | same e ↦ subst Rising (sym (put-here x y ys e)) (subst (λ (k : ℕ). After k ys) e (a .0), a .1)
-    | more l ↦ subst Rising (sym (put-before x y ys l)) ((l, after-down ys l (a .0)), a)
+    | less l ↦ subst (Rising key) (sym (put-later x y ys l)) (after-put (key y) x ys l (a .0), rising-put x ys (a .1))
+    | same e ↦ subst (Rising key) (sym (put-here x y ys e)) (subst (λ (k : ℕ). After key k ys) e (a .0), a .1)
+    | more l ↦ subst (Rising key) (sym (put-before x y ys l)) ((l, after-down ys l (a .0)), a)
   ]
 
-  after-without : (j k : ℕ) (xs : List A) → After j xs → After j (without key k xs)
-  after-without j k [] a = subst (After j) (sym (without-nil k)) tt
+  after-without : (j k : ℕ) (xs : List A) → After key j xs → After key j (without key k xs)
+  after-without j k [] a = subst (After key j) (sym (without-nil k)) tt
   after-without j k (x ∷ xs) a = elim (is-own x k) [
-    | own g ↦ subst (After j) (sym (without-here k x xs g)) (after-without j k xs (a .1))
-    | other n ↦ subst (After j) (sym (without-there k x xs n)) (a .0, after-without j k xs (a .1))
+    | own g ↦ subst (After key j) (sym (without-here k x xs g)) (after-without j k xs (a .1))
+    | other n ↦ subst (After key j) (sym (without-there k x xs n)) (a .0, after-without j k xs (a .1))
   ]
 
-  pub rising-without : (k : ℕ) (xs : List A) → Rising xs → Rising (without key k xs)
-  rising-without k [] r = subst Rising (sym (without-nil k)) tt
+  pub rising-without : (k : ℕ) (xs : List A) → Rising key xs → Rising key (without key k xs)
+  rising-without k [] r = subst (Rising key) (sym (without-nil k)) tt
   rising-without k (x ∷ xs) r = elim (is-own x k) [
-    | own g ↦ subst Rising (sym (without-here k x xs g)) (rising-without k xs (r .1))
-    | other n ↦ subst Rising (sym (without-there k x xs n)) (after-without (key x) k xs (r .0), rising-without k xs (r .1))
+    | own g ↦ subst (Rising key) (sym (without-here k x xs g)) (rising-without k xs (r .1))
+    | other n ↦ subst (Rising key) (sym (without-there k x xs n)) (after-without (key x) k xs (r .0), rising-without k xs (r .1))
   ]
 
-  pub after-map : (f : A → A) (k : ℕ) (xs : List A) → ((x : A) → key (f x) ≡ key x) → After k xs → After k (map f xs)
+  pub after-map : (f : A → A) (k : ℕ) (xs : List A) → ((x : A) → key (f x) ≡ key x) → After key k xs → After key k (map f xs)
   after-map f k [] i a = tt
   after-map f k (x ∷ xs) i a = (subst (λ (n : ℕ). k < n) (sym (i x)) (a .0), after-map f k xs i (a .1))
 
-  pub rising-map : (f : A → A) (xs : List A) → ((x : A) → key (f x) ≡ key x) → Rising xs → Rising (map f xs)
+  pub rising-map : (f : A → A) (xs : List A) → ((x : A) → key (f x) ≡ key x) → Rising key xs → Rising key (map f xs)
   rising-map f [] i r = tt
-  rising-map f (x ∷ xs) i r = (after-map f (key (f x)) xs i (subst (λ (k : ℕ). After k xs) (sym (i x)) (r .0)), rising-map f xs i (r .1))
+  rising-map f (x ∷ xs) i r = (after-map f (key (f x)) xs i (subst (λ (k : ℕ). After key k xs) (sym (i x)) (r .0)), rising-map f xs i (r .1))
 
-  pub find-after : (k : ℕ) (xs : List A) → After k xs → find key k xs ≡ none
+  pub find-after : (k : ℕ) (xs : List A) → After key k xs → find key k xs ≡ none
   find-after k [] a = find-nil k
   find-after k (x ∷ xs) a = let l = a .0 in find-there k x xs (λ e. omega arith) ∙ find-after k xs (a .1)
 
@@ -198,7 +185,7 @@ module _ {A : Type 0} (key : A → ℕ) where
     | other n ↦ find-key k ys x (sym (find-there k y ys n) ∙ e)
   ]
 
-  pub found-above : (k j : ℕ) (xs : List A) (x : A) → After k xs → find key j xs ≡ some x → k < j
+  pub found-above : (k j : ℕ) (xs : List A) (x : A) → After key k xs → find key j xs ≡ some x → k < j
   found-above k j [] x a e = absurd (not-in-nil j x e)
   found-above k j (y ∷ ys) x a e = elim (is-own y j) [
     | own f ↦ (let l = a .0 in omega arith)
@@ -206,7 +193,7 @@ module _ {A : Type 0} (key : A → ℕ) where
   ]
 
   -- Putting a row that is there already changes nothing.
-  pub put-found : (x : A) (xs : List A) → Rising xs → find key (key x) xs ≡ some x → put key x xs ≡ xs
+  pub put-found : (x : A) (xs : List A) → Rising key xs → find key (key x) xs ≡ some x → put key x xs ≡ xs
   put-found x [] a e = absurd (not-in-nil (key x) x e)
   put-found x (y ∷ ys) a e = elim (tri (key y) (key x)) [
     | less h ↦ put-later x y ys h ∙ ap (λ (l : List A). y ∷ l) (put-found x ys (a .1) (sym (find-there (key x) y ys (λ f. omega arith)) ∙ e))
@@ -232,11 +219,11 @@ module _ {A : Type 0} (key : A → ℕ) where
   ]
 
   -- In a rising list every row is the one found by its key.
-  pub every-own : (xs : List A) → Rising xs → Every (λ x. find key (key x) xs ≡ some x) xs
+  pub every-own : (xs : List A) → Rising key xs → Every (λ x. find key (key x) xs ≡ some x) xs
   every-own [] r = tt
   every-own (x ∷ xs) r = (find-here (key x) x xs refl, below xs (r .0) (every-own xs (r .1)))
     where
-      below : (ys : List A) → After (key x) ys → Every (λ y. find key (key y) xs ≡ some y) ys → Every (λ y. find key (key y) (x ∷ xs) ≡ some y) ys
+      below : (ys : List A) → After key (key x) ys → Every (λ y. find key (key y) xs ≡ some y) ys → Every (λ y. find key (key y) (x ∷ xs) ≡ some y) ys
       below [] a h = tt
       below (y ∷ ys) a h = (let l = a .0 in find-there (key y) x xs (λ g. omega arith) ∙ h .0, below ys (a .1) (h .1))
 
@@ -251,7 +238,7 @@ module _ {A : Type 0} (key : A → ℕ) where
     | more h ↦ (let c : f x + (f y + sum-by f ys) ≡ f y + sum-by f ys + f x = omega arith in ap (sum-by f) (put-before x y ys h) ∙ c)
   ]
 
-  pub sum-put-old : (f : A → ℕ) (x x₀ : A) (xs : List A) → Rising xs → find key (key x) xs ≡ some x₀ → sum-by f (put key x xs) + f x₀ ≡ sum-by f xs + f x
+  pub sum-put-old : (f : A → ℕ) (x x₀ : A) (xs : List A) → Rising key xs → find key (key x) xs ≡ some x₀ → sum-by f (put key x xs) + f x₀ ≡ sum-by f xs + f x
   sum-put-old f x x₀ [] a e = absurd (not-in-nil (key x) x₀ e)
   sum-put-old f x x₀ (y ∷ ys) a e = elim (tri (key y) (key x)) [
     | less h ↦ (let ih : sum-by f (put key x ys) + f x₀ ≡ sum-by f ys + f x = sum-put-old f x x₀ ys (a .1) (sym (find-there (key x) y ys (λ g. omega arith)) ∙ e) in
@@ -273,7 +260,7 @@ module _ {A : Type 0} (key : A → ℕ) where
   -- ---- what is found tells the table
 
   -- Two tables in which every key finds the same are equal. So rows kept in another order, as a port may keep them, stand for one table.
-  pub same-table : (xs ys : List A) → Rising xs → Rising ys → ((k : ℕ) → find key k xs ≡ find key k ys) → xs ≡ ys
+  pub same-table : (xs ys : List A) → Rising key xs → Rising key ys → ((k : ℕ) → find key k xs ≡ find key k ys) → xs ≡ ys
   same-table [] [] a b f = refl
   same-table [] (y ∷ ys) a b f = let z : _≡_ {A = ℕ} 0 1 = cc (f (key y), find-nil (key y), find-here (key y) y ys refl) in absurd (omega arith)
   same-table (x ∷ xs) [] a b f = let z : _≡_ {A = ℕ} 0 1 = cc (f (key x), find-nil (key x), find-here (key x) x xs refl) in absurd (omega arith)
@@ -283,7 +270,7 @@ module _ {A : Type 0} (key : A → ℕ) where
       tails ih e =
           let h : x ≡ y = cc (f (key x), find-here (key x) x xs refl, find-here (key x) y ys (sym e)) in
           let g : (k : ℕ) → find key k xs ≡ find key k ys = λ k. elim (is-own x k) [
-            | own c ↦ find-after k xs (subst (λ (n : ℕ). After n xs) c (a .0)) ∙ sym (find-after k ys (subst (λ (n : ℕ). After n ys) (sym e ∙ c) (b .0)))
+            | own c ↦ find-after k xs (subst (λ (n : ℕ). After key n xs) c (a .0)) ∙ sym (find-after k ys (subst (λ (n : ℕ). After key n ys) (sym e ∙ c) (b .0)))
             | other n ↦ sym (find-there k x xs n) ∙ f k ∙ find-there k y ys (λ c. n (e ∙ c))
           ] in
           ap₂ _∷_ h (ih g)

@@ -2,7 +2,7 @@
 use Prim.Native.Nat.{ℕ, _+_, _-_}
 use mathlib.Core.Bool.{Bool, true, false, not, _&&_}
 use mathlib.Core.List.{List, [], _∷_, _++_}
-use mathlib.Core.Option.{Option, Option·getD}
+use mathlib.Core.Option.{Option, none, some, Option·getD}
 use lib.Dec.{leb}
 use lib.ListN.{length}
 use Rattle.queue_model.specs.Logic.{if_then_else_, is-some}
@@ -71,6 +71,10 @@ payload-bytes is = sum-by (λ (i : Item). length (i .payload)) is
 abbrev pub occupied : List Stream → ℕ
 occupied ss = sum-by (λ (s : Stream). payload-bytes (s .items)) ss
 
+-- The unsent bytes of messages.
+abbrev pub unsent-bytes : List Item → ℕ
+unsent-bytes is = sum-by (λ (i : Item). remaining i) is
+
 -- "free bytes count together, however scattered".
 unfoldable pub free-bytes : Queue → ℕ
 free-bytes q = q .options .store-length - occupied (q .streams)
@@ -93,6 +97,14 @@ has-items s = some-items (s .items)
 unfoldable pub head-size : List Item → ℕ
 head-size [] = 0
 head-size (i ∷ is) = remaining i
+
+-- The same of an id's stream, 0 if it is not known.
+abbrev pub size-of : Option Stream → ℕ
+size-of none = 0
+size-of (some s) = head-size (s .items)
+
+unfoldable pub size-at : ℕ → List Stream → ℕ
+size-at k ss = size-of (find-stream k ss)
 
 -- The weight that the scheduler reads: the priority with interleaving, none without.
 unfoldable pub weight-of : Bool → Stream → Weight

@@ -1,7 +1,7 @@
 -- Rows in ascending order of a number that tells them apart, their key. The known streams are such a table (by id), and so are the scheduler's entries (by stream id). Assumes nothing.
 use mathlib.Core.List.{List, [], _∷_}
 use mathlib.Core.Option.{Option, none, some}
-use Prim.Native.Nat.{ℕ, _+_}
+use Prim.Native.Nat.{ℕ, _+_, _<_}
 use lib.Dec.{eqb, ltb}
 use Rattle.queue_model.specs.Logic.{if_then_else_}
 
@@ -24,3 +24,19 @@ without key k (x ∷ xs) = let rest = without key k xs in if eqb (key x) k then 
 abbrev pub sum-by : {A : Type 0} → (A → ℕ) → List A → ℕ
 sum-by f [] = 0
 sum-by f (x ∷ xs) = f x + sum-by f xs
+
+-- ------------------------------------------------------------------ what a table is
+
+-- A property of every row.
+abbrev pub Every : {A : Type 0} → (A → Type 0) → List A → Type 0
+Every P [] = Unit {0}
+Every P (x ∷ xs) = P x × Every P xs
+
+-- Every key is above k; and the keys rise, so that no two rows have the same.
+abbrev pub After : {A : Type 0} → (A → ℕ) → ℕ → List A → Type 0
+After key k [] = Unit {0}
+After key k (x ∷ xs) = (k < key x) × After key k xs
+
+abbrev pub Rising : {A : Type 0} → (A → ℕ) → List A → Type 0
+Rising key [] = Unit {0}
+Rising key (x ∷ xs) = After key (key x) xs × Rising key xs

@@ -10,7 +10,7 @@ use Rattle.queue_words.specs.declared.streams.OutgoingStream.{OutgoingStream}
 use Rattle.payload_store.specs.Words.{sizeOf, usedOf}
 use Rattle.payload_store.specs.Good as payload
 use Rattle.stream_scheduler.specs.Link.{GoodScheduler}
-use Rattle.queue_model.proofs.Invariant.Well.{Well}
+use Rattle.queue_model.specs.Well.{Well}
 use Rattle.queue_state.specs.Chains.{Linked, lastOf, count, sumOf, total, Split}
 use Rattle.queue_state.specs.Model.{nextOf, rowAt, model}
 

@@ -1,4 +1,4 @@
--- The scheduler's invariant, and that every change of the scheduler keeps it: each entry stands for a known stream's first message, ids rise, times and weights have their widths. Assumes nothing.
+-- Every change of the scheduler keeps its invariant (specs/Well). Assumes nothing.
 use mathlib.Core.Path.{_≡_, refl, sym, ap, ap₂, _∙_, subst}
 use mathlib.Core.Bool.{Bool, true, false, _&&_, _||_}
 use mathlib.Core.List.{List, [], _∷_}
@@ -11,6 +11,7 @@ use Rattle.queue_model.specs.Types.{Stream, Weight, round-robin, weighte
 use Rattle.queue_model.specs.Scheduler.{scheduled, find-active, put-active, without-active, forget, rest-time, remove-stream, start-of, set-bytes-remaining, least, least-of, or-else, remembered, peek, active-key}
 use Rattle.queue_model.specs.Streams.{put-stream, weight-of, head-size, reschedule, reschedule-each, stream-key}
 use Rattle.queue_model.specs.Refusals.{max-word}
+pub use Rattle.queue_model.specs.Well.{WeightFits, Numbers, Listed, Holds, Remembers, Sched, Idle, Waits}
 use Rattle.queue_model.proofs.Tests.{less, same, more, tri, eqb-true, eqb-false}
 use Rattle.queue_model.proofs.Table.{without-nil, without-here, without-there, put-before, put-end, put-here, put-later, After, Rising, after-down, rising-put, rising-without, Every, every-put, every-find, every-weaken, find-put-same, find-put-other, find-without-other, not-in-nil, own, other, is-own}
 use Rattle.queue_model.proofs.Scheduler.{set-none, set-some, reschedule-of, each-nil, each-cons}
@@ -48,10 +49,6 @@ put-some a as′ e = not-in-nil active-key (a .stream-id) a (ap (find-active (a 
 
 -- ---- the remembered stream
 
--- A stream's entry stands in the list.
-abbrev pub Holds : ℕ → List Active → Type 0
-Holds k as′ = (a : Active) × (find-active k as′ ≡ some a)
-
 pub holds-put-own : (a : Active) (as′ : List Active) → Holds (a .stream-id) (put-active a as′)
 holds-put-own a as′ = (a, find-put-same active-key a as′)
 
@@ -60,11 +57,6 @@ holds-put k a as′ h = elim (is-own active-key a k) [
   | own g ↦ subst (λ (x : ℕ). Holds x (put-active a as′)) g (holds-put-own a as′)
   | other n ↦ (h .0, find-put-other active-key k a as′ n ∙ h .1)
 ]
-
--- The remembered stream, if there is one, stands in the list.
-abbrev pub Remembers : Option ℕ → List Active → Type 0
-Remembers none as′ = Unit {0}
-Remembers (some k) as′ = Holds k as′
 
 remembers-put : (c : Option ℕ) (a : Active) (as′ : List Active) → Remembers c as′ → Remembers c (put-active a as′)
 remembers-put none a as′ h = tt
@@ -80,21 +72,6 @@ remembers-without k (some c) as′ h = go (eqb c k) refl
     go false e = (h .0, find-without-other active-key c k as′ (λ g. let f = eqb-true g in let z : _≡_ {A = ℕ} 0 1 = cc in omega arith) ∙ h .1)
 
 -- ---- what an entry says
-
--- A weight of the interleaving choice: none without it, a 16-bit number with it.
-abbrev pub WeightFits : Bool → Weight → Type 0
-WeightFits il round-robin = il ≡ false
-WeightFits il (weighted w) = (il ≡ true) × (w < 2 ^ 16)
-
-pub record Numbers (a : Active) : Type 0 where
-  pub start-fits : a .start ≤ max-word
-  pub finish-fits : a .finish ≤ max-word
-
--- The entry's stream is known and has messages, the first of this size; its weight is of the choice.
-pub record Listed (il : Bool) (ss : List Stream) (a : Active) : Type 0 where
-  pub weighs : WeightFits il (a .weight)
-  pub sized : a .bytes-remaining ≡ size-at (a .stream-id) ss
-  pub positive : 0 < a .bytes-remaining
 
 pub scheduled-numbers : (limit k : ℕ) (w : Weight) (t n : ℕ) → t ≤ max-word → Numbers (scheduled limit k w t n)
 unfolding scheduled
@@ -116,24 +93,7 @@ start-fits-of t k as′ h e = go (find-active k as′) refl
     go none f = h
     go (some a) f = (every-find active-key Numbers k a as′ e f) .start-fits
 
--- ---- the invariant, over what it says of every entry
-
-pub record Sched (limit : ℕ) (P : Active → Type 0) (sc : Scheduler) : Type 0 where
-  pub limit-same : sc .payload-limit ≡ limit
-  pub rises : Rising active-key (sc .active)
-  pub every : Every P (sc .active)
-  pub numbers : Every Numbers (sc .active)
-  pub time-fits : sc .system-time ≤ max-word
-  pub current-fits : Option·getD (sc .current) 0 < 2 ^ 16
-  pub remembers : Remembers (sc .current) (sc .active)
-
--- With no entry the time is 0.
-abbrev pub Idle : Scheduler → Type 0
-Idle sc = sc .active ≡ [] → sc .system-time ≡ 0
-
-pub record Waits (limit : ℕ) (P : Active → Type 0) (sc : Scheduler) : Type 0 where
-  pub sched : Sched limit P sc
-  pub idle : Idle sc
+-- ---- whatever is said of every entry
 
 pub sched-weaken : (limit : ℕ) (P Q : Active → Type 0) (sc : Scheduler) → ((a : Active) → P a → Q a) → Sched limit P sc → Sched limit Q sc
 sched-weaken limit P Q sc h w = record { limit-same = w .limit-same; rises = w .rises; every = every-weaken P Q (sc .active) h (w .every); numbers = w .numbers; time-fits = w .time-fits; current-fits = w .current-fits; remembers = w .remembers }

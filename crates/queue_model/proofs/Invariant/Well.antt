@@ -1,4 +1,4 @@
--- The invariant of every reachable queue, `Well`, and the general way to keep it: a stream put in its place. Assumes nothing.
+-- The invariant of every reachable queue (specs/Well): a new queue has it, and the general way to keep it is a stream put in its place. Assumes nothing.
 use mathlib.Core.Path.{_≡_, refl, sym, ap, _∙_, subst}
 use mathlib.Core.Bool.{false, not, _&&_}
 use mathlib.Core.List.{List, [], _∷_, _++_}
@@ -15,38 +15,12 @@ use Rattle.queue_model.specs.Streams.{max-streams, max-messages, find-st
 use Rattle.queue_model.specs.Refusals.{Check, limit-wrong, store-wrong, create-refusal}
 use Rattle.queue_model.specs.Image.{stream-record}
 use Rattle.queue_model.specs.Demands.{Created}
+pub use Rattle.queue_model.specs.Well.{CountersFit, Kept, Well}
 use Rattle.queue_model.proofs.Table.{found, missing, look-up, Rising, rising-put, sum-put-new, sum-put-old, sum-find, Every, every-put, every-weaken, length-sum}
 use Rattle.queue_model.proofs.Checks.{all-passed, or-left, or-right, not-less, not-most}
 use Rattle.queue_model.proofs.Streams.{at-found, at-new, at-id, every-at, sum-put-at, unsent-bytes}
 use Rattle.queue_model.proofs.Invariant.Messages.{WellItem, WellRest, WellItems, WellStream, WellQueue}
 use Rattle.queue_model.proofs.Invariant.Waits.{Listed, Waits}
-
--- ---- the invariant
-
-pub record CountersFit (c : Counters) : Type 0 where
-  pub ssn-fits : c .next-ssn < 2 ^ 16
-  pub unordered-fits : c .next-unordered-mid < 2 ^ 32
-  pub ordered-fits : c .next-ordered-mid < 2 ^ 32
-
--- A known stream: widths, well-formed messages, and an amount that is their unsent bytes.
-pub record Kept (s : Stream) : Type 0 where
-  pub id-fits : s .id < 2 ^ 16
-  pub priority-fits : s .priority < 2 ^ 16
-  pub threshold-fits : s .threshold < 2 ^ 64
-  pub counters-fit : CountersFit (s .counters)
-  pub well-items : WellItems (s .items)
-  pub counted : s .amount ≡ unsent-bytes (s .items)
-
-pub record Well (q : Queue) : Type 0 where
-  pub creation : Created (q .options)
-  pub rising : Rising stream-key (q .streams)
-  pub kept : Every Kept (q .streams)
-  pub total-counted : q .total ≡ amounts (q .streams)
-  pub next-fits : q .next-message-id < 2 ^ 32
-  pub streams-few : length (q .streams) ≤ max-streams
-  pub messages-few : waiting (q .streams) ≤ max-messages
-  pub store-fits : occupied (q .streams) ≤ q .options .store-length
-  pub waits : Waits (q .options .payload-limit) (Listed (q .interleaving) (q .streams)) (q .scheduler)
 
 -- ---- a new queue
 
