@@ -13,11 +13,11 @@ use crate::state::both;
 use crate::state::low8;
 use crate::state::plus;
 
-pub fn put(text: &[u8]) {
+pub(crate) fn put(text: &[u8]) {
     io::write_all(1, text);
 }
 
-pub fn put_number(n: u64) {
+pub(crate) fn put_number(n: u64) {
     io::print_decimal(1, n);
 }
 
@@ -93,7 +93,7 @@ fn count(refusal: u64, state: &mut [u64; STATE]) {
 }
 
 // Counts an answer, and tells what it breaks.
-pub fn note(refusal: u64, same: bool, state: &mut [u64; STATE]) {
+pub(crate) fn note(refusal: u64, same: bool, state: &mut [u64; STATE]) {
     let letter = low8(state[LETTER]);
     state[SAME] = bit(same);
     state[EVENTS] = 0;
@@ -122,7 +122,7 @@ fn put_answer(label: &[u8], refusal: u64, state: &mut [u64; STATE]) {
     put_change(refusal, state[SAME]);
 }
 
-pub fn put_line(label: &[u8], refusal: u64, state: &mut [u64; STATE]) {
+pub(crate) fn put_line(label: &[u8], refusal: u64, state: &mut [u64; STATE]) {
     if state[FILLING] == 1 {
         put_totals(label, &*state);
         return;
@@ -166,7 +166,7 @@ fn put_totals(label: &[u8], state: &[u64; STATE]) {
     put(b"\n");
 }
 
-pub fn clear_totals(state: &mut [u64; STATE]) {
+pub(crate) fn clear_totals(state: &mut [u64; STATE]) {
     state[CALLS] = 0;
     let mut i = 0;
     while i < 17 {

@@ -40,7 +40,7 @@ fn refusal_number(r: u8) -> u64 {
 }
 
 // 0 for accepted.
-pub fn answer_of(c: Call, state: &mut [u64; STATE]) -> u64 {
+pub(crate) fn answer_of(c: Call, state: &mut [u64; STATE]) -> u64 {
     match c {
         Call::Accepted(n) => {
             state[EVENTS] = n as u64;
@@ -122,7 +122,7 @@ fn ready_call(queue: &mut [u64; QUEUE_WORDS]) -> Call {
 }
 
 // The call that the state's letter names.
-pub fn call(
+pub(crate) fn call(
     queue: &mut [u64; QUEUE_WORDS],
     store: &mut [u8; STORE],
     events: &mut [u64; EVENT_BUFFER],

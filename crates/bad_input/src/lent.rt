@@ -50,7 +50,11 @@ fn rule_of(strict: u64) -> RestartRule {
     RestartRule::Dcsctp
 }
 
-pub fn lent_create(queue: &mut [u64; QUEUE_WORDS], store: &[u8], state: &[u64; STATE]) -> Call {
+pub(crate) fn lent_create(
+    queue: &mut [u64; QUEUE_WORDS],
+    store: &[u8],
+    state: &[u64; STATE],
+) -> Call {
     let n = state[STORE_BYTES] as usize;
     if n > store.len() {
         return Call::Refused(TOO_SHORT);
@@ -102,7 +106,11 @@ fn add_part(
     add(queue, store, state[TIME], m, &payload[0..length])
 }
 
-pub fn lent_add(queue: &mut [u64; QUEUE_WORDS], store: &mut [u8], state: &[u64; STATE]) -> Call {
+pub(crate) fn lent_add(
+    queue: &mut [u64; QUEUE_WORDS],
+    store: &mut [u8],
+    state: &[u64; STATE],
+) -> Call {
     let n = state[STORE_BYTES] as usize;
     if n > store.len() {
         return Call::Refused(TOO_SHORT);
@@ -132,7 +140,7 @@ fn produce_from(
     )
 }
 
-pub fn lent_produce(
+pub(crate) fn lent_produce(
     queue: &mut [u64; QUEUE_WORDS],
     store: &[u8],
     events: &mut [u64],
@@ -161,7 +169,7 @@ fn event_call(queue: &mut [u64; QUEUE_WORDS], events: &mut [u64], state: &[u64; 
     }
 }
 
-pub fn lent_event_call(
+pub(crate) fn lent_event_call(
     queue: &mut [u64; QUEUE_WORDS],
     events: &mut [u64],
     state: &[u64; STATE],
@@ -174,7 +182,7 @@ pub fn lent_event_call(
 }
 
 // The calls that are lent nothing but the queue.
-pub fn plain_call(queue: &mut [u64; QUEUE_WORDS], state: &[u64; STATE]) -> Call {
+pub(crate) fn plain_call(queue: &mut [u64; QUEUE_WORDS], state: &[u64; STATE]) -> Call {
     let letter = low8(state[LETTER]);
     match letter {
         b'Y' => set_priority(queue, low16(state[STREAM]), low16(state[PRIORITY])),

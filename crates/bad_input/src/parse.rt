@@ -36,7 +36,7 @@ fn take_byte(state: &mut [u64; STATE], key: usize, b: u8) -> usize {
 }
 
 // Takes the numbers, and answers where the label begins.
-pub fn parse(line: &[u8], state: &mut [u64; STATE]) -> usize {
+pub(crate) fn parse(line: &[u8], state: &mut [u64; STATE]) -> usize {
     let mut key = 0;
     let mut i = 1;
     while i < line.len() {
@@ -50,7 +50,7 @@ pub fn parse(line: &[u8], state: &mut [u64; STATE]) -> usize {
 }
 
 // Where the line from a place on ends.
-pub fn line_end(script: &[u8], from: usize) -> usize {
+pub(crate) fn line_end(script: &[u8], from: usize) -> usize {
     let mut i = from;
     while i < script.len() {
         if script[i] == b'\n' {

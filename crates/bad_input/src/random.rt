@@ -168,7 +168,7 @@ fn letter_at(letters: &[u8], i: u64) -> u64 {
 }
 
 // Before a call, while words are filled: its letter, its arguments, and new words after the last call of a fill.
-pub fn prepare(
+pub(crate) fn prepare(
     queue: &mut [u64; QUEUE_WORDS],
     kept: &mut [u64; QUEUE_WORDS],
     good: &[u64; QUEUE_WORDS],

@@ -18,11 +18,11 @@ const EVENT_MARK: u64 = 7000000000000000007;
 
 const BYTE_MARK: u8 = 170;
 
-pub fn mark_events(events: &mut [u64; EVENT_BUFFER]) {
+pub(crate) fn mark_events(events: &mut [u64; EVENT_BUFFER]) {
     *events = [EVENT_MARK; EVENT_BUFFER];
 }
 
-pub fn mark_fragment(fragment: &mut [u8; FRAGMENT]) {
+pub(crate) fn mark_fragment(fragment: &mut [u8; FRAGMENT]) {
     *fragment = [BYTE_MARK; FRAGMENT];
 }
 
@@ -138,7 +138,7 @@ fn settle_store(store: &mut [u8; STORE], letter: u8, refusal: u64) -> bool {
 }
 
 // Whether all is as it must be after the call.
-pub fn settle(
+pub(crate) fn settle(
     queue: &[u64; QUEUE_WORDS],
     kept: &mut [u64; QUEUE_WORDS],
     store: &mut [u8; STORE],

@@ -105,27 +105,27 @@ pub const SCRIPT: usize = 16384;
 // Stands for no lifetime.
 pub const NO_LIFETIME: u64 = 18446744073709551615;
 
-pub fn low8(x: u64) -> u8 {
+pub(crate) fn low8(x: u64) -> u8 {
     (x % 256) as u8
 }
 
-pub fn low16(x: u64) -> u16 {
+pub(crate) fn low16(x: u64) -> u16 {
     (x % 65536) as u16
 }
 
-pub fn low32(x: u64) -> u32 {
+pub(crate) fn low32(x: u64) -> u32 {
     (x % 4294967296) as u32
 }
 
-pub fn wide(b: u8) -> u64 {
+pub(crate) fn wide(b: u8) -> u64 {
     b as u64
 }
 
-pub fn bit(b: bool) -> u64 {
+pub(crate) fn bit(b: bool) -> u64 {
     if b { 1 } else { 0 }
 }
 
-pub fn both(a: bool, b: bool) -> bool {
+pub(crate) fn both(a: bool, b: bool) -> bool {
     if a {
         return b;
     }
@@ -133,12 +133,12 @@ pub fn both(a: bool, b: bool) -> bool {
 }
 
 // Adds to a word; no sum of this program passes 2^64 - 1.
-pub fn plus(a: u64, b: u64) -> u64 {
+pub(crate) fn plus(a: u64, b: u64) -> u64 {
     std::num::wrapping_add_u64(a, b)
 }
 
 // The usual values: an accepted call on a queue that was created with b bytes.
-pub fn set_usual(state: &mut [u64; STATE]) {
+pub(crate) fn set_usual(state: &mut [u64; STATE]) {
     state[STORE_BYTES] = state[CREATED];
     state[STRICT] = 0;
     state[EVENT_LIST] = EVENT_WORDS as u64;

@@ -1,2 +1,2 @@
 // Saved images on the words of queues: a definition in specs/, the theorem in proofs/.
-pub fn unit() {}
+fn unit() {}

@@ -1,2 +1,2 @@
 // The priorities of a plan on the words of a queue: definitions in specs/, theorems in proofs/.
-pub fn unit() {}
+fn unit() {}

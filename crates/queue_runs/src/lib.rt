@@ -1,2 +1,2 @@
 // Lists of calls on a queue: definitions in specs/, theorems in proofs/.
-pub fn unit() {}
+fn unit() {}

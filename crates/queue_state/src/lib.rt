@@ -1,2 +1,2 @@
 // What the words of a queue stand for: definitions in specs/, theorems in proofs/.
-pub fn unit() {}
+fn unit() {}

@@ -165,7 +165,12 @@ fn put_data(output: &mut [u8; BUFFER], state: &mut [u64; STATE], d: Data) {
 }
 
 // A fragment, and the end of the line.
-pub fn put_fields(output: &mut [u8; BUFFER], state: &mut [u64; STATE], d: DataToSend, sum: u64) {
+pub(crate) fn put_fields(
+    output: &mut [u8; BUFFER],
+    state: &mut [u64; STATE],
+    d: DataToSend,
+    sum: u64,
+) {
     let data = d.data;
     let expires_at = d.expires_at;
     put_number(output, state, d.message_id.0 as u64);
@@ -346,7 +351,7 @@ fn answer_questions(
     put_byte(output, state, b'\n');
 }
 
-pub fn answer(
+pub(crate) fn answer(
     queue: &mut [u64; QUEUE_WORDS],
     kept: &mut [u64; QUEUE_WORDS],
     store: &mut [u8; STORE],

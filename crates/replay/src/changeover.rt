@@ -152,7 +152,7 @@ fn answer_alike(
     answer_restore(queue, kept, store, kept_store, image, output, state);
 }
 
-pub fn answer_changeover(
+pub(crate) fn answer_changeover(
     queue: &mut [u64; QUEUE_WORDS],
     kept: &mut [u64; QUEUE_WORDS],
     store: &mut [u8; STORE],

@@ -184,7 +184,7 @@ fn count_bytes(line: &[u8; LINE_BYTES], end: usize, payload: &mut [u8]) -> usize
 }
 
 // Whether the line is one; its bytes are then the payload's first, and their count is its number.
-pub fn parse_bytes(
+pub(crate) fn parse_bytes(
     line: &[u8; LINE_BYTES],
     end: usize,
     payload: &mut [u8; PAYLOAD],

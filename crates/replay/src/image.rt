@@ -47,7 +47,7 @@ fn put_bytes(bytes: &[u8], output: &mut [u8; BUFFER], state: &mut [u64; STATE]) 
 }
 
 // The bytes from one place to another.
-pub fn put_part(
+pub(crate) fn put_part(
     image: &[u8],
     from: usize,
     to: usize,
@@ -64,7 +64,11 @@ pub fn put_part(
 }
 
 // "shows bytes of the current image, clipped to its end"
-pub fn answer_show(image: &[u8; IMAGE], output: &mut [u8; BUFFER], state: &mut [u64; STATE]) {
+pub(crate) fn answer_show(
+    image: &[u8; IMAGE],
+    output: &mut [u8; BUFFER],
+    state: &mut [u64; STATE],
+) {
     let from = state[0];
     let end = end_of(from, state[1], state[IMAGE_LENGTH]);
     put_byte(output, state, b'h');
@@ -79,7 +83,11 @@ fn put_in(image: &mut [u8; IMAGE], at: u64, b: u8) {
 }
 
 // "sets a byte of the current image; past the end, nothing"
-pub fn answer_change(image: &mut [u8; IMAGE], output: &mut [u8; BUFFER], state: &mut [u64; STATE]) {
+pub(crate) fn answer_change(
+    image: &mut [u8; IMAGE],
+    output: &mut [u8; BUFFER],
+    state: &mut [u64; STATE],
+) {
     let at = state[0];
     if at < state[IMAGE_LENGTH] {
         put_in(image, at, low8(state[1]));
@@ -99,7 +107,11 @@ fn zeros(image: &mut [u8; IMAGE], from: usize, to: usize) {
 }
 
 // "cuts the current image to the length, or extends it with zero bytes"
-pub fn answer_length(image: &mut [u8; IMAGE], output: &mut [u8; BUFFER], state: &mut [u64; STATE]) {
+pub(crate) fn answer_length(
+    image: &mut [u8; IMAGE],
+    output: &mut [u8; BUFFER],
+    state: &mut [u64; STATE],
+) {
     zeros(image, state[IMAGE_LENGTH] as usize, state[0] as usize);
     state[IMAGE_LENGTH] = state[0];
     put_text(output, state, b"l\n");

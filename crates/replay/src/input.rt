@@ -50,7 +50,7 @@ fn ended(bytes: usize) -> usize {
 }
 
 // The next line, without its end, and its length.
-pub fn read_line(
+pub(crate) fn read_line(
     input: &mut [u8; BUFFER],
     state: &mut [u64; STATE],
     line: &mut [u8; LINE_BYTES],

@@ -61,7 +61,11 @@ fn rule_of(strict: u64) -> RestartRule {
     RestartRule::Dcsctp
 }
 
-pub fn lent_create(queue: &mut [u64; QUEUE_WORDS], store: &[u8], state: &[u64; STATE]) -> Call {
+pub(crate) fn lent_create(
+    queue: &mut [u64; QUEUE_WORDS],
+    store: &[u8],
+    state: &[u64; STATE],
+) -> Call {
     let n = state[CREATED_STORE] as usize;
     if n > store.len() {
         return Call::Refused(TOO_SHORT);
@@ -107,7 +111,7 @@ fn message_of(state: &[u64; STATE]) -> Message {
     }
 }
 
-pub fn lent_add(
+pub(crate) fn lent_add(
     queue: &mut [u64; QUEUE_WORDS],
     store: &mut [u8],
     payload: &mut [u8],
@@ -139,7 +143,7 @@ fn add_filled(
     add(queue, store, state[0], m, &payload[0..length])
 }
 
-pub fn lent_produce(
+pub(crate) fn lent_produce(
     queue: &mut [u64; QUEUE_WORDS],
     store: &[u8],
     events: &mut [u64],
@@ -179,7 +183,7 @@ fn event_call(queue: &mut [u64; QUEUE_WORDS], events: &mut [u64], state: &[u64; 
     }
 }
 
-pub fn lent_event_call(
+pub(crate) fn lent_event_call(
     queue: &mut [u64; QUEUE_WORDS],
     events: &mut [u64],
     state: &[u64; STATE],
@@ -192,7 +196,7 @@ pub fn lent_event_call(
 }
 
 // Restores the current image.
-pub fn lent_restore(
+pub(crate) fn lent_restore(
     queue: &mut [u64; QUEUE_WORDS],
     store: &mut [u8],
     image: &[u8],
@@ -210,7 +214,7 @@ pub fn lent_restore(
 }
 
 // Saves to a buffer, which is not the current image.
-pub fn lent_save(
+pub(crate) fn lent_save(
     queue: &[u64; QUEUE_WORDS],
     store: &[u8],
     buffer: &mut [u8],
@@ -228,7 +232,7 @@ pub fn lent_save(
 }
 
 // The calls that are lent nothing but the queue.
-pub fn plain_call(queue: &mut [u64; QUEUE_WORDS], state: &[u64; STATE]) -> Call {
+pub(crate) fn plain_call(queue: &mut [u64; QUEUE_WORDS], state: &[u64; STATE]) -> Call {
     let letter = low8(state[LETTER]);
     match letter {
         b'y' => set_priority(queue, low16(state[0]), low16(state[1])),

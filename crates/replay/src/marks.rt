@@ -22,7 +22,7 @@ fn byte_mark(i: usize) -> u8
 }
 
 // Puts marks on the first n words.
-pub fn mark_events(events: &mut [u64; EVENT_BUFFER], n: usize) {
+pub(crate) fn mark_events(events: &mut [u64; EVENT_BUFFER], n: usize) {
     let mut i = 0;
     while i < EVENT_BUFFER {
         if i >= n {
@@ -34,7 +34,7 @@ pub fn mark_events(events: &mut [u64; EVENT_BUFFER], n: usize) {
 }
 
 // Whether each word from a place on has its mark.
-pub fn events_marked(events: &[u64; EVENT_BUFFER], from: usize) -> bool
+pub(crate) fn events_marked(events: &[u64; EVENT_BUFFER], from: usize) -> bool
     ensures { λ r. ⌜ (r ≡ true → (k : ℕ) → k < eventBuffer → from ≤ k → getD (now (events .entry)) k 0 ≡ eventMark k) ⌝ }
 {
     let mut i = from;
@@ -48,7 +48,7 @@ pub fn events_marked(events: &[u64; EVENT_BUFFER], from: usize) -> bool
 }
 
 // The same for the fragment buffer and the image buffer. The check goes through all bytes, so that it can take many at a time.
-pub fn mark_bytes(buffer: &mut [u8], n: usize) {
+pub(crate) fn mark_bytes(buffer: &mut [u8], n: usize) {
     let mut i = 0;
     while i < buffer.len() {
         if i >= n {
@@ -59,7 +59,7 @@ pub fn mark_bytes(buffer: &mut [u8], n: usize) {
     }
 }
 
-pub fn bytes_marked(buffer: &[u8], from: usize) -> bool
+pub(crate) fn bytes_marked(buffer: &[u8], from: usize) -> bool
     ensures { λ r. ⌜ (r ≡ true → (k : ℕ) → k < length (now (buffer .entry)) → from ≤ k → getD (now (buffer .entry)) k 0 ≡ byteMark k) ⌝ }
 {
     let mut strays: u8 = 0;
@@ -74,7 +74,7 @@ pub fn bytes_marked(buffer: &[u8], from: usize) -> bool
 }
 
 // A copy of the words.
-pub fn keep_words(queue: &[u64; QUEUE_WORDS], kept: &mut [u64; QUEUE_WORDS])
+pub(crate) fn keep_words(queue: &[u64; QUEUE_WORDS], kept: &mut [u64; QUEUE_WORDS])
     ensures { λ _. ⌜ now (kept .exit) ≡ now (queue .entry) ⌝ }
 {
     whole(queue);
@@ -86,7 +86,7 @@ pub fn keep_words(queue: &[u64; QUEUE_WORDS], kept: &mut [u64; QUEUE_WORDS])
     }
 }
 
-pub fn words_same(queue: &[u64; QUEUE_WORDS], kept: &[u64; QUEUE_WORDS]) -> bool
+pub(crate) fn words_same(queue: &[u64; QUEUE_WORDS], kept: &[u64; QUEUE_WORDS]) -> bool
     ensures { λ r. ⌜ (r ≡ true → now (queue .entry) ≡ now (kept .entry)) ⌝ }
 {
     whole(queue);
@@ -102,7 +102,7 @@ pub fn words_same(queue: &[u64; QUEUE_WORDS], kept: &[u64; QUEUE_WORDS]) -> bool
 }
 
 // A copy of the store's first n bytes.
-pub fn keep_store(store: &[u8; STORE], kept: &mut [u8; STORE], n: usize) {
+pub(crate) fn keep_store(store: &[u8; STORE], kept: &mut [u8; STORE], n: usize) {
     if n > 2100000 {
         return;
     }
@@ -114,7 +114,7 @@ pub fn keep_store(store: &[u8; STORE], kept: &mut [u8; STORE], n: usize) {
 }
 
 // Whether those are the same.
-pub fn store_same(store: &[u8; STORE], kept: &[u8; STORE], n: usize) -> bool
+pub(crate) fn store_same(store: &[u8; STORE], kept: &[u8; STORE], n: usize) -> bool
     ensures { λ r. ⌜ (r ≡ true → (k : ℕ) → k < n → getD (now (store .entry)) k 0 ≡ getD (now (kept .entry)) k 0) ⌝ }
 {
     if n > 2100000 {
@@ -132,7 +132,7 @@ pub fn store_same(store: &[u8; STORE], kept: &[u8; STORE], n: usize) -> bool
 }
 
 // Zeros in their place.
-pub fn clear_store(store: &mut [u8; STORE], n: usize) {
+pub(crate) fn clear_store(store: &mut [u8; STORE], n: usize) {
     if n > 2100000 {
         return;
     }

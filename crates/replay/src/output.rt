@@ -16,13 +16,13 @@ fn room(output: &[u8], at: u64) -> usize
     at as usize
 }
 
-pub fn put_byte(output: &mut [u8; BUFFER], state: &mut [u64; STATE], b: u8) {
+pub(crate) fn put_byte(output: &mut [u8; BUFFER], state: &mut [u64; STATE], b: u8) {
     let at = room(&*output, state[OUTPUT_AT]);
     output[at] = b;
     state[OUTPUT_AT] = (at + 1) as u64;
 }
 
-pub fn put_text(output: &mut [u8; BUFFER], state: &mut [u64; STATE], text: &[u8]) {
+pub(crate) fn put_text(output: &mut [u8; BUFFER], state: &mut [u64; STATE], text: &[u8]) {
     let mut i = 0;
     while i < text.len() {
         put_byte(output, state, text[i]);
@@ -31,7 +31,7 @@ pub fn put_text(output: &mut [u8; BUFFER], state: &mut [u64; STATE], text: &[u8]
 }
 
 // A space and a number.
-pub fn put_number(output: &mut [u8; BUFFER], state: &mut [u64; STATE], n: u64) {
+pub(crate) fn put_number(output: &mut [u8; BUFFER], state: &mut [u64; STATE], n: u64) {
     let mut digits = [0u8; 20];
     let k = io::decimal(n, &mut digits);
     put_byte(output, state, b' ');
@@ -39,14 +39,19 @@ pub fn put_number(output: &mut [u8; BUFFER], state: &mut [u64; STATE], n: u64) {
 }
 
 // The answer of most calls: the letter and the refusal's number, 0 for accepted.
-pub fn put_answer(output: &mut [u8; BUFFER], state: &mut [u64; STATE], letter: u8, refusal: u64) {
+pub(crate) fn put_answer(
+    output: &mut [u8; BUFFER],
+    state: &mut [u64; STATE],
+    letter: u8,
+    refusal: u64,
+) {
     put_byte(output, state, letter);
     put_number(output, state, refusal);
     put_byte(output, state, b'\n');
 }
 
 // Says loudly that the queue broke what a trace cannot show.
-pub fn put_broken(output: &mut [u8; BUFFER], state: &mut [u64; STATE], what: &[u8]) {
+pub(crate) fn put_broken(output: &mut [u8; BUFFER], state: &mut [u64; STATE], what: &[u8]) {
     let line = state[LINE];
     put_text(output, state, b"BROKEN line");
     put_number(output, state, line);
@@ -63,7 +68,7 @@ fn write_first(output: &[u8], n: usize) {
 }
 
 // Writes out what waits.
-pub fn flush(output: &[u8; BUFFER], state: &mut [u64; STATE]) {
+pub(crate) fn flush(output: &[u8; BUFFER], state: &mut [u64; STATE]) {
     let n = state[OUTPUT_AT] as usize;
     write_first(output, n);
     state[OUTPUT_AT] = 0;

@@ -50,7 +50,7 @@ fn number(line: &[u8; LINE_BYTES], from: usize, to: usize) -> Digits {
 }
 
 // Where a byte first stands from a place on; else the end.
-pub fn find(line: &[u8; LINE_BYTES], from: usize, end: usize, byte: u8) -> usize
+pub(crate) fn find(line: &[u8; LINE_BYTES], from: usize, end: usize, byte: u8) -> usize
     ensures { λ r. ⌜ from ≤ r ⌝ }
 {
     if end > LINE_BYTES {
@@ -81,7 +81,7 @@ fn is_spelled(line: &[u8; LINE_BYTES], from: usize, to: usize) -> bool {
 }
 
 // The number of such a word.
-pub fn spelled(line: &[u8; LINE_BYTES], from: usize, to: usize) -> Digits {
+pub(crate) fn spelled(line: &[u8; LINE_BYTES], from: usize, to: usize) -> Digits {
     let is_one = is_spelled(line, from, to);
     if is_one {
         return number(line, from, to);
@@ -134,7 +134,7 @@ fn store_number(
 }
 
 // Whether the first so many bytes are a line; its letter and numbers are then in the state.
-pub fn parse(line: &[u8; LINE_BYTES], end: usize, state: &mut [u64; STATE]) -> bool {
+pub(crate) fn parse(line: &[u8; LINE_BYTES], end: usize, state: &mut [u64; STATE]) -> bool {
     if end == 0 {
         return false;
     }

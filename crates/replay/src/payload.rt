@@ -18,7 +18,7 @@ fn byte_of(x: u64) -> u8
 }
 
 // Fills the payload from a seed.
-pub fn fill(payload: &mut [u8], seed: u64)
+pub(crate) fn fill(payload: &mut [u8], seed: u64)
     ensures { λ _. ⌜ now (payload .exit) ≡ bytesFrom (seed % 2147483648) (length (now (payload .entry))) ⌝ }
 {
     let mut x = seed % 2147483648;
@@ -38,7 +38,7 @@ fn add_byte(s: u64, b: u8) -> u64
 }
 
 // "s = 17; for each byte s = (s × 31 + byte) mod 4294967296".
-pub fn sum(bytes: &[u8]) -> u64
+pub(crate) fn sum(bytes: &[u8]) -> u64
     ensures { λ r. ⌜ r ≡ sumFrom 17 (now (bytes .entry)) ⌝ }
 {
     let mut s = 17;
@@ -51,7 +51,7 @@ pub fn sum(bytes: &[u8]) -> u64
 }
 
 // The sum of the first n bytes; of all, if they are fewer.
-pub fn sum_of(bytes: &[u8], n: usize) -> u64
+pub(crate) fn sum_of(bytes: &[u8], n: usize) -> u64
     ensures { λ r. ⌜ r ≡ sumFrom 17 (take n (now (bytes .entry))) ⌝ }
 {
     if n > bytes.len() {

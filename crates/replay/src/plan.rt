@@ -52,7 +52,7 @@ fn ids_fit(state: &[u64; STATE], n: usize) -> bool {
 }
 
 // Whether the numbers of the line are a limit and two lists, each with its count before it.
-pub fn is_plan(state: &[u64; STATE]) -> bool {
+pub(crate) fn is_plan(state: &[u64; STATE]) -> bool {
     if state[COUNT] < 3 {
         return false;
     }
@@ -142,7 +142,7 @@ fn put_priorities(
     put_byte(output, state, b'\n');
 }
 
-pub fn answer_plan(output: &mut [u8; BUFFER], state: &mut [u64; STATE]) {
+pub(crate) fn answer_plan(output: &mut [u8; BUFFER], state: &mut [u64; STATE]) {
     let r = plan(&*state);
     let c = r.answer;
     let refusal = refusal_of(c);

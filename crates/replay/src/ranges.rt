@@ -169,7 +169,7 @@ fn is_short_call(state: &[u64; STATE], letter: u8) -> bool {
 }
 
 // Whether the line is a call, its numbers are as many as it asks and in their ranges, and there is a queue for it.
-pub fn is_call(state: &[u64; STATE]) -> bool {
+pub(crate) fn is_call(state: &[u64; STATE]) -> bool {
     let letter = low8(state[LETTER]);
     match letter {
         b'P' => is_plan(state),

@@ -23,7 +23,7 @@ use send_queue::PLACE_WORDS;
 use send_queue::QUEUE_WORDS;
 
 // A refusal's number, which is above 0.
-pub fn refusal_number(r: u8) -> u64 {
+pub(crate) fn refusal_number(r: u8) -> u64 {
     if r == 0 {
         return 100;
     }
@@ -31,14 +31,14 @@ pub fn refusal_number(r: u8) -> u64 {
 }
 
 // 0 for accepted.
-pub fn refusal_of(c: Call) -> u64 {
+pub(crate) fn refusal_of(c: Call) -> u64 {
     match c {
         Call::Accepted(_) => 0,
         Call::Refused(r) => refusal_number(r),
     }
 }
 
-pub fn events_of(c: Call) -> usize {
+pub(crate) fn events_of(c: Call) -> usize {
     match c {
         Call::Accepted(n) => n,
         Call::Refused(_) => 0,
@@ -46,7 +46,7 @@ pub fn events_of(c: Call) -> usize {
 }
 
 // The words: kept where the call was accepted, else compared.
-pub fn settle_words(
+pub(crate) fn settle_words(
     queue: &[u64; QUEUE_WORDS],
     kept: &mut [u64; QUEUE_WORDS],
     refusal: u64,
@@ -66,7 +66,7 @@ pub fn settle_words(
 }
 
 // The part of the store that was lent, the same way. A call has no other.
-pub fn settle_store(
+pub(crate) fn settle_store(
     store: &[u8; STORE],
     kept: &mut [u8; STORE],
     refusal: u64,
@@ -87,7 +87,7 @@ pub fn settle_store(
 }
 
 // A call that is lent no event list reports no event.
-pub fn settle_no_events(n: usize, output: &mut [u8; BUFFER], state: &mut [u64; STATE]) {
+pub(crate) fn settle_no_events(n: usize, output: &mut [u8; BUFFER], state: &mut [u64; STATE]) {
     if n == 0 {
         return;
     }
@@ -116,7 +116,7 @@ fn put_events(
 }
 
 // The event list: n events, and then nothing but marks. The marks are put back.
-pub fn settle_events(
+pub(crate) fn settle_events(
     events: &mut [u64; EVENT_BUFFER],
     n: usize,
     output: &mut [u8; BUFFER],
@@ -138,7 +138,7 @@ pub fn settle_events(
 }
 
 // The fragment buffer: n bytes, and then nothing but marks.
-pub fn settle_fragment(
+pub(crate) fn settle_fragment(
     fragment: &mut [u8; FRAGMENT],
     n: u64,
     output: &mut [u8; BUFFER],
@@ -159,7 +159,7 @@ pub fn settle_fragment(
 }
 
 // The image buffer: n bytes, and then nothing but marks.
-pub fn settle_image(
+pub(crate) fn settle_image(
     buffer: &[u8; IMAGE],
     n: usize,
     output: &mut [u8; BUFFER],

@@ -77,26 +77,26 @@ pub const LINE_BYTES: usize = 2048;
 pub const BUFFER: usize = 65536;
 
 // The low bits of a number. The ranges of a line's numbers are settled before.
-pub fn low16(x: u64) -> u16 {
+pub(crate) fn low16(x: u64) -> u16 {
     (x % 65536) as u16
 }
 
-pub fn low32(x: u64) -> u32 {
+pub(crate) fn low32(x: u64) -> u32 {
     (x % 4294967296) as u32
 }
 
-pub fn low8(x: u64) -> u8 {
+pub(crate) fn low8(x: u64) -> u8 {
     (x % 256) as u8
 }
 
-pub fn wide(b: u8) -> u64 {
+pub(crate) fn wide(b: u8) -> u64 {
     b as u64
 }
 
-pub fn wide16(n: u16) -> u64 {
+pub(crate) fn wide16(n: u16) -> u64 {
     n as u64
 }
 
-pub fn bit(b: bool) -> u64 {
+pub(crate) fn bit(b: bool) -> u64 {
     if b { 1 } else { 0 }
 }

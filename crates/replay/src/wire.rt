@@ -153,7 +153,7 @@ fn write_into(
     }
 }
 
-pub fn answer_write(
+pub(crate) fn answer_write(
     payload: &mut [u8; PAYLOAD],
     output: &mut [u8; BUFFER],
     state: &mut [u64; STATE],
@@ -200,6 +200,10 @@ fn read_first(payload: &[u8], output: &mut [u8; BUFFER], state: &mut [u64; STATE
     }
 }
 
-pub fn answer_read(payload: &[u8; PAYLOAD], output: &mut [u8; BUFFER], state: &mut [u64; STATE]) {
+pub(crate) fn answer_read(
+    payload: &[u8; PAYLOAD],
+    output: &mut [u8; BUFFER],
+    state: &mut [u64; STATE],
+) {
     read_first(payload, output, state);
 }
