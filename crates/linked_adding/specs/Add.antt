@@ -6,7 +6,7 @@ use lib.ListN.{length}
 use Rattle.queue_model.specs.Run as run
 use Rattle.queue_streams.specs.declared.answers.Call.{Call}
 use Rattle.queue_state.specs.Good.{Good}
-use Rattle.queue_state.specs.Promise.{Does}
+use Rattle.queue_state.specs.Promise.{shown, Does, Tells}
 use Rattle.queue_messages.specs.Add.{added, add}
 use Rattle.queue_messages.specs.declared.message.Message.{Message}
 use Rattle.linked_adding.specs.Message.{messageOf}
@@ -15,3 +15,4 @@ use Rattle.linked_adding.specs.Message.{messageOf}
 pub record AddMeets (ws st : List ℕ) (time : ℕ) (m : Message) (bs : List ℕ) (r : Call) (ws′ st′ : List ℕ) : Type 0 where
   pub words : added r ws′ st′ ≡ add ws st time m bs
   pub model : Good ws st → Does (run.add (length st) time (messageOf m bs)) ws st r ws′ st′
+  pub tells : Good ws st → Tells (shown (run.add (length st) time (messageOf m bs)) ws st) r

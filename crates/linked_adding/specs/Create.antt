@@ -6,9 +6,11 @@ use mathlib.Core.List.{List}
 use lib.ListN.{length}
 use Rattle.queue_model.specs.Types.{Options, Queue}
 use Rattle.queue_model.specs.Refusals.{Creation, not-created, new, create}
+use Rattle.queue_model.specs.Answers.{creation-number}
 use Rattle.queue_words.specs.Header.{isStrict}
 use Rattle.queue_words.specs.declared.header.RestartRule.{RestartRule}
 use Rattle.queue_streams.specs.Settings.{called}
+use Rattle.queue_streams.specs.Answers.{callNumber, callEvents}
 use Rattle.queue_streams.specs.declared.answers.Call.{Call}
 use Rattle.queue_streams.specs.declared.answers.Call.the-variants.{Accepted, Refused}
 use Rattle.queue_state.specs.Model.{model}
@@ -44,3 +46,5 @@ pub record Creates (o : Options) (ws st : List ℕ) (a : Call) (ws′ : List ℕ
 pub record CreateMeets (ws st : List ℕ) (limit priority threshold total : ℕ) (handover : Bool) (rule : RestartRule) (r : Call) (ws′ : List ℕ) : Type 0 where
   pub words : called r ws′ ≡ words-create.create ws (length st) limit priority threshold total handover rule
   pub model : Creates (optionsFor (length st) limit priority threshold total handover rule) ws st r ws′
+  pub number : callNumber r ≡ creation-number (create (optionsFor (length st) limit priority threshold total handover rule))
+  pub events : callEvents r ≡ 0

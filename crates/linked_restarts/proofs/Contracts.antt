@@ -1,18 +1,22 @@
 -- What the calls promise of the words implies the rest of their contracts. Assumes nothing.
-use mathlib.Core.Path.{_≡_, sym, subst}
+use mathlib.Core.Path.{_≡_, refl, sym, ap, _∙_, subst}
 use mathlib.Core.Bool.{Bool, true, false}
-use mathlib.Core.List.{List}
+use mathlib.Core.List.{List, [], _∷_, _++_}
 use Prim.Native.Nat.{ℕ}
+use lib.ListN.{length, take}
+use Rattle.queue_model.specs.Types.{Answer, refused, done, number, flag, ids, fragment, nothing-waits}
+use Rattle.queue_model.specs.Answers.{answer-number, answer-ids}
 use Rattle.queue_model.specs.Run as run
 use Rattle.queue_streams.specs.Settings.{Called, called}
 use Rattle.queue_streams.specs.Restart.{reopen, setInterleaving}
 use Rattle.queue_streams.specs.declared.answers.Call.{Call}
-use Rattle.queue_restarts.specs.Ready.{Readied, readied, ready}
+use Rattle.queue_restarts.specs.Ready.{Readied, readied, ready, readyNumber, readyList}
 use Rattle.queue_restarts.specs.Reset.{resetQueue}
 use Rattle.queue_restarts.specs.declared.ready.ReadyStreams.{ReadyStreams}
 use Rattle.queue_state.specs.Good.{Good}
-use Rattle.queue_state.specs.Promise.{Does}
-use Rattle.linked_restarts.specs.Ids.{Readies}
+use Rattle.queue_state.specs.Promise.{shown, Does}
+use Rattle.queue_state.proofs.Numbers.{tells}
+use Rattle.linked_restarts.specs.Ids.{readyOf, Readies}
 use Rattle.linked_restarts.specs.Contracts.{Meets, CommitMeets, RollbackMeets, SwitchMeets, ResetMeets, ReadyMeets}
 use Rattle.linked_restarts.proofs.Reopens.{commit-link, rollback-link}
 use Rattle.linked_restarts.proofs.Switches.{switch-link}
@@ -20,7 +24,10 @@ use Rattle.linked_restarts.proofs.Marks.{ready-link}
 use Rattle.linked_restarts.proofs.WholeQueue.{reset-link}
 
 meets : (c : run.Call) (ws : List ℕ) (d : Called) (r : Call) (ws′ : List ℕ) → ((st : List ℕ) → Good ws st → Does c ws st (d .answer) (d .next) st) → called r ws′ ≡ d → Meets c ws d r ws′
-meets c ws d r ws′ l e = record { words = e; model = λ st g. subst (λ (x : Called). Does c ws st (x .answer) (x .next) st) (sym e) (l st g) }
+meets c ws d r ws′ l e = record { words = e; model = does; tells = λ st g. tells (does st g) }
+  where
+    does : (st : List ℕ) → Good ws st → Does c ws st r ws′ st
+    does st g = subst (λ (x : Called). Does c ws st (x .answer) (x .next) st) (sym e) (l st g)
 
 pub commit-meets : (ws : List ℕ) (r : Call) (ws′ : List ℕ) → called r ws′ ≡ reopen true ws → CommitMeets ws r ws′
 commit-meets ws r ws′ e = meets run.commit ws (reopen true ws) r ws′ (λ st g. commit-link ws st g) e
@@ -34,5 +41,36 @@ switch-meets ws b r ws′ e = meets (run.set-interleaving b) ws (setInterleaving
 pub reset-meets : (ws : List ℕ) (r : Call) (ws′ : List ℕ) → called r ws′ ≡ resetQueue ws → ResetMeets ws r ws′
 reset-meets ws r ws′ e = meets run.reset ws (resetQueue ws) r ws′ (λ st g. reset-link ws st g) e
 
+ready-number : (a : Answer) → readyNumber (readyOf a) ≡ answer-number a
+ready-number (refused n) = refl
+ready-number done = refl
+ready-number (number m) = refl
+ready-number (flag b) = refl
+ready-number (ids l) = refl
+ready-number (fragment f) = refl
+ready-number nothing-waits = refl
+
+-- As many as the list has, of a list with others behind it.
+take-front : (l m : List ℕ) → take (length l) (l ++ m) ≡ l
+take-front [] m = refl
+take-front (x ∷ l) m = ap (λ (r : List ℕ). x ∷ r) (take-front l m)
+
+ready-list : (a : Answer) → readyList (readyOf a) ≡ answer-ids a
+ready-list (refused n) = refl
+ready-list done = refl
+ready-list (number m) = refl
+ready-list (flag b) = refl
+ready-list (ids l) = take-front l _
+ready-list (fragment f) = refl
+ready-list nothing-waits = refl
+
 pub ready-meets : (ws : List ℕ) (r : ReadyStreams) (ws′ : List ℕ) → readied r ws′ ≡ ready ws → ReadyMeets ws r ws′
-ready-meets ws r ws′ e = record { words = e; model = λ st g. subst (λ (x : Readied). Readies ws st (x .answer) (x .next) st) (sym e) (ready-link ws st g) }
+ready-meets ws r ws′ e = record {
+  words = e;
+  model = readies;
+  number = λ st g. ap readyNumber (readies st g .answer) ∙ ready-number (shown run.ready-ids ws st .answer);
+  ids = λ st g. ap readyList (readies st g .answer) ∙ ready-list (shown run.ready-ids ws st .answer);
+}
+  where
+    readies : (st : List ℕ) → Good ws st → Readies ws st r ws′ st
+    readies st g = subst (λ (x : Readied). Readies ws st (x .answer) (x .next) st) (sym e) (ready-link ws st g)

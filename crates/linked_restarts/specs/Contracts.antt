@@ -3,21 +3,23 @@ use Prim.Native.Nat.{ℕ}
 use mathlib.Core.Path.{_≡_}
 use mathlib.Core.Bool.{Bool, true, false}
 use mathlib.Core.List.{List}
+use Rattle.queue_model.specs.Answers.{answer-number, answer-ids}
 use Rattle.queue_model.specs.Run as run
 use Rattle.queue_streams.specs.Settings.{Called, called}
 use Rattle.queue_streams.specs.Restart.{reopen, setInterleaving}
 use Rattle.queue_streams.specs.declared.answers.Call.{Call}
-use Rattle.queue_restarts.specs.Ready.{readied, ready}
+use Rattle.queue_restarts.specs.Ready.{readied, ready, readyNumber, readyList}
 use Rattle.queue_restarts.specs.Reset.{resetQueue}
 use Rattle.queue_restarts.specs.declared.ready.ReadyStreams.{ReadyStreams}
 use Rattle.queue_state.specs.Good.{Good}
-use Rattle.queue_state.specs.Promise.{Does}
+use Rattle.queue_state.specs.Promise.{shown, Does, Tells}
 use Rattle.linked_restarts.specs.Ids.{Readies}
 
 -- A call answers r and leaves ws′: d on the words, the model's c on the words of a queue.
 pub record Meets (c : run.Call) (ws : List ℕ) (d : Called) (r : Call) (ws′ : List ℕ) : Type 0 where
   pub words : called r ws′ ≡ d
   pub model : (st : List ℕ) → Good ws st → Does c ws st r ws′ st
+  pub tells : (st : List ℕ) → Good ws st → Tells (shown c ws st) r
 
 -- "For every resetting stream, commit sets the three counters to 0 and opens, and rollback opens; both let a stream with messages wait."
 abbrev pub CommitMeets : List ℕ → Call → List ℕ → Type 0
@@ -38,3 +40,5 @@ ResetMeets ws r ws′ = Meets run.reset ws (resetQueue ws) r ws′
 pub record ReadyMeets (ws : List ℕ) (r : ReadyStreams) (ws′ : List ℕ) : Type 0 where
   pub words : readied r ws′ ≡ ready ws
   pub model : (st : List ℕ) → Good ws st → Readies ws st r ws′ st
+  pub number : (st : List ℕ) → Good ws st → readyNumber r ≡ answer-number (shown run.ready-ids ws st .answer)
+  pub ids : (st : List ℕ) → Good ws st → readyList r ≡ answer-ids (shown run.ready-ids ws st .answer)

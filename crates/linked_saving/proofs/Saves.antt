@@ -11,9 +11,10 @@ use lib.ListN.{length, drop, length-append}
 use Rattle.queue_words.specs.Flags.{pick}
 use Rattle.queue_words.specs.Header.{optionsAt, totalsAt}
 use Rattle.queue_model.specs.Types.{Queue, Stream}
+use Rattle.queue_model.specs.Answers.{saving-number, saving-length}
 use Rattle.queue_model.specs.Bytes.{row-bytes}
 use Rattle.queue_model.specs.Refusals.{_when_, first-refusal, max-time}
-use Rattle.queue_model.specs.Image.{Handover, trailer-widths, streams-bytes, messages-bytes, trailer-row, image-bytes, stream-records, message-records, handover, write-image, save-refusal, not-saved, saved-as, saving-or, save}
+use Rattle.queue_model.specs.Image.{Handover, trailer-widths, streams-bytes, messages-bytes, trailer-row, image-bytes, stream-records, message-records, handover, write-image, save-refusal, Saving, not-saved, saved-as, saving-or, save}
 use Rattle.queue_state.specs.Model.{streamIn, streamsIn, model}
 use Rattle.queue_state.specs.Good.{Good}
 use Rattle.queue_state.proofs.Tabs.{tab-same}
@@ -23,7 +24,7 @@ use Rattle.saving.specs.declared.image.Saved.the-variants.{Image, Refused}
 use Rattle.saving.specs.declared.measuring.Tally.{Tally}
 use Rattle.saving.specs.Measure.{tallyQueue}
 use Rattle.saving.specs.Bytes.{streamsFrom, messagesFrom, trailerBytes, imageBytes, imageSize}
-use Rattle.saving.specs.Save.{SavedAs, savedAs, saveWith, saveImage}
+use Rattle.saving.specs.Save.{SavedAs, savedAs, savedNumber, savedLength, saveWith, saveImage}
 use Rattle.saving.proofs.Lengths.{trailer-long}
 use Rattle.saving.proofs.Passed.{Passed, passed}
 use Rattle.saving.proofs.Images.{pick-yes}
@@ -142,5 +143,21 @@ save-is ws st b time g =
     ∙ renamed b (imageBytes ws st time (tallyQueue ws (length st))) (write-image time (model ws st)) (imageSize (tallyQueue ws (length st))) (ltb max-time time) (size-same ws st time (tallyQueue ws (length st)) p) (image-same ws st time (tallyQueue ws (length st)) p)
     ∙ sym (ap (savedOf b) (unfolded (length st) (length b) time (model ws st) (store-same ws st g)) ∙ shown b (write-image time (model ws st)) (ltb max-time time) (ltb (length b) (length (write-image time (model ws st)))))
 
+number-of : (b : List ℕ) (s : Saving) → savedNumber (savedOf b s .answer) ≡ saving-number s
+number-of b (not-saved n) = refl
+number-of b (saved-as bs) = refl
+
+size-of : (b : List ℕ) (s : Saving) → savedLength (savedOf b s .answer) ≡ saving-length s
+size-of b (not-saved n) = refl
+size-of b (saved-as bs) = refl
+
 pub save-meets : (ws st b : List ℕ) (time : ℕ) (r : Saved) (b′ : List ℕ) → savedAs r b′ ≡ saveImage ws st b time → SaveMeets ws st b time r b′
-save-meets ws st b time r b′ e = record { words = e; model = λ g. e ∙ save-is ws st b time g }
+save-meets ws st b time r b′ e = record {
+  words = e;
+  model = saves;
+  number = λ g. ap (λ (x : SavedAs). savedNumber (x .answer)) (saves g) ∙ number-of b (save (length st) (length b) time (model ws st));
+  size = λ g. ap (λ (x : SavedAs). savedLength (x .answer)) (saves g) ∙ size-of b (save (length st) (length b) time (model ws st));
+}
+  where
+    saves : Good ws st → savedAs r b′ ≡ savedOf b (save (length st) (length b) time (model ws st))
+    saves g = e ∙ save-is ws st b time g

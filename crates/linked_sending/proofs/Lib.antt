@@ -7,4 +7,5 @@ pub mod Last
 pub mod Expired
 pub mod Sent
 pub mod Passing
+pub mod Numbers
 pub mod Produces

@@ -29,6 +29,7 @@ use Rattle.queue_state.proofs.Singles.{model-options}
 use Rattle.queue_state.proofs.Splits.{by-index}
 use Rattle.linked_sending.specs.Meaning.{Sends, ProduceMeets}
 use Rattle.linked_sending.proofs.Passing.{Passes, passes, model-waits}
+use Rattle.linked_sending.proofs.Numbers.{tells-of}
 
 -- ---- what the model does
 
@@ -128,7 +129,7 @@ module _ (ws st es bs : List ℕ) (time size : ℕ) (g : Good ws st) where
 
 -- What the contract asks.
 pub produce-meets : (ws st es bs : List ℕ) (time size : ℕ) (r : Produced) (ws′ es′ bs′ : List ℕ) → producedWith r ws′ es′ bs′ ≡ produceNext ws st es bs time size → ProduceMeets ws st es bs time size r ws′ es′ bs′
-produce-meets ws st es bs time size r ws′ es′ bs′ e = record {
-  words = e;
-  model = λ g. subst (Sends (run.step (run.produce (length st) (placesIn es) (length bs) time size) (model ws st)) st es bs) (sym e) (produce-link ws st es bs time size g);
-}
+produce-meets ws st es bs time size r ws′ es′ bs′ e = record { words = e; model = sends; tells = λ g. tells-of (sends g) }
+  where
+    sends : Good ws st → Sends (run.step (run.produce (length st) (placesIn es) (length bs) time size) (model ws st)) st es bs (producedWith r ws′ es′ bs′)
+    sends g = subst (Sends (run.step (run.produce (length st) (placesIn es) (length bs) time size) (model ws st)) st es bs) (sym e) (produce-link ws st es bs time size g)

@@ -1,11 +1,12 @@
 -- The next fragment is the model's. Assumes nothing.
 use Prim.Native.Nat.{ℕ}
 use mathlib.Core.Path.{_≡_}
-use mathlib.Core.List.{List, [], _++_}
+use mathlib.Core.List.{List, [], _++_, map}
 use mathlib.Core.Option.{Option, none, some}
 use lib.ListN.{length, drop}
 use Rattle.types.specs.Keys.{key-of}
-use Rattle.queue_model.specs.Types.{Answer, refused, done, number, flag, ids, fragment, nothing-waits, Fragment, Step}
+use Rattle.queue_model.specs.Types.{Answer, refused, done, number, flag, ids, fragment, nothing-waits, Fragment, Outcome, Step}
+use Rattle.queue_model.specs.Answers.{answer-number, event-count, fragments-in}
 use Rattle.queue_model.specs.Run as run
 use Rattle.queue_streams.specs.Events.{placesIn, written}
 use Rattle.queue_sending.specs.declared.data.Data.{Data}
@@ -14,7 +15,7 @@ use Rattle.queue_sending.specs.declared.data.Expiry.{Expiry}
 use Rattle.queue_sending.specs.declared.data.Expiry.the-variants.{Never, At}
 use Rattle.queue_sending.specs.declared.data.Produced.{Produced}
 use Rattle.queue_sending.specs.declared.data.Produced.the-variants as produced
-use Rattle.queue_sending.specs.Data.{ProducedWith, producedWith}
+use Rattle.queue_sending.specs.Data.{ProducedWith, producedWith, producedNumber, producedEvents, producedData}
 use Rattle.queue_sending.specs.Produce.{produceNext}
 use Rattle.queue_state.specs.Model.{model}
 use Rattle.queue_state.specs.Good.{Good}
@@ -71,7 +72,14 @@ pub record Sends (s : Step) (st es bs : List ℕ) (p : ProducedWith) : Type 0 wh
   pub events : p .events ≡ written es 0 (s .outcome .events)
   pub buffer : p .buffer ≡ bufferOf (s .outcome .answer) bs
 
+-- "If an answer is an enum, a definition states this paper's number and values for each case of the enum. The promises use that definition." The number, how many events it tells, what goes with the fragment: the model's.
+pub record TellsFragment (o : Outcome) (r : Produced) : Type 0 where
+  pub number : producedNumber r ≡ answer-number (o .answer)
+  pub events : producedEvents r ≡ event-count o
+  pub data-are : producedData r ≡ map dataOf (fragments-in (o .answer))
+
 -- The contract: the words for every input, and the model's step from good words.
 pub record ProduceMeets (ws st es bs : List ℕ) (time size : ℕ) (r : Produced) (ws′ es′ bs′ : List ℕ) : Type 0 where
   pub words : producedWith r ws′ es′ bs′ ≡ produceNext ws st es bs time size
+  pub tells : Good ws st → TellsFragment ((run.step (run.produce (length st) (placesIn es) (length bs) time size) (model ws st)) .outcome) r
   pub model : Good ws st → Sends (run.step (run.produce (length st) (placesIn es) (length bs) time size) (model ws st)) st es bs (producedWith r ws′ es′ bs′)

@@ -26,6 +26,7 @@ use Rattle.stream_scheduler.specs.declared.Peeked.{Peeked}
 use Rattle.stream_scheduler.proofs.Handing.{peek-link}
 use Rattle.queue_streams.specs.Known.{newStream}
 use Rattle.queue_questions.specs.Questions.{lookedAt, streamOrNew, asked, priorityOf, amountOf, thresholdOf, totalOf, emptyOf, waits, dataOf, readyAmong, readyOf, readinessOf}
+use Rattle.queue_streams.specs.Answers.{numberNumber, numberValue, flagNumber, flagValue}
 use Rattle.queue_streams.specs.declared.answers.Flag.{Flag}
 use Rattle.queue_streams.specs.declared.answers.Flag.the-variants as flag
 use Rattle.queue_streams.specs.declared.answers.Number.{Number}
@@ -35,9 +36,11 @@ use Rattle.queue_state.specs.Model.{optionsOf, pauseOf, rowAt, streamIn, stream
 use Rattle.queue_state.specs.Good.{Good}
 use Rattle.queue_state.specs.Promise.{shown, numberOf}
 use Rattle.queue_state.proofs.Frames.{row-below}
+use Rattle.queue_state.proofs.Numbers.{number-number, number-value}
 use Rattle.queue_state.proofs.Looks.{Lookup, known-at, new-at, lookup, stream-found, stream-new}
 use Rattle.queue_state.proofs.Singles.{model-options, model-total, model-streams, model-schedules}
-use Rattle.linked_streams.specs.Questions.{flagOf, PriorityMeets, AmountMeets, ThresholdMeets, TotalMeets, EmptyMeets, DataMeets, ReadyMeets, ReadinessMeets}
+use Rattle.linked_streams.specs.Questions.{flagOf, AskedNumber, AskedFlag, PriorityMeets, AmountMeets, ThresholdMeets, TotalMeets, EmptyMeets, DataMeets, ReadyMeets, ReadinessMeets}
+use Rattle.linked_streams.proofs.Numbers.{flag-number, flag-value}
 
 -- ------------------------------------------------------------------ one number of a stream
 
@@ -215,14 +218,30 @@ readiness-asked ws st =
 -- ------------------------------------------------------------------ both promises
 
 module _ (ws : List ℕ) where
+  asked-number : (c : run.Call) (r w : Number) → r ≡ w → ((st : List ℕ) → Good ws st → w ≡ numberOf (shown c ws st .answer)) → AskedNumber c ws r w
+  asked-number c r w e f = record {
+    words = e;
+    model = λ st g. e ∙ f st g;
+    number = λ st g. ap numberNumber (e ∙ f st g) ∙ number-number (shown c ws st .answer);
+    value = λ st g. ap numberValue (e ∙ f st g) ∙ number-value (shown c ws st .answer);
+  }
+
+  asked-flag : (c : run.Call) (r w : Flag) → r ≡ w → ((st : List ℕ) → Good ws st → w ≡ flagOf (shown c ws st .answer)) → AskedFlag c ws r w
+  asked-flag c r w e f = record {
+    words = e;
+    model = λ st g. e ∙ f st g;
+    number = λ st g. ap flagNumber (e ∙ f st g) ∙ flag-number (shown c ws st .answer);
+    value = λ st g. ap flagValue (e ∙ f st g) ∙ flag-value (shown c ws st .answer);
+  }
+
   pub priority-meets : (id : ℕ) (r : Number) → r ≡ priorityOf ws id → PriorityMeets ws id r
-  priority-meets id r e = record { words = e; model = λ st g. e ∙ priority-asked ws st g id }
+  priority-meets id r e = asked-number (run.ask-priority id) r (priorityOf ws id) e (λ st g. priority-asked ws st g id)
 
   pub amount-meets : (id : ℕ) (r : Number) → r ≡ amountOf ws id → AmountMeets ws id r
-  amount-meets id r e = record { words = e; model = λ st g. e ∙ amount-asked ws st g id }
+  amount-meets id r e = asked-number (run.ask-amount id) r (amountOf ws id) e (λ st g. amount-asked ws st g id)
 
   pub threshold-meets : (id : ℕ) (r : Number) → r ≡ thresholdOf ws id → ThresholdMeets ws id r
-  threshold-meets id r e = record { words = e; model = λ st g. e ∙ threshold-asked ws st g id }
+  threshold-meets id r e = asked-number (run.ask-threshold id) r (thresholdOf ws id) e (λ st g. threshold-asked ws st g id)
 
   pub total-meets : (r : ℕ) → r ≡ totalOf ws → TotalMeets ws r
   total-meets r e = record { words = e; model = λ st g. e ∙ total-asked ws st }
@@ -231,10 +250,10 @@ module _ (ws : List ℕ) where
   empty-meets r e = record { words = e; model = λ st g. e ∙ empty-asked ws st }
 
   pub data-meets : (r : Flag) → r ≡ dataOf ws → DataMeets ws r
-  data-meets r e = record { words = e; model = λ st g. e ∙ data-asked ws st g }
+  data-meets r e = asked-flag run.ask-has-data r (dataOf ws) e (λ st g. data-asked ws st g)
 
   pub ready-meets : (r : Flag) → r ≡ readyOf ws → ReadyMeets ws r
-  ready-meets r e = record { words = e; model = λ st g. e ∙ ready-asked ws st g }
+  ready-meets r e = asked-flag run.ask-streams-ready r (readyOf ws) e (λ st g. ready-asked ws st g)
 
   pub readiness-meets : (r : ℕ) → r ≡ readinessOf ws → ReadinessMeets ws r
   readiness-meets r e = record { words = e; model = λ st g. e ∙ readiness-asked ws st }

@@ -37,6 +37,7 @@ use Rattle.queue_state.specs.Good.{Good}
 use Rattle.queue_state.specs.Promise.{shown, Does, Reports}
 use Rattle.queue_state.proofs.Frames.{stream-is}
 use Rattle.queue_state.proofs.Inserts.{insert-link}
+use Rattle.queue_state.proofs.Numbers.{tells}
 use Rattle.queue_state.proofs.Looks.{Lookup, known-at, new-at, lookup, stream-found, stream-new, not-too-many, too-many-new, look-row, look-new, look-full}
 use Rattle.payload_store.proofs.Cases.{by-lt}
 use Rattle.linked_streams.specs.Settings.{SetPriorityMeets, SetThresholdMeets}
@@ -260,13 +261,13 @@ module _ (ws st es : List ℕ) (g : Good ws st) (id t : ℕ) (hid : id < 65536) 
 -- ------------------------------------------------------------------ both promises
 
 pub set-priority-meets : (ws : List ℕ) (id p : ℕ) (r : Call) (ws′ : List ℕ) → id < 65536 → p < 65536 → called r ws′ ≡ setPriority ws id p → SetPriorityMeets ws id p r ws′
-set-priority-meets ws id p r ws′ hid hp e = record {
-  words = e;
-  model = λ st g. subst (λ (x : Called). Does (run.set-priority id p) ws st (x .answer) (x .next) st) (sym e) (priority-link ws st g id p hid hp);
-}
+set-priority-meets ws id p r ws′ hid hp e = record { words = e; model = does; tells = λ st g. tells (does st g) }
+  where
+    does : (st : List ℕ) → Good ws st → Does (run.set-priority id p) ws st r ws′ st
+    does st g = subst (λ (x : Called). Does (run.set-priority id p) ws st (x .answer) (x .next) st) (sym e) (priority-link ws st g id p hid hp)
 
 pub set-threshold-meets : (ws es : List ℕ) (id t : ℕ) (r : Call) (ws′ es′ : List ℕ) → id < 65536 → t < 18446744073709551616 → calledWith r ws′ es′ ≡ setThreshold ws es id t → SetThresholdMeets ws es id t r ws′ es′
-set-threshold-meets ws es id t r ws′ es′ hid ht e = record {
-  words = e;
-  model = λ st g. subst (λ (x : CalledWith). Reports (run.set-threshold (placesIn es) id t) ws st es (x .answer) (x .next) st (x .events)) (sym e) (threshold-link ws st es g id t hid ht);
-}
+set-threshold-meets ws es id t r ws′ es′ hid ht e = record { words = e; model = reports; tells = λ st g. tells (reports st g .does) }
+  where
+    reports : (st : List ℕ) → Good ws st → Reports (run.set-threshold (placesIn es) id t) ws st es r ws′ st es′
+    reports st g = subst (λ (x : CalledWith). Reports (run.set-threshold (placesIn es) id t) ws st es (x .answer) (x .next) st (x .events)) (sym e) (threshold-link ws st es g id t hid ht)

@@ -4,9 +4,11 @@ use mathlib.Core.Path.{_≡_}
 use mathlib.Core.Bool.{Bool, false}
 use mathlib.Core.List.{List}
 use Rattle.queue_model.specs.Types.{Answer, refused, done, number, flag, ids, fragment, nothing-waits}
+use Rattle.queue_model.specs.Answers.{answer-number, answer-value, answer-flag}
 use Rattle.queue_model.specs.Calls
 use Rattle.queue_model.specs.Run as run
 use Rattle.queue_questions.specs.Questions.{priorityOf, amountOf, thresholdOf, totalOf, emptyOf, dataOf, readyOf, readinessOf}
+use Rattle.queue_streams.specs.Answers.{numberNumber, numberValue, flagNumber, flagValue}
 use Rattle.queue_streams.specs.declared.answers.Flag.{Flag}
 use Rattle.queue_streams.specs.declared.answers.Flag.the-variants as flag-answer
 use Rattle.queue_streams.specs.declared.answers.Number.{Number}
@@ -29,17 +31,30 @@ pub record Asked {A : Type 0} (ws : List ℕ) (r w : A) (m : List ℕ → A) : T
   pub words : r ≡ w
   pub model : (st : List ℕ) → Good ws st → r ≡ m st
 
+-- "If an answer is an enum, a definition states this paper's number and values for each case of the enum. The promises use that definition." A question c that a broken state can refuse: the same, and the answer's number and value are the model's.
+pub record AskedNumber (c : run.Call) (ws : List ℕ) (r w : Number) : Type 0 where
+  pub words : r ≡ w
+  pub model : (st : List ℕ) → Good ws st → r ≡ numberOf (shown c ws st .answer)
+  pub number : (st : List ℕ) → Good ws st → numberNumber r ≡ answer-number (shown c ws st .answer)
+  pub value : (st : List ℕ) → Good ws st → numberValue r ≡ answer-value (shown c ws st .answer)
+
+pub record AskedFlag (c : run.Call) (ws : List ℕ) (r w : Flag) : Type 0 where
+  pub words : r ≡ w
+  pub model : (st : List ℕ) → Good ws st → r ≡ flagOf (shown c ws st .answer)
+  pub number : (st : List ℕ) → Good ws st → flagNumber r ≡ answer-number (shown c ws st .answer)
+  pub value : (st : List ℕ) → Good ws st → flagValue r ≡ answer-flag (shown c ws st .answer)
+
 -- "A call of its own answers the priority last set or restored, the default where there is none, and changes nothing."
 abbrev pub PriorityMeets : List ℕ → ℕ → Number → Type 0
-PriorityMeets ws id r = Asked ws r (priorityOf ws id) (λ st. numberOf (shown (run.ask-priority id) ws st .answer))
+PriorityMeets ws id r = AskedNumber (run.ask-priority id) ws r (priorityOf ws id)
 
 -- A stream's amount, 0 where it is not known.
 abbrev pub AmountMeets : List ℕ → ℕ → Number → Type 0
-AmountMeets ws id r = Asked ws r (amountOf ws id) (λ st. numberOf (shown (run.ask-amount id) ws st .answer))
+AmountMeets ws id r = AskedNumber (run.ask-amount id) ws r (amountOf ws id)
 
 -- A stream's threshold, the default where it is not known.
 abbrev pub ThresholdMeets : List ℕ → ℕ → Number → Type 0
-ThresholdMeets ws id r = Asked ws r (thresholdOf ws id) (λ st. numberOf (shown (run.ask-threshold id) ws st .answer))
+ThresholdMeets ws id r = AskedNumber (run.ask-threshold id) ws r (thresholdOf ws id)
 
 -- The total, and whether it is 0.
 abbrev pub TotalMeets : List ℕ → ℕ → Type 0
@@ -50,11 +65,11 @@ EmptyMeets ws r = Asked ws r (emptyOf ws) (λ st. Calls.is-empty (model ws st))
 
 -- Whether a stream waits.
 abbrev pub DataMeets : List ℕ → Flag → Type 0
-DataMeets ws r = Asked ws r (dataOf ws) (λ st. flagOf (shown run.ask-has-data ws st .answer))
+DataMeets ws r = AskedFlag run.ask-has-data ws r (dataOf ws)
 
 -- Whether a stream is paused.
 abbrev pub ReadyMeets : List ℕ → Flag → Type 0
-ReadyMeets ws r = Asked ws r (readyOf ws) (λ st. flagOf (shown run.ask-streams-ready ws st .answer))
+ReadyMeets ws r = AskedFlag run.ask-streams-ready ws r (readyOf ws)
 
 -- "Readiness is 2 if handover with waiting data is off and the total is above 0, else 0."
 abbrev pub ReadinessMeets : List ℕ → ℕ → Type 0

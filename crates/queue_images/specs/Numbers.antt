@@ -11,14 +11,8 @@ use Rattle.queue_runs.specs.Numbers.{among}
 use Rattle.queue_runs.specs.Refusals.{callRefused}
 use Rattle.queue_runs.specs.Run.{State}
 use Rattle.saving.specs.Save.{saveImage}
-use Rattle.saving.specs.declared.image.Saved.{Saved}
-use Rattle.saving.specs.declared.image.Saved.the-variants.{Image, Refused}
+pub use Rattle.saving.specs.Save.{savedNumber}
 use Rattle.queue_images.specs.Refusals.{savedRefused}
-
--- The number of an answer: 0 where the queue is saved, else the refusal's.
-abbrev pub savedNumber : Saved → ℕ
-savedNumber (Image n) = 0
-savedNumber (Refused n) = n
 
 -- A refused saving gives 2, 4, 11 or 16.
 abbrev pub SaveRefusalsListed : Type 0

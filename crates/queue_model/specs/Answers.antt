@@ -1,10 +1,13 @@
--- What is read off an answer: whether it is a refusal, and the fragment in it. Assumes nothing.
+-- What is read off an answer: whether it is a refusal, its number, its values. Assumes nothing.
 use Prim.Native.Nat.{ℕ}
 use mathlib.Core.Bool.{Bool, true, false}
 use mathlib.Core.List.{List, [], _∷_}
 use lib.Dec.{eqb}
+use lib.ListN.{length}
 use Rattle.queue_model.specs.Logic.{if_then_else_}
-use Rattle.queue_model.specs.Types.{Fragment, Answer, refused, done, number, flag, ids, fragment, nothing-waits}
+use Rattle.queue_model.specs.Types.{Fragment, Answer, refused, done, number, flag, ids, fragment, nothing-waits, Outcome}
+use Rattle.queue_model.specs.Refusals.{Creation, not-created, new}
+use Rattle.queue_model.specs.Image.{Saving, not-saved, saved-as}
 
 abbrev pub is-refused : Answer → Bool
 is-refused (refused r) = true
@@ -29,3 +32,69 @@ fragments-in nothing-waits = []
 abbrev pub of-stream : ℕ → List Fragment → List Fragment
 of-stream k [] = []
 of-stream k (f ∷ fs) = if eqb (f .stream-id) k then f ∷ of-stream k fs else of-stream k fs
+
+-- ------------------------------------------------------------------ number and values
+
+-- "If an answer is an enum, a definition states this paper's number and values for each case of the enum." The number: 0 where a call is accepted or a question answered, else the refusal's.
+abbrev pub answer-number : Answer → ℕ
+answer-number (refused n) = n
+answer-number done = 0
+answer-number (number m) = 0
+answer-number (flag b) = 0
+answer-number (ids ks) = 0
+answer-number (fragment f) = 0
+answer-number nothing-waits = 0
+
+-- The values: a number, yes or no, ids; 0, no and none where the answer has no such value. The fragment: `fragments-in`.
+abbrev pub answer-value : Answer → ℕ
+answer-value (refused n) = 0
+answer-value done = 0
+answer-value (number m) = m
+answer-value (flag b) = 0
+answer-value (ids ks) = 0
+answer-value (fragment f) = 0
+answer-value nothing-waits = 0
+
+abbrev pub answer-flag : Answer → Bool
+answer-flag (refused n) = false
+answer-flag done = false
+answer-flag (number m) = false
+answer-flag (flag b) = b
+answer-flag (ids ks) = false
+answer-flag (fragment f) = false
+answer-flag nothing-waits = false
+
+abbrev pub answer-ids : Answer → List ℕ
+answer-ids (refused n) = []
+answer-ids done = []
+answer-ids (number m) = []
+answer-ids (flag b) = []
+answer-ids (ids ks) = ks
+answer-ids (fragment f) = []
+answer-ids nothing-waits = []
+
+-- How many events a call tells that writes k: none where it is refused.
+abbrev pub answer-events : Answer → ℕ → ℕ
+answer-events (refused n) k = 0
+answer-events done k = k
+answer-events (number m) k = k
+answer-events (flag b) k = k
+answer-events (ids ks) k = k
+answer-events (fragment f) k = k
+answer-events nothing-waits k = k
+
+abbrev pub event-count : Outcome → ℕ
+event-count o = answer-events (o .answer) (length (o .events))
+
+-- Of creation and of saving; the image's length.
+abbrev pub creation-number : Creation → ℕ
+creation-number (not-created n) = n
+creation-number (new q) = 0
+
+abbrev pub saving-number : Saving → ℕ
+saving-number (not-saved n) = n
+saving-number (saved-as bs) = 0
+
+abbrev pub saving-length : Saving → ℕ
+saving-length (not-saved n) = 0
+saving-length (saved-as bs) = length bs

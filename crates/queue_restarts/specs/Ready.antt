@@ -3,12 +3,13 @@ use Prim.Native.Nat.{ℕ, zero, suc, _+_}
 use mathlib.Core.Bool.{Bool, true, false}
 use mathlib.Core.List.{List}
 use lib.Dec.{ltb, eqb}
-use lib.ListN.{replicate, set}
+use lib.ListN.{replicate, set, take}
 use Rattle.queue_words.specs.Flags.{pick}
 use Rattle.queue_words.specs.Header.{totalsAt}
 use Rattle.queue_words.specs.Known.{knownAt}
 use Rattle.queue_words.specs.Streams.{streamAt, putStream}
 use Rattle.queue_words.specs.declared.streams.OutgoingStream.{OutgoingStream}
+use Rattle.queue_streams.specs.Answers.{callNumber}
 use Rattle.queue_streams.specs.declared.answers.Call.the-variants.{Accepted, Refused}
 use Rattle.queue_restarts.specs.declared.ready.ReadyStreams.{ReadyStreams}
 
@@ -77,3 +78,10 @@ readied r ws = record { answer = r; next = ws }
 -- 16 where a place lies outside its table; nothing is then changed.
 unfoldable pub ready : List ℕ → Readied
 ready ws = pick (allPlacesFit ws (totalsAt ws .known)) (readied (collected ws (totalsAt ws .known)) (markedAll ws (totalsAt ws .known))) (readied refusedReady ws)
+
+-- The answer's number, and its values: the ids, as many as its count says.
+abbrev pub readyNumber : ReadyStreams → ℕ
+readyNumber a = callNumber (a .answer)
+
+abbrev pub readyList : ReadyStreams → List ℕ
+readyList a = take (a .count) (a .ids)

@@ -1,7 +1,7 @@
 -- What goes with a fragment, and what the call leaves. Assumes nothing.
 use Prim.Native.Nat.{ℕ}
 use mathlib.Core.Bool.{Bool}
-use mathlib.Core.List.{List}
+use mathlib.Core.List.{List, [], _∷_}
 use lib.Dec.{eqb}
 use Rattle.types.specs.Keys.{key-of}
 use Rattle.queue_words.specs.Flags.{pick}
@@ -65,3 +65,14 @@ abbrev pub producedNumber : Produced → ℕ
 producedNumber (produced.Nothing k) = 0
 producedNumber (produced.Fragment k d) = 0
 producedNumber (produced.Refused n) = n
+
+-- Its values: how many events it tells, and what goes with the fragment, if there is one.
+abbrev pub producedEvents : Produced → ℕ
+producedEvents (produced.Nothing k) = k
+producedEvents (produced.Fragment k d) = k
+producedEvents (produced.Refused n) = 0
+
+abbrev pub producedData : Produced → List DataToSend
+producedData (produced.Nothing k) = []
+producedData (produced.Fragment k d) = d ∷ []
+producedData (produced.Refused n) = []

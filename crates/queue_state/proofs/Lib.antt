@@ -18,3 +18,4 @@ pub mod Alikes
 pub mod Facts
 pub mod Leaves
 pub mod Dropped
+pub mod Numbers

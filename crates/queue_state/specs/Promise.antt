@@ -5,7 +5,9 @@ use mathlib.Core.Bool.{Bool}
 use mathlib.Core.List.{List, []}
 use lib.ListN.{length}
 use Rattle.queue_model.specs.Types.{Answer, refused, done, number, flag, ids, fragment, nothing-waits, Outcome}
+use Rattle.queue_model.specs.Answers.{answer-number, event-count}
 use Rattle.queue_model.specs.Run as run
+use Rattle.queue_streams.specs.Answers.{callNumber, callEvents}
 use Rattle.queue_streams.specs.Events.{written}
 use Rattle.queue_streams.specs.declared.answers.Call.{Call}
 use Rattle.queue_streams.specs.declared.answers.Call.the-variants.{Accepted, Refused}
@@ -40,6 +42,11 @@ pub record Does (c : run.Call) (ws st : List ℕ) (a : Call) (ws′ st′ : List
 pub record Reports (c : run.Call) (ws st es : List ℕ) (a : Call) (ws′ st′ es′ : List ℕ) : Type 0 where
   pub does : Does c ws st a ws′ st′
   pub events : es′ ≡ written es 0 (shown c ws st .events)
+
+-- "If an answer is an enum, a definition states this paper's number and values for each case of the enum. The promises use that definition." Of a call: its number and how many events it tells are the model's.
+pub record Tells (o : Outcome) (a : Call) : Type 0 where
+  pub number : callNumber a ≡ answer-number (o .answer)
+  pub events : callEvents a ≡ event-count o
 
 -- A question: the model's answer.
 abbrev pub numberOf : Answer → Number

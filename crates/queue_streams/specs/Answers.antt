@@ -1,4 +1,4 @@
--- "If an answer is an enum, a definition states this paper's number [..] for each case of the enum": 0 where a call is accepted or a question answered, else the refusal's number of document 01. Assumes nothing.
+-- "If an answer is an enum, a definition states this paper's number and values for each case of the enum." The number: 0 where a call is accepted or a question answered, else the refusal's of document 01. Assumes nothing.
 use Prim.Native.Nat.{ℕ}
 use mathlib.Core.Bool.{Bool, true, false}
 use Rattle.queue_streams.specs.declared.answers.Call.{Call}
@@ -24,3 +24,16 @@ numberNumber (number.Refused n) = n
 abbrev pub flagNumber : Flag → ℕ
 flagNumber (flag.Value b) = 0
 flagNumber (flag.Refused n) = n
+
+-- The values: how many events a call tells, what a question answers; 0 and no where it is refused.
+abbrev pub callEvents : Call → ℕ
+callEvents (call.Accepted k) = k
+callEvents (call.Refused n) = 0
+
+abbrev pub numberValue : Number → ℕ
+numberValue (number.Value v) = v
+numberValue (number.Refused n) = 0
+
+abbrev pub flagValue : Flag → Bool
+flagValue (flag.Value b) = b
+flagValue (flag.Refused n) = false

@@ -12,6 +12,15 @@ use Rattle.saving.specs.declared.measuring.Tally.{Tally}
 use Rattle.saving.specs.Measure.{tallyQueue}
 use Rattle.saving.specs.Bytes.{imageBytes, imageSize}
 
+-- The answer's number, 0 where the queue is saved, else the refusal's; and its value, the image's length.
+abbrev pub savedNumber : Saved → ℕ
+savedNumber (Image n) = 0
+savedNumber (Refused n) = n
+
+abbrev pub savedLength : Saved → ℕ
+savedLength (Image n) = n
+savedLength (Refused n) = 0
+
 -- The answer, and the buffer as the call leaves it.
 pub record SavedAs : Type 0 where
   pub answer : Saved

@@ -1,5 +1,5 @@
 -- "If an answer is an enum, a definition states this paper's number and values for each case of the enum." The number is what a call returns: 0 for accepted, else the
--- refusal's (queue_streams: specs/Answers, queue_sending: specs/Data). The values stand in an array of 16 places: 0 the value, 1 the number of events, the others what goes with a fragment. Assumes nothing.
+-- refusal's (queue_streams: specs/Answers, queue_sending: specs/Data, queue_restarts: specs/Ready, saving: specs/Save). For C the values stand in an array of 16 places: 0 the value, 1 the number of events, the others what goes with a fragment. Assumes nothing.
 use Prim.Native.Nat.{ℕ}
 use mathlib.Core.Bool.{Bool, true, false, not}
 use mathlib.Core.List.{List, _++_}
@@ -15,7 +15,6 @@ use Rattle.queue_streams.specs.declared.answers.Flag.{Flag}
 use Rattle.queue_streams.specs.declared.answers.Flag.the-variants as flag
 use Rattle.queue_streams.specs.declared.answers.Number.{Number}
 use Rattle.queue_streams.specs.declared.answers.Number.the-variants as number
-use Rattle.queue_streams.specs.Answers.{callNumber}
 use Rattle.queue_messages.specs.declared.message.Lifetime.{Lifetime}
 use Rattle.queue_messages.specs.declared.message.Lifetime.the-variants as life
 use Rattle.queue_messages.specs.declared.message.MaxRetransmissions.{MaxRetransmissions}
@@ -30,6 +29,8 @@ use Rattle.queue_sending.specs.declared.data.Produced.{Produced}
 use Rattle.queue_sending.specs.declared.data.Produced.the-variants as produced
 use Rattle.saving.specs.declared.image.Saved.{Saved}
 use Rattle.saving.specs.declared.image.Saved.the-variants as saved
+pub use Rattle.queue_restarts.specs.Ready.{readyNumber}
+pub use Rattle.saving.specs.Save.{savedNumber}
 
 -- ------------------------------------------------------------------ what is given
 
@@ -103,9 +104,6 @@ producedOut out (produced.Refused n) = out
 
 -- ------------------------------------------------------------------ ready ids
 
-abbrev pub readyNumber : ReadyStreams → ℕ
-readyNumber a = callNumber (a .answer)
-
 abbrev pub accepted : {A : Type 0} → Call → A → A → A
 accepted (Accepted k) a b = a
 accepted (Refused n) a b = b
@@ -127,10 +125,6 @@ abbrev pub plannedPlaces : List ℕ → PlannedPriorities → List ℕ
 plannedPlaces places a = accepted (a .answer) (withFirst places (a .count) (a .values)) places
 
 -- ------------------------------------------------------------------ the image
-
-abbrev pub savedNumber : Saved → ℕ
-savedNumber (saved.Image n) = 0
-savedNumber (saved.Refused n) = n
 
 abbrev pub savedOut : List ℕ → Saved → List ℕ
 savedOut out (saved.Image n) = set out 0 n
