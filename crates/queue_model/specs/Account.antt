@@ -9,8 +9,9 @@ use lib.ListN.{length}
 use Rattle.queue_model.specs.Logic.{if_then_else_}
 use Rattle.queue_model.specs.Close.{closing-bytes}
 use Rattle.queue_model.specs.Table.{find}
-use Rattle.queue_model.specs.Types.{Item, Active, Options, Queue, Answer, refused, done, number, flag, ids, fragment, nothing-waits, remaining}
+use Rattle.queue_model.specs.Types.{Item, Active, Options, Queue, Answer, refused, done, number, flag, ids, fragment, nothing-waits, filled, remaining}
 use Rattle.queue_model.specs.Answers.{is-refused}
+use Rattle.queue_model.specs.Fill.{filling}
 use Rattle.queue_model.specs.Passing.{passing}
 use Rattle.queue_model.specs.Scheduler.{peek}
 use Rattle.queue_model.specs.Streams.{stream-at, head-size, waiting, new-queue, amounts}
@@ -18,8 +19,9 @@ use Rattle.queue_model.specs.Reset.{put-back}
 use Rattle.queue_model.specs.Questions.{amount-of}
 use Rattle.queue_model.specs.Image.{MessageRecord, Handover}
 use Rattle.queue_model.specs.Reader.{read-image}
-use Rattle.queue_model.specs.Run.{Call, add, produce, discard, close, ready-ids, commit, rollback, reset, set-threshold, set-priority, set-interleaving, restore, ask-priority, ask-amount, ask-threshold, ask-total, ask-empty, ask-has-data, ask-streams-ready, ask-readiness, step, after}
+use Rattle.queue_model.specs.Run.{Call, add, produce, fill, discard, close, ready-ids, commit, rollback, reset, set-threshold, set-priority, set-interleaving, restore, ask-priority, ask-amount, ask-threshold, ask-total, ask-empty, ask-has-data, ask-streams-ready, ask-readiness, step, after}
 use Rattle.queue_model.specs.Demands.{Created, AllTyped}
+use Rattle.queue_model.specs.Calls
 
 -- Payload bytes that calls moved in one stream: in are accepted, put back and left to send in an image; out are handed out and dropped.
 pub record Account : Type 0 where
@@ -43,7 +45,7 @@ for-stream k s n = if eqb s k then n else 0
 abbrev pub unless-refused : Answer → ℕ → ℕ
 unless-refused a n = if is-refused a then 0 else n
 
--- The bytes of a stream that an answer hands out.
+-- The bytes of a stream that an answer hands out; those of a filling are counted call by call.
 abbrev pub handed : ℕ → Answer → ℕ
 handed k (refused r) = 0
 handed k done = 0
@@ -52,6 +54,7 @@ handed k (flag b) = 0
 handed k (ids ks) = 0
 handed k (fragment f) = for-stream k (f .stream-id) (length (f .bytes))
 handed k nothing-waits = 0
+handed k (filled bs n) = 0
 
 -- The unsent bytes of the scheduler's choice.
 unfoldable pub choice-bytes : ℕ → Queue → Option Active → ℕ
@@ -85,16 +88,32 @@ unfolding records-left
 image-left k none = 0
 image-left k (some h) = records-left k (h .messages)
 
+-- What one call for the next fragment moves in stream k.
+unfoldable pub produce-account : ℕ → ℕ → ℕ → ℕ → ℕ → ℕ → Queue → Account
+unfolding Calls.produce for-stream passed
+produce-account k store places buffer now size q =
+    let a = (Calls.produce store places buffer now size q) .outcome .answer in
+    record { accepted = 0; handed-out = handed k a; dropped-unsent = unless-refused a (passed k (suc (waiting (q .streams))) now q); put-back-whole = 0; left-to-send = 0 }
+
+-- The same of a filling's calls, one for each size asked for (document 02, 5/13: "each of them one call for the next fragment").
+unfoldable pub fill-account : ℕ → ℕ → ℕ → ℕ → List ℕ → Queue → Account
+unfolding produce-account Calls.produce
+fill-account k store places now [] q = no-bytes
+fill-account k store places now (n ∷ ns) q = both (produce-account k store places n now n q) (fill-account k store places now ns ((Calls.produce store places n now n q) .next))
+
+-- Nothing moves where a call is refused.
+abbrev pub none-refused : Answer → Account → Account
+none-refused a moved = if is-refused a then no-bytes else moved
+
 -- What one call moves in stream k. "each counted from the call history": bytes accepted, handed out and left to send in an image are read off the call's arguments and its answer alone. Unsent bytes of dropped
 -- messages, and bytes put back, are read off the messages that wait when the call is made (their lengths and offsets), in the queue that the earlier calls lead to. Which of
 -- them it drops is told by the definitions that the call itself uses (`passing`, `closing-bytes`, `head-bytes`); no amount is counted. No single answer shows them, and which expired heads a next fragment drops no list of
 -- answers does: events tell it only where they have a lifecycle id.
 unfoldable pub account : ℕ → Call → Queue → Account
-unfolding step for-stream passed head-bytes closing-bytes image-left read-image find put-back
+unfolding step for-stream produce-account fill-account filling head-bytes closing-bytes image-left read-image find put-back
 account k (add store now m) q = record { accepted = unless-refused ((step (add store now m) q) .outcome .answer) (for-stream k (m .stream-id) (length (m .payload))); handed-out = 0; dropped-unsent = 0; put-back-whole = 0; left-to-send = 0 }
-account k (produce store places buffer now size) q =
-    let a = (step (produce store places buffer now size) q) .outcome .answer in
-    record { accepted = 0; handed-out = handed k a; dropped-unsent = unless-refused a (passed k (suc (waiting (q .streams))) now q); put-back-whole = 0; left-to-send = 0 }
+account k (produce store places buffer now size) q = produce-account k store places buffer now size q
+account k (fill store places buffer now p) q = none-refused ((step (fill store places buffer now p) q) .outcome .answer) (fill-account k store places now ((filling store places now (p .limit) q) .sizes) q)
 account k (discard places s m) q = record { accepted = 0; handed-out = 0; dropped-unsent = unless-refused ((step (discard places s m) q) .outcome .answer) (for-stream k s (head-bytes m ((stream-at q s) .items))); put-back-whole = 0; left-to-send = 0 }
 account k (close places s) q = record { accepted = 0; handed-out = 0; dropped-unsent = unless-refused ((step (close places s) q) .outcome .answer) (for-stream k s (closing-bytes ((stream-at q s) .pause-state) ((stream-at q s) .items))); put-back-whole = 0; left-to-send = 0 }
 account k ready-ids q = no-bytes

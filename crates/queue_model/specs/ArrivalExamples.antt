@@ -6,7 +6,8 @@ use mathlib.Core.Option.{Option, none, some}
 use mathlib.Core.Path.{_≡_, refl}
 use Rattle.queue_model.specs.Types.{Item, not-paused, paused, Counters, Options, Message}
 use Rattle.queue_model.specs.Streams.{new-queue, zero-counters}
-use Rattle.queue_model.specs.Run.{Call, add, produce, close, reset}
+use Rattle.queue_model.specs.Run.{Call, add, produce, fill, close, reset}
+use Rattle.queue_model.specs.Chunks.{padding}
 use Rattle.queue_model.specs.History.{history}
 use Rattle.queue_model.specs.Arrivals.{Ledger, new-ledger, ledger}
 
@@ -63,3 +64,12 @@ numbers-kept = refl
 numbers-removed : after-calls true put-back ≡ record { next-id = 1; state = not-paused; counters = zero-counters; messages = item 0 none 0 0 (1 ∷ 2 ∷ 3 ∷ []) ∷ [] }
 unfolding after-calls put-back item
 numbers-removed = refl
+
+-- A filling: a packet of 64 bytes takes stream 3's message and 2 bytes of stream 5's, each of them "one call for the next fragment".
+filled-two : List Call
+unfolding message
+filled-two = add 9 0 (message 5 none (1 ∷ 2 ∷ 3 ∷ [])) ∷ add 9 0 (message 3 none (4 ∷ [])) ∷ fill 9 2305 64 0 (record { limit = 64; source-port = 1; destination-port = 2; verification-tag = 3; tsn = 4 }) ∷ []
+
+filling-enters : after-calls false filled-two ≡ record { next-id = 2; state = not-paused; counters = one-numbered; messages = item 0 (some 0) 1 2 (1 ∷ 2 ∷ 3 ∷ []) ∷ [] }
+unfolding after-calls filled-two item one-numbered padding
+filling-enters = refl

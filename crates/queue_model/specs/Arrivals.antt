@@ -18,7 +18,7 @@ use Rattle.queue_model.specs.Reset.{whole-head}
 use Rattle.queue_model.specs.Image.{StreamRecord, MessageRecord, Handover}
 use Rattle.queue_model.specs.Reader.{read-image}
 use Rattle.queue_model.specs.Restore.{restored-item}
-use Rattle.queue_model.specs.Run.{Call, add, produce, discard, close, ready-ids, commit, rollback, reset, set-threshold, set-priority, set-interleaving, restore, ask-priority, ask-amount, ask-threshold, ask-total, ask-empty, ask-has-data, ask-streams-ready, ask-readiness, after}
+use Rattle.queue_model.specs.Run.{Call, add, produce, fill, discard, close, ready-ids, commit, rollback, reset, set-threshold, set-priority, set-interleaving, restore, ask-priority, ask-amount, ask-threshold, ask-total, ask-empty, ask-has-data, ask-streams-ready, ask-readiness, after}
 use Rattle.queue_model.specs.History.{Piece, Entry, asks-at, history}
 
 -- ------------------------------------------------------------------ the ledger of a stream
@@ -162,11 +162,12 @@ image-laid k now (some h) l = record { next-id = h .next-message-id; state = not
 
 -- ------------------------------------------------------------------ the ledger after a history
 
--- What an accepted call enters in the ledger of stream k; the rule of a restart is creation's.
+-- What an accepted call enters in the ledger of stream k; the rule of a restart is creation's. A filling enters nothing by itself: the calls for the next fragment that it is made of stand behind it (`history`).
 unfoldable pub entered : Bool → ℕ → Call → List Piece → List ℕ → Ledger → Ledger
 unfolding on-stream append-arrival expire-heads send-pieces discard-head close-stream ready-stream reopen-stream reset-ledger image-laid read-image
 entered strict k (add store now m) ps ss l = count-arrival (on-stream (m .stream-id) k (append-arrival now m) l)
 entered strict k (produce store places buffer now size) ps ss l = send-pieces k ps (expire-heads k now ss l)
+entered strict k (fill store places buffer now p) ps ss l = l
 entered strict k (discard places s m) ps ss l = on-stream s k (discard-head m) l
 entered strict k (close places s) ps ss l = on-stream s k close-stream l
 entered strict k ready-ids ps ss l = ready-stream l
@@ -246,6 +247,7 @@ unfoldable pub arrives : ℕ → Call → Arrivals → Arrivals
 unfolding new-item image-arrives read-image
 arrives k (add store now m) b = record { next-id = wrap-suc 32 (b .next-id); messages = if eqb (m .stream-id) k then b .messages ++ (new-item now (b .next-id) m ∷ []) else b .messages }
 arrives k (produce store places buffer now size) b = b
+arrives k (fill store places buffer now p) b = b
 arrives k (discard places s m) b = b
 arrives k (close places s) b = b
 arrives k ready-ids b = b

@@ -58,6 +58,10 @@ padding n = (4 - n % 4) % 4
 abbrev pub padded : ℕ → ℕ
 padded n = n + padding n
 
+-- The bytes that a chunk with n payload bytes takes.
+abbrev pub chunk-length : Bool → ℕ → ℕ
+chunk-length i n = padded (chunk-header i + n)
+
 -- The chunk: its three marks and no other flag, the reserved bits 0, zeros behind the payload.
 unfoldable pub chunk-bytes : Bool → ChunkFields → List ℕ → List ℕ
 chunk-bytes i c payload = chunk-layout i (chunk-flags c) 0 c payload (replicate (padding (chunk-header i + length payload)) 0)

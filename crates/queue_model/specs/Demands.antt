@@ -8,12 +8,12 @@ use Prim.Native.Nat.{ℕ, _≤_, _<_, _^_}
 use lib.Dec.{T, eqb}
 use lib.Pow.{areBytes}
 use Rattle.queue_model.specs.Logic.{if_then_else_}
-use Rattle.queue_model.specs.Types.{Stream, Options, Queue, Message, done, reply}
+use Rattle.queue_model.specs.Types.{Stream, Options, Queue, Message, Packet, done, reply}
 use Rattle.queue_model.specs.Streams.{has-items, new-queue}
 use Rattle.queue_model.specs.Refusals.{max-time, create-refusal}
 use Rattle.queue_model.specs.Image.{write-image}
 use Rattle.queue_model.specs.RustHandover.{HandoverState, handover-state, restore-from-state, begun-stream, restore-remembering}
-use Rattle.queue_model.specs.Run.{Call, add, produce, discard, close, ready-ids, commit, rollback, reset, set-threshold, set-priority, set-interleaving, restore, ask-priority, ask-amount, ask-threshold, ask-total, ask-empty, ask-has-data, ask-streams-ready, ask-readiness, step, run}
+use Rattle.queue_model.specs.Run.{Call, add, produce, fill, discard, close, ready-ids, commit, rollback, reset, set-threshold, set-priority, set-interleaving, restore, ask-priority, ask-amount, ask-threshold, ask-total, ask-empty, ask-has-data, ask-streams-ready, ask-readiness, step, run}
 use Rattle.queue_model.specs.Restore
 
 -- ------------------------------------------------------------------ calls whose numbers have their widths
@@ -26,10 +26,18 @@ pub record MessageTyped (m : Message) : Type 0 where
   pub lifecycle-id : m .lifecycle-id < 2 ^ 64
   pub payload : T (areBytes (m .payload))
 
+pub record PacketTyped (p : Packet) : Type 0 where
+  pub limit : p .limit < 2 ^ 64
+  pub source-port : p .source-port < 2 ^ 16
+  pub destination-port : p .destination-port < 2 ^ 16
+  pub verification-tag : p .verification-tag < 2 ^ 32
+  pub tsn : p .tsn < 2 ^ 32
+
 -- Stream ids and priorities have 16 bits, message ids 32, all others 64.
 abbrev pub Typed : Call → Type 0
 Typed (add store now m) = (store < 2 ^ 64) × ((now < 2 ^ 64) × MessageTyped m)
 Typed (produce store places buffer now size) = (store < 2 ^ 64) × ((places < 2 ^ 64) × ((buffer < 2 ^ 64) × ((now < 2 ^ 64) × (size < 2 ^ 64))))
+Typed (fill store places buffer now p) = (store < 2 ^ 64) × ((places < 2 ^ 64) × ((buffer < 2 ^ 64) × ((now < 2 ^ 64) × PacketTyped p)))
 Typed (discard places s k) = (places < 2 ^ 64) × ((s < 2 ^ 16) × (k < 2 ^ 32))
 Typed (close places s) = (places < 2 ^ 64) × (s < 2 ^ 16)
 Typed ready-ids = Unit {0}

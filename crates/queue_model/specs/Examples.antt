@@ -5,7 +5,7 @@ use mathlib.Core.List.{List, [], _∷_, _++_, map}
 use mathlib.Core.Option.{Option, none, some}
 use Prim.Native.Nat.{ℕ}
 use lib.ListN.{length, replicate}
-use Rattle.queue_model.specs.Types.{Item, Counters, weighted, Queue, Event, Answer, refused, done, number, flag, ids, fragment, nothing-waits, Outcome}
+use Rattle.queue_model.specs.Types.{Item, Counters, weighted, Queue, Event, Answer, refused, done, number, flag, ids, fragment, nothing-waits, filled, Outcome}
 use Rattle.queue_model.specs.Scheduler.{cost}
 use Rattle.queue_model.specs.Streams.{new-queue}
 use Rattle.queue_model.specs.Add.{expiry, new-item}
@@ -31,7 +31,7 @@ put s n now l = add 100000 now (record { stream-id = s; ppid = 0; unordered = fa
 get : ℕ → ℕ → Call
 get now n = produce 100000 2305 262144 now n
 
--- What an answer shows: a fragment its stream, length, first and last mark, MID, SSN and FSN; a number itself; 888 that nothing waits, 999 a refusal.
+-- What an answer shows: a fragment its stream, length, first and last mark, MID, SSN and FSN; a packet its chunks and its bytes; a number itself; 888 that nothing waits, 999 a refusal.
 show-answer : Answer → List ℕ
 unfolding bit
 show-answer (refused n) = 999 ∷ n ∷ []
@@ -41,8 +41,9 @@ show-answer (flag b) = bit b 1 ∷ []
 show-answer (ids l) = l
 show-answer (fragment f) = f .stream-id ∷ length (f .bytes) ∷ bit (f .first) 1 ∷ bit (f .last) 1 ∷ f .mid ∷ f .ssn ∷ f .fsn ∷ []
 show-answer nothing-waits = 888 ∷ []
+show-answer (filled bs n) = n ∷ bs
 
-answers : List Outcome → List ℕ
+unfoldable pub answers : List Outcome → List ℕ
 unfolding show-answer
 answers [] = []
 answers (o ∷ os) = show-answer (o .answer) ++ answers os
@@ -52,7 +53,7 @@ events : List Event → List ℕ
 events [] = []
 events (e ∷ es) = e .kind ∷ e .number ∷ e .amount ∷ events es
 
-all-events : List Outcome → List ℕ
+unfoldable pub all-events : List Outcome → List ℕ
 unfolding events
 all-events [] = []
 all-events (o ∷ os) = events (o .events) ++ all-events os
@@ -103,7 +104,7 @@ pub record Row : Type 0 where
   pub said : List ℕ
 
 infix 20 _gives_
-abbrev _gives_ : List ℕ → List ℕ → Row
+abbrev pub _gives_ : List ℕ → List ℕ → Row
 g gives s = record { given = g; said = s }
 
 pub table : List Row

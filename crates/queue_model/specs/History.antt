@@ -5,11 +5,14 @@ use mathlib.Core.List.{List, [], _∷_, _++_, map}
 use mathlib.Core.Option.{Option, none, some}
 use lib.ListN.{length}
 use Rattle.queue_model.specs.Types.{Active, Queue, Fragment, Answer}
+use Rattle.queue_model.specs.Logic.{if_then_else_}
 use Rattle.queue_model.specs.Scheduler.{peek}
 use Rattle.queue_model.specs.Streams.{waiting}
 use Rattle.queue_model.specs.Answers.{is-refused, fragments-in}
 use Rattle.queue_model.specs.Passing.{passing}
-use Rattle.queue_model.specs.Run.{Call, add, produce, discard, close, ready-ids, commit, rollback, reset, set-threshold, set-priority, set-interleaving, restore, ask-priority, ask-amount, ask-threshold, ask-total, ask-empty, ask-has-data, ask-streams-ready, ask-readiness, step}
+use Rattle.queue_model.specs.Fill.{filling}
+use Rattle.queue_model.specs.Packets.{separate-calls}
+use Rattle.queue_model.specs.Run.{Call, add, produce, fill, discard, close, ready-ids, commit, rollback, reset, set-threshold, set-priority, set-interleaving, restore, ask-priority, ask-amount, ask-threshold, ask-total, ask-empty, ask-has-data, ask-streams-ready, ask-readiness, step}
 
 -- ------------------------------------------------------------------ an entry
 
@@ -36,10 +39,11 @@ entry c a ss = record { call = c; refused = is-refused a; pieces = map piece (fr
 
 -- ------------------------------------------------------------------ the streams passed over
 
--- The time at which a call asks for a next fragment.
+-- The time at which a call asks for a next fragment. A filling asks by the calls that it is made of (`made-of`).
 abbrev pub asks-at : Call → Option ℕ
 asks-at (add store now m) = none
 asks-at (produce store places buffer now size) = some now
+asks-at (fill store places buffer now p) = none
 asks-at (discard places s m) = none
 asks-at (close places s) = none
 asks-at ready-ids = none
@@ -77,8 +81,40 @@ passed-at (some now) q = choices (passing (suc (waiting (q .streams))) now q)
 
 -- ------------------------------------------------------------------ a list of calls
 
--- From a queue on.
-unfoldable pub history : List Call → Queue → List Entry
+-- From a queue on, each call by itself.
+unfoldable pub entries : List Call → Queue → List Entry
 unfolding step passed-at
+entries [] q = []
+entries (c ∷ cs) q = let s = step c q in entry c (s .outcome .answer) (passed-at (asks-at c) q) ∷ entries cs (s .next)
+
+-- The calls for the next fragment that a call is made of: of a filling that is not refused one for each size asked for (document 02, 5/13: "each of them one call for the next fragment").
+unfoldable pub made-of : Call → Queue → List Call
+unfolding step filling
+made-of (add store now m) q = []
+made-of (produce store places buffer now size) q = []
+made-of (fill store places buffer now p) q =
+    if is-refused ((step (fill store places buffer now p) q) .outcome .answer) then [] else separate-calls store places now ((filling store places now (p .limit) q) .sizes)
+made-of (discard places s m) q = []
+made-of (close places s) q = []
+made-of ready-ids q = []
+made-of commit q = []
+made-of rollback q = []
+made-of reset q = []
+made-of (set-threshold places s t) q = []
+made-of (set-priority s p) q = []
+made-of (set-interleaving b) q = []
+made-of (restore store now image) q = []
+made-of (ask-priority s) q = []
+made-of (ask-amount s) q = []
+made-of (ask-threshold s) q = []
+made-of ask-total q = []
+made-of ask-empty q = []
+made-of ask-has-data q = []
+made-of ask-streams-ready q = []
+made-of ask-readiness q = []
+
+-- A call, and behind it those that it is made of.
+unfoldable pub history : List Call → Queue → List Entry
+unfolding step passed-at made-of entries
 history [] q = []
-history (c ∷ cs) q = let s = step c q in entry c (s .outcome .answer) (passed-at (asks-at c) q) ∷ history cs (s .next)
+history (c ∷ cs) q = let s = step c q in entry c (s .outcome .answer) (passed-at (asks-at c) q) ∷ (entries (made-of c q) q ++ history cs (s .next))

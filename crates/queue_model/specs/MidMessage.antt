@@ -14,7 +14,7 @@ use Rattle.queue_model.specs.Streams.{find-stream, new-queue}
 use Rattle.queue_model.specs.Image.{MessageRecord, Handover}
 use Rattle.queue_model.specs.Reader.{read-image}
 use Rattle.queue_model.specs.Restore.{half-sent-first}
-use Rattle.queue_model.specs.Run.{Call, add, produce, discard, close, ready-ids, commit, rollback, reset, set-threshold, set-priority, set-interleaving, restore, ask-priority, ask-amount, ask-threshold, ask-total, ask-empty, ask-has-data, ask-streams-ready, ask-readiness, step}
+use Rattle.queue_model.specs.Run.{Call, add, produce, fill, discard, close, ready-ids, commit, rollback, reset, set-threshold, set-priority, set-interleaving, restore, ask-priority, ask-amount, ask-threshold, ask-total, ask-empty, ask-has-data, ask-streams-ready, ask-readiness, step}
 use Rattle.queue_model.specs.Demands.{Typed, Created}
 
 -- The half-sent messages of an image.
@@ -29,32 +29,33 @@ abbrev pub AtMostOne : Option Handover → Type 0
 AtMostOne none = Unit {0}
 AtMostOne (some h) = half-sent-records (h .messages) ≤ 1
 
--- A call that does not switch interleaving on; what it restores is such (a refused restoring restores nothing).
-abbrev pub Uninterleaved : (Option Handover → Type 0) → Call → Queue → Type 0
-Uninterleaved P (add store now m) q = Unit {0}
-Uninterleaved P (produce store places buffer now size) q = Unit {0}
-Uninterleaved P (discard places s k) q = Unit {0}
-Uninterleaved P (close places s) q = Unit {0}
-Uninterleaved P ready-ids q = Unit {0}
-Uninterleaved P commit q = Unit {0}
-Uninterleaved P rollback q = Unit {0}
-Uninterleaved P reset q = Unit {0}
-Uninterleaved P (set-threshold places s t) q = Unit {0}
-Uninterleaved P (set-priority s p) q = Unit {0}
-Uninterleaved P (set-interleaving b) q = b ≡ false
-Uninterleaved P (restore store now image) q = (step (restore store now image) q) .outcome .answer ≡ done → P (read-image image)
-Uninterleaved P (ask-priority s) q = Unit {0}
-Uninterleaved P (ask-amount s) q = Unit {0}
-Uninterleaved P (ask-threshold s) q = Unit {0}
-Uninterleaved P ask-total q = Unit {0}
-Uninterleaved P ask-empty q = Unit {0}
-Uninterleaved P ask-has-data q = Unit {0}
-Uninterleaved P ask-streams-ready q = Unit {0}
-Uninterleaved P ask-readiness q = Unit {0}
+-- A call that does not switch interleaving on; what it restores is such (a refused restoring restores nothing), and fillings are let in or not.
+abbrev pub Uninterleaved : Type 0 → (Option Handover → Type 0) → Call → Queue → Type 0
+Uninterleaved F P (add store now m) q = Unit {0}
+Uninterleaved F P (produce store places buffer now size) q = Unit {0}
+Uninterleaved F P (fill store places buffer now p) q = F
+Uninterleaved F P (discard places s k) q = Unit {0}
+Uninterleaved F P (close places s) q = Unit {0}
+Uninterleaved F P ready-ids q = Unit {0}
+Uninterleaved F P commit q = Unit {0}
+Uninterleaved F P rollback q = Unit {0}
+Uninterleaved F P reset q = Unit {0}
+Uninterleaved F P (set-threshold places s t) q = Unit {0}
+Uninterleaved F P (set-priority s p) q = Unit {0}
+Uninterleaved F P (set-interleaving b) q = b ≡ false
+Uninterleaved F P (restore store now image) q = (step (restore store now image) q) .outcome .answer ≡ done → P (read-image image)
+Uninterleaved F P (ask-priority s) q = Unit {0}
+Uninterleaved F P (ask-amount s) q = Unit {0}
+Uninterleaved F P (ask-threshold s) q = Unit {0}
+Uninterleaved F P ask-total q = Unit {0}
+Uninterleaved F P ask-empty q = Unit {0}
+Uninterleaved F P ask-has-data q = Unit {0}
+Uninterleaved F P ask-streams-ready q = Unit {0}
+Uninterleaved F P ask-readiness q = Unit {0}
 
 -- It restores no image with more than one half-sent message.
 abbrev pub Uninterrupted : Call → Queue → Type 0
-Uninterrupted c q = Uninterleaved AtMostOne c q
+Uninterrupted c q = Uninterleaved (Unit {0}) AtMostOne c q
 
 -- "a queue that never had interleaving, and was new or restored from an image with at most one half-sent message".
 pub data NeverInterleaved (o : Options) : Queue → Type 0 where

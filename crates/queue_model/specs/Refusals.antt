@@ -119,6 +119,14 @@ short-of-head q s i n = short-of q s n || ltb (remaining i) n
 unfoldable pub overflows : Queue → Stream → ℕ → Bool
 overflows q s n = ltb max-word (q .total + n) || ltb max-word (s .amount + n)
 
+-- 20. "when the packet limit is outside 36 to 65,535" (document 02, 5/13).
+abbrev pub packet-limit-wrong : ℕ → Check
+packet-limit-wrong n = 20 when outside 36 65535 n
+
+-- 21. "when the packet buffer is shorter than the limit".
+abbrev pub packet-short : ℕ → ℕ → Check
+packet-short buffer limit = 21 when ltb buffer limit
+
 -- ------------------------------------------------------------------ creation
 
 -- Creation's refusal.

@@ -6,6 +6,7 @@ use mathlib.Core.Path.{_≡_}
 use Rattle.queue_model.specs.Types.{Options, Queue, Fragment, done, Outcome}
 use Rattle.queue_model.specs.Answers.{fragments-in, of-stream}
 use Rattle.queue_model.specs.Run.{Call, reset, restore, step, run}
+use Rattle.queue_model.specs.Packets.{NotFilling}
 use Rattle.queue_model.specs.Demands.{Reachable, AllTyped}
 
 -- "a message put back starts with FSN 0 and with numbers from the zeroed counters": a fragment that is the first of its message, with MID, SSN and FSN 0.
@@ -29,9 +30,10 @@ FirstAfresh (f ∷ fs) = Afresh f
 
 -- ------------------------------------------------------------------ the claim
 
--- Any calls, but no accepted restoring, which gives streams the counters and the half-sent messages of an image. (It is refused on a queue that knows a stream.)
+-- Any calls, but no accepted restoring, which gives streams the counters and the half-sent messages of an image. (It is refused on a queue that knows a stream.) A filling stands in the list by the
+-- calls for the next fragment that it is made of (document 02, 5/13).
 abbrev pub NotRestored : Call → Queue → Type 0
-NotRestored c q = (store now : ℕ) (image : List ℕ) → c ≡ restore store now image → (step c q) .outcome .answer ≡ done → ⊥
+NotRestored c q = ((store now : ℕ) (image : List ℕ) → c ≡ restore store now image → (step c q) .outcome .answer ≡ done → ⊥) × NotFilling c
 
 abbrev pub NoneRestored : List Call → Queue → Type 0
 NoneRestored [] q = Unit {0}

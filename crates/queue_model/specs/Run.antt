@@ -2,14 +2,15 @@
 use Prim.Native.Nat.{ℕ}
 use mathlib.Core.Bool.{Bool}
 use mathlib.Core.List.{List, [], _∷_}
-use Rattle.queue_model.specs.Types.{Queue, Message, number, flag, Outcome, Step, reply}
+use Rattle.queue_model.specs.Types.{Queue, Message, Packet, number, flag, Outcome, Step, reply}
 use Rattle.queue_model.specs.Calls
 use Rattle.queue_model.specs.Restore
 
--- A call other than saving, with its arguments. A lent buffer stands by its length: `store`, `places` of the event list, `buffer` of the fragment.
+-- A call other than saving, with its arguments. A lent buffer stands by its length: `store`, `places` of the event list, `buffer` of the fragment or the packet.
 pub data Call : Type 0 where
   add : (store now : ℕ) → Message → Call
   produce : (store places buffer now size : ℕ) → Call
+  fill : (store places buffer now : ℕ) → Packet → Call
   discard : (places stream message-id : ℕ) → Call
   close : (places stream : ℕ) → Call
   ready-ids commit rollback reset : Call
@@ -22,9 +23,10 @@ pub data Call : Type 0 where
 
 -- One call.
 unfoldable pub step : Call → Queue → Step
-unfolding Calls.add Calls.produce Calls.discard Calls.close Calls.ready-ids Calls.commit Calls.rollback Calls.reset Calls.set-threshold Calls.set-priority Calls.set-interleaving Restore.restore Calls.priority-of Calls.amount-of Calls.threshold-of Calls.is-empty Calls.has-data Calls.streams-ready Calls.readiness
+unfolding Calls.add Calls.produce Calls.fill Calls.discard Calls.close Calls.ready-ids Calls.commit Calls.rollback Calls.reset Calls.set-threshold Calls.set-priority Calls.set-interleaving Restore.restore Calls.priority-of Calls.amount-of Calls.threshold-of Calls.is-empty Calls.has-data Calls.streams-ready Calls.readiness
 step (add store now m) q = Calls.add store now m q
 step (produce store places buffer now size) q = Calls.produce store places buffer now size q
+step (fill store places buffer now p) q = Calls.fill store places buffer now p q
 step (discard places s k) q = Calls.discard places s k q
 step (close places s) q = Calls.close places s q
 step ready-ids q = Calls.ready-ids q

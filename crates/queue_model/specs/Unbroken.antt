@@ -6,12 +6,13 @@ use mathlib.Core.List.{List, [], _∷_, _++_}
 use mathlib.Core.Option.{Option, none, some}
 use Prim.Native.Nat.{ℕ, _≤_, _<_}
 use Rattle.types.specs.Wrap.{wrap-suc}
-use Rattle.queue_model.specs.Types.{Item, Stream, Options, Queue, Fragment, fragment, expired}
-use Rattle.queue_model.specs.Answers.{fragments-in}
+use Rattle.queue_model.specs.Types.{Item, Stream, Options, Queue, Fragment, fragment, expired, Packet}
+use Rattle.queue_model.specs.Answers.{is-refused, fragments-in}
+use Rattle.queue_model.specs.Fill.{filling}
 use Rattle.queue_model.specs.Streams.{find-stream, new-queue}
 use Rattle.queue_model.specs.Refusals.{max-time}
 use Rattle.queue_model.specs.Image.{write-image}
-use Rattle.queue_model.specs.Run.{Call, produce, restore, step}
+use Rattle.queue_model.specs.Run.{Call, produce, fill, restore, step}
 use Rattle.queue_model.specs.Demands.{Typed, Created, fresh}
 use Rattle.queue_model.specs.MidMessage.{Uninterleaved, NeverInterleaved}
 
@@ -63,9 +64,10 @@ Unbroken fs = UnbrokenBehind starts Continues none fs
 
 -- ------------------------------------------------------------------ what a queue has sent
 
--- A call that neither switches interleaving on nor restores.
+-- A call that neither switches interleaving on nor restores. A filling shows a packet; it stands in the list by the calls for the next fragment that it is made of (document 02, 5/13;
+-- `Request10-packets`).
 abbrev pub Onward : Call → Queue → Type 0
-Onward c q = Uninterleaved (λ x. ⊥) c q
+Onward c q = Uninterleaved ⊥ (λ x. ⊥) c q
 
 -- The queue and all fragments sent until it: of a new queue none; then those that the calls show; and over any number of changeovers, at any points, the list goes on. The new host's queue is
 -- a new one, created alike and without interleaving, that restores at any allowed time the image that this queue saves at any time (demand 2: it is accepted). An image of unknown origin has
@@ -82,6 +84,13 @@ Request10-unbroken = (o : Options) (q : Queue) (fs : List Fragment) → Sends o 
 -- So the list never has another message between two fragments of one.
 unfoldable pub Request10-together : Type 0
 Request10-together = (o : Options) (q : Queue) (fs : List Fragment) → Sends o q fs → Together starts (λ (f : Fragment). f .message-id) fs
+
+-- A filling that is not refused goes on with the fragments of its calls, in order: those that its packet gives back (document 02, 5/13).
+unfoldable pub Request10-packets : Type 0
+Request10-packets =
+    (o : Options) (q : Queue) (fs : List Fragment) (store places buffer now : ℕ) (p : Packet)
+    → Sends o q fs → Typed (fill store places buffer now p) → is-refused ((step (fill store places buffer now p) q) .outcome .answer) ≡ false
+    → Sends o ((step (fill store places buffer now p) q) .next) (fs ++ (filling store places now (p .limit) q) .fragments)
 
 -- ------------------------------------------------------------------ what comes next
 

@@ -10,13 +10,14 @@ use lib.ListN.{length, take, drop, length-take, length-drop}
 use Rattle.types.specs.Wrap.{wrap-suc}
 use Rattle.queue_model.specs.Logic.{same-bool, is-nil, if_then_else_}
 use Rattle.queue_model.specs.Table.{find}
-use Rattle.queue_model.specs.Types.{Item, PauseState, not-paused, pending, paused, resetting, Stream, Active, Scheduler, Options, Queue, Event, Answer, refused, done, fragment, Step, remaining, expired, with-items, with-pause, with-threshold, with-priority, with-state, refuse, reply, Message}
+use Rattle.queue_model.specs.Types.{Item, PauseState, not-paused, pending, paused, resetting, Stream, Active, Scheduler, Options, Queue, Event, Fragment, Packet, Answer, refused, done, fragment, Step, remaining, expired, with-items, with-pause, with-threshold, with-priority, with-state, refuse, reply, Message}
 use Rattle.queue_model.specs.Scheduler.{peek, remove-stream}
 use Rattle.queue_model.specs.Streams.{find-stream, put-stream, new-stream, stream-at, waiting, head-size, know, new-queue, stream-key, has-items, reschedule-each, at, with-message, reschedule}
 use Rattle.queue_model.specs.Refusals.{Check, first-refusal, short-of, refused-or, checked, short-of-head}
 use Rattle.queue_model.specs.Amounts.{drop-head-events, sent-events}
 use Rattle.queue_model.specs.Add.{added, add-checks, new-item, started}
 use Rattle.queue_model.specs.Produce.{Head, head-of, drop-head, drop-in, Look, nothing, broken, dropped, chosen, look-at, look, numbered, handed-out-last, handed-out-part, handed-out, hand-out, pass-over, make-fragment, after-look, look-expired, look-for, produce-checks}
+use Rattle.queue_model.specs.Fill.{Filling, no-calls, common-header-length, filling, filled-with, fill-checks}
 use Rattle.queue_model.specs.Discard.{discard-at, discard-checks, discarded}
 use Rattle.queue_model.specs.Close.{swept-bytes, closed, closing-bytes, close-checks, close-in, closed-scheduler, closed-state, kept}
 use Rattle.queue_model.specs.Reset.{reopen, paused-to-resetting, reopened, put-back, reset-stream, all-put-back, reset-checks}
@@ -25,9 +26,9 @@ use Rattle.queue_model.specs.Questions.{amount-of}
 use Rattle.queue_model.specs.Image.{MessageRecord, StreamRecord, Handover}
 use Rattle.queue_model.specs.Reader.{read-image}
 use Rattle.queue_model.specs.Restore.{restored-stream, restored-item, restore-streams, restore-message, restore-messages, restored, record-checks, restore-checks, restore-read}
-use Rattle.queue_model.specs.Run.{Call, add, produce, discard, close, ready-ids, commit, rollback, reset, set-threshold, set-priority, set-interleaving, restore, ask-priority, ask-amount, ask-threshold, ask-total, ask-empty, ask-has-data, ask-streams-ready, ask-readiness, step, after}
+use Rattle.queue_model.specs.Run.{Call, add, produce, fill, discard, close, ready-ids, commit, rollback, reset, set-threshold, set-priority, set-interleaving, restore, ask-priority, ask-amount, ask-threshold, ask-total, ask-empty, ask-has-data, ask-streams-ready, ask-readiness, step, after}
 use Rattle.queue_model.specs.Demands.{AllTyped}
-use Rattle.queue_model.specs.Account.{Account, no-bytes, for-stream, unless-refused, handed, choice-bytes, choices-bytes, passed, head-bytes, records-left, image-left, account, accounts, Request11-account}
+use Rattle.queue_model.specs.Account.{Account, no-bytes, for-stream, unless-refused, handed, choice-bytes, choices-bytes, passed, head-bytes, records-left, image-left, produce-account, fill-account, none-refused, account, accounts, Request11-account}
 use Rattle.queue_model.specs.Passing.{passing-after, passing}
 use Rattle.queue_model.proofs.Tests.{eqb-true, eqb-false, less, same, more, tri}
 use Rattle.queue_model.proofs.Table.{find-here, find-there, find-put-same, find-put-other, find-key, Every}
@@ -35,7 +36,8 @@ use Rattle.queue_model.proofs.Checks.{or-left, or-right, not-false, nil
 use Rattle.queue_model.proofs.Streams.{at-found, at-new, at-id, every-at}
 use Rattle.queue_model.proofs.Invariant.Well.{Well, well-new}
 use Rattle.queue_model.proofs.Invariant.Fine.{reopened-alike, paused-alike, Alike}
-use Rattle.queue_model.proofs.Invariant.Sends.{head-of-at, head-kept, head-well, numbers-well, headless, headed, heads, FineLook, fine-look}
+use Rattle.queue_model.proofs.Invariant.Sends.{head-of-at, head-kept, head-well, numbers-well, headless, headed, heads, FineLook, fine-look, fine-produce}
+use Rattle.queue_model.proofs.Fill.Calls.{fill-induct}
 use Rattle.queue_model.proofs.Invariant.Sixteen.{fine-step}
 use Rattle.queue_model.proofs.Calm.Calm.{HeadAt}
 use Rattle.queue_model.proofs.Demand3.Restored.{restore-message-of, restore-messages-cons, restore-messages-nil, with-restored}
@@ -509,10 +511,53 @@ record Balanced (k : ℕ) (q : Queue) (a : Account) (r : Queue) : Type 0 where
 unmoved : (k : ℕ) (q : Queue) (s : Step) → Balances k q none-moves none-moves s → Balanced k q no-bytes (s .next)
 unmoved k q s b = let e = b .balance in let z = nothing-moves (s .outcome .answer) in record { balanced = omega arith }
 
+-- The next fragment.
+produce-balanced : (k store places buffer now size : ℕ) (q : Queue) → Well q → Balanced k q (produce-account k store places buffer now size q) ((Calls.produce store places buffer now size q) .next)
+unfolding produce-account
+produce-balanced k store places buffer now size q w = let e = (balances-produce k store places buffer now size q w) .balance in let z = nothing-moves ((Calls.produce store places buffer now size q) .outcome .answer) in record { balanced = omega arith }
+
+-- A filling's calls for the next fragment, one after another.
+calls-balanced : (k store places now limit : ℕ) (q : Queue) → Well q → let r = filling store places now limit q in Balanced k q (fill-account k store places now (r .sizes) q) (r .next)
+unfolding no-calls fill-account filling
+calls-balanced k store places now limit q w =
+    fill-induct (q .interleaving) store places now limit Well (λ n q w. (fine-produce store places (suc n) now (suc n) q w) .next-well)
+    (λ used q r. Balanced k q (fill-account k store places now (r .sizes) q) (r .next))
+    (λ used q w e. record { balanced = omega arith })
+    (λ n used q w e f. let a = (produce-balanced k store places (suc n) now (suc n) q w) .balanced in record { balanced = omega arith })
+    (λ n used q f r w e g h. let a = (produce-balanced k store places (suc n) now (suc n) q w) .balanced in let b = h .balanced in record { balanced = omega arith })
+    limit common-header-length q w (omega arith)
+
+-- Filling a packet: a step that is refused and changes nothing, or whose calls balance.
+StepBalanced : ℕ → Queue → Account → Step → Type 0
+StepBalanced k q a s = Balanced k q (none-refused (s .outcome .answer) a) (s .next)
+
+filled-balanced : (k : ℕ) (a : Account) (p : Packet) (q : Queue) (r : Filling) → Balanced k q a (r .next) → (fs : List Fragment) (x : Option ℕ) → StepBalanced k q a (filled-with p q r fs x)
+unfolding filled-with StepBalanced
+filled-balanced k a p q r h [] (some n) = record { balanced = omega arith }
+filled-balanced k a p q r h [] none = h
+filled-balanced k a p q r h (f ∷ fs) x = h
+
+checked-balanced : (k : ℕ) (a : Account) (cs : List Check) (q : Queue) (s : Step) → StepBalanced k q a s → StepBalanced k q a (checked cs q s)
+unfolding checked refused-or StepBalanced
+checked-balanced k a cs q s h = go (first-refusal cs)
+  where
+    go : (x : Option ℕ) → StepBalanced k q a (refused-or x q s)
+    go none = h
+    go (some n) = record { balanced = omega arith }
+
+fill-balanced : (k store places buffer now : ℕ) (p : Packet) (q : Queue) → Well q → StepBalanced k q (fill-account k store places now ((filling store places now (p .limit) q) .sizes) q) (Calls.fill store places buffer now p q)
+unfolding Calls.fill
+fill-balanced k store places buffer now p q w =
+    let r : Filling = filling store places now (p .limit) q in
+    let a : Account = fill-account k store places now (r .sizes) q in
+    checked-balanced k a (fill-checks store places buffer now (p .limit) q) q (filled-with p q r (r .fragments) (r .refusal))
+    (filled-balanced k a p q r (calls-balanced k store places now (p .limit) q w) (r .fragments) (r .refusal))
+
 step-balanced : (k : ℕ) (c : Call) (q : Queue) → Well q → Balanced k q (account k c q) ((step c q) .next)
-unfolding account step
+unfolding account step StepBalanced
 step-balanced k (add store now m) q w = let e = (balances-add k store now m q) .balance in let z = nothing-moves ((Calls.add store now m q) .outcome .answer) in record { balanced = omega arith }
-step-balanced k (produce store places buffer now size) q w = let e = (balances-produce k store places buffer now size q w) .balance in let z = nothing-moves ((Calls.produce store places buffer now size q) .outcome .answer) in record { balanced = omega arith }
+step-balanced k (produce store places buffer now size) q w = produce-balanced k store places buffer now size q w
+step-balanced k (fill store places buffer now p) q w = fill-balanced k store places buffer now p q w
 step-balanced k (discard places s m) q w = let e = (balances-discard k places s m q) .balance in let z = nothing-moves ((Calls.discard places s m q) .outcome .answer) in record { balanced = omega arith }
 step-balanced k (close places s) q w = let e = (balances-close k places s q) .balance in let z = nothing-moves ((Calls.close places s q) .outcome .answer) in record { balanced = omega arith }
 step-balanced k ready-ids q w = unmoved k q (Calls.ready-ids q) (balances-same k q (Calls.ready-ids q) (ready-amount k q))

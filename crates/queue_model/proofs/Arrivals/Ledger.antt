@@ -4,15 +4,18 @@ use mathlib.Core.Bool.{Bool, true, false}
 use mathlib.Core.List.{List, [], _∷_, _++_, map, append-assoc, append-nil}
 use mathlib.Core.Option.{Option, none, some, Option·getD}
 use Prim.Native.Nat.{ℕ, zero, suc, _-_, _≤_, min}
+use native.Mathlib.Omega.{arith}
 use lib.Dec.{ltb, eqb}
 use Rattle.queue_model.specs.Logic.{same-bool, if_then_else_}
 use Rattle.queue_model.specs.Table.{find}
-use Rattle.queue_model.specs.Types.{Item, PauseState, not-paused, pending, paused, resetting, Stream, Active, Options, Queue, Event, done, fragment, Step, remaining, with-items, with-pause, with-threshold, with-priority, refuse, reply, Message}
+use Rattle.queue_model.specs.Types.{Item, PauseState, not-paused, pending, paused, resetting, Stream, Active, Options, Queue, Event, Fragment, Packet, done, fragment, filled, Step, remaining, with-items, with-pause, with-threshold, with-priority, refuse, reply, Message}
 use Rattle.queue_model.specs.Streams.{find-stream, new-stream, waiting, know, new-queue, stream-key, at, stream-at, with-message}
-use Rattle.queue_model.specs.Refusals.{Check, short-of, checked, short-of-head}
+use Rattle.queue_model.specs.Refusals.{Check, first-refusal, short-of, refused-or, checked, short-of-head}
 use Rattle.queue_model.specs.Amounts.{drop-head-events, sent-events}
 use Rattle.queue_model.specs.Add.{added, add-checks, new-item}
 use Rattle.queue_model.specs.Produce.{Head, head-of, drop-in, Look, nothing, broken, dropped, chosen, look, numbered, make-fragment, handed-out, hand-out, after-look, pass-over, produce-checks}
+use Rattle.queue_model.specs.Fill.{Filling, no-calls, common-header-length, filling, filled-with, fill-checks}
+use Rattle.queue_model.specs.Packets.{separate-calls}
 use Rattle.queue_model.specs.Discard.{discard-at, discard-checks, discarded}
 use Rattle.queue_model.specs.Close as close-spec
 use Rattle.queue_model.specs.Close.{closed, close-checks, closed-state, kept, swept-bytes}
@@ -21,15 +24,16 @@ use Rattle.queue_model.specs.Settings.{priority-checks, threshold-checks
 use Rattle.queue_model.specs.Image.{MessageRecord, StreamRecord, Handover}
 use Rattle.queue_model.specs.Reader.{read-image}
 use Rattle.queue_model.specs.Restore.{restored-stream, restored-item, restore-streams, restore-message, restore-messages, restored, record-checks, restore-checks, restore-read}
-use Rattle.queue_model.specs.Run.{Call, add, produce, discard, close, ready-ids, commit, rollback, reset, set-threshold, set-priority, set-interleaving, restore, ask-priority, ask-amount, ask-threshold, ask-total, ask-empty, ask-has-data, ask-streams-ready, ask-readiness, step, after}
+use Rattle.queue_model.specs.Run.{Call, add, produce, fill, discard, close, ready-ids, commit, rollback, reset, set-threshold, set-priority, set-interleaving, restore, ask-priority, ask-amount, ask-threshold, ask-total, ask-empty, ask-has-data, ask-streams-ready, ask-readiness, step, after}
 use Rattle.queue_model.specs.Answers.{is-refused, fragments-in}
 use Rattle.queue_model.specs.Passing.{passing-after, passing}
-use Rattle.queue_model.specs.History.{Piece, piece, Entry, entry, asks-at, choices, passed-at, history}
+use Rattle.queue_model.specs.History.{Piece, piece, Entry, entry, asks-at, choices, passed-at, entries, made-of, history}
 use Rattle.queue_model.specs.Arrivals.{Ledger, new-ledger, on-stream, append-arrival, count-arrival, drop-first, has-message-id, expire-heads, send-piece, send-pieces, discard-head, close-in, close-stream, readied, ready-stream, reopen-in, reopen-stream, reset-ledger, records-of, record-key, record-counters, image-laid, entered, enter, ledger, HeadsNamed, Right, AllRight, stream-view, view, Request4-ledger, Request4-passed}
 use Rattle.queue_model.proofs.Table.{find-here, find-there, own, other, is-own}
 use Rattle.queue_model.proofs.Checks.{or-right, not-less, checked-either, restore-of}
 use Rattle.queue_model.proofs.Streams.{at-found, at-new, at-id}
 use Rattle.queue_model.proofs.Invariant.Sends.{drop-in-options, handed-options, head-of-at, headless, headed, heads}
+use Rattle.queue_model.proofs.Fill.Calls.{fill-induct}
 use Rattle.queue_model.proofs.Calm.Calm.{HeadAt}
 use Rattle.queue_model.proofs.Demand3.Restored.{restore-message-of, restore-messages-cons, restore-messages-nil, with-restored}
 use Rattle.queue_model.proofs.Arrivals.Views.{ledger-of, held, put-view, put-same, still, map-view}
@@ -389,74 +393,163 @@ follows-restore k store now image q = subst (Follows k c [] q) (sym (restore-of 
     go (some h) e = follows-checked k c [] (record-checks now q h) q (reply done [] (restored now h q))
         (record { same-options = unfold restored in refl; follows = restored-view k now h q ∙ ap (λ (x : Option Handover). image-laid k now x (view k q)) (sym e) })
 
--- ---- every call
+-- ---- filling a packet
 
 -- The entry of a call.
 abbrev entry-of : Call → Queue → Entry
 entry-of c q = entry c ((step c q) .outcome .answer) (passed-at (asks-at c) q)
 
-follows-step : (k : ℕ) (c : Call) (q : Queue) → Follows k c (passed-at (asks-at c) q) q (step c q)
-unfolding step passed-at enter entered
-follows-step k (add store now m) q = follows-add k store now m q
-follows-step k (produce store places buffer now size) q = follows-produce k store places buffer now size q
-follows-step k (discard places s m) q = follows-discard k places s m q
-follows-step k (close places s) q = follows-close k places s q
-follows-step k ready-ids q = follows-ready k q
-follows-step k commit q = follows-commit k q
-follows-step k rollback q = follows-rollback k q
-follows-step k reset q = follows-reset k q
-follows-step k (set-threshold places s t) q = follows-threshold k places s t q
-follows-step k (set-priority s p) q = follows-priority k s p q
-follows-step k (set-interleaving b) q = follows-interleaving k b q
-follows-step k (restore store now image) q = follows-restore k store now image q
-follows-step k (ask-priority s) q = record { same-options = refl; follows = refl }
-follows-step k (ask-amount s) q = record { same-options = refl; follows = refl }
-follows-step k (ask-threshold s) q = record { same-options = refl; follows = refl }
-follows-step k ask-total q = record { same-options = refl; follows = refl }
-follows-step k ask-empty q = record { same-options = refl; follows = refl }
-follows-step k ask-has-data q = record { same-options = refl; follows = refl }
-follows-step k ask-streams-ready q = record { same-options = refl; follows = refl }
-follows-step k ask-readiness q = record { same-options = refl; follows = refl }
+-- What calls, each by itself, lead to; and they name no head but as they should.
+record CallsFollow (strict : Bool) (k : ℕ) (cs : List Call) (q r : Queue) : Type 0 where
+  calls-follow : view k r ≡ ledger strict k (entries cs q) (view k q)
+  calls-right : AllRight strict k (entries cs q) (view k q)
 
-right-step : (k : ℕ) (c : Call) (q : Queue) → Right k (entry-of c q) (view k q)
-unfolding passed-at
-right-step k (add store now m) q = refl
-right-step k (produce store places buffer now size) q = (heads-expired k (suc (waiting (q .streams))) now q, unfold step in names k store places buffer now size q)
-right-step k (discard places s m) q = refl
-right-step k (close places s) q = refl
-right-step k ready-ids q = refl
-right-step k commit q = refl
-right-step k rollback q = refl
-right-step k reset q = refl
-right-step k (set-threshold places s t) q = refl
-right-step k (set-priority s p) q = refl
-right-step k (set-interleaving b) q = refl
-right-step k (restore store now image) q = refl
-right-step k (ask-priority s) q = refl
-right-step k (ask-amount s) q = refl
-right-step k (ask-threshold s) q = refl
-right-step k ask-total q = refl
-right-step k ask-empty q = refl
-right-step k ask-has-data q = refl
-right-step k ask-streams-ready q = refl
-right-step k ask-readiness q = refl
+no-call : (strict : Bool) (k : ℕ) (q : Queue) → CallsFollow strict k [] q q
+unfolding entries ledger
+no-call strict k q = record { calls-follow = refl; calls-right = tt }
+
+-- A next fragment, and calls after it.
+module _ (strict : Bool) (k store places buffer now size : ℕ) (q : Queue) (e : rule q ≡ strict) where
+  abbrev ask : Call
+  ask = produce store places buffer now size
+
+  abbrev asked : Queue
+  asked = (Calls.produce store places buffer now size q) .next
+
+  ask-follows : view k asked ≡ enter strict k (entry-of ask q) (view k q)
+  unfolding step passed-at
+  ask-follows = (follows-produce k store places buffer now size q) .follows ∙ ap (λ (b : Bool). enter b k (entry-of ask q) (view k q)) e
+
+  ask-right : Right k (entry-of ask q) (view k q)
+  unfolding passed-at
+  ask-right = (heads-expired k (suc (waiting (q .streams))) now q, unfold step in names k store places buffer now size q)
+
+  ask-then : (cs : List Call) (r : Queue) → CallsFollow strict k cs asked r → CallsFollow strict k (ask ∷ cs) q r
+  unfolding entries ledger step
+  ask-then cs r h = record {
+    calls-follow = h .calls-follow ∙ ap (ledger strict k (entries cs asked)) ask-follows;
+    calls-right = (ask-right, subst (AllRight strict k (entries cs asked)) ask-follows (h .calls-right));
+  }
+
+-- A filling's calls, one after another.
+filling-follows : (strict : Bool) (k store places now limit : ℕ) (q : Queue) → rule q ≡ strict → CallsFollow strict k (separate-calls store places now ((filling store places now limit q) .sizes)) q ((filling store places now limit q) .next)
+unfolding filling no-calls
+filling-follows strict k store places now limit q e =
+    fill-induct (q .interleaving) store places now limit (λ q. rule q ≡ strict) (λ n q e. ap (λ (o : Options). o .strict-restart) ((follows-produce k store places (suc n) now (suc n) q) .same-options) ∙ e)
+    (λ used q r. CallsFollow strict k (separate-calls store places now (r .sizes)) q (r .next))
+    (λ used q e z. no-call strict k q)
+    (λ n used q e z f. ask-then strict k store places (suc n) now (suc n) q e [] ((Calls.produce store places (suc n) now (suc n) q) .next) (no-call strict k ((Calls.produce store places (suc n) now (suc n) q) .next)))
+    (λ n used q f r e z g h. ask-then strict k store places (suc n) now (suc n) q e (separate-calls store places now (r .sizes)) (r .next) h)
+    limit common-header-length q e (omega arith)
+
+filling-options : (k store places now limit : ℕ) (q : Queue) → (filling store places now limit q) .next .options ≡ q .options
+unfolding filling no-calls
+filling-options k store places now limit q =
+    fill-induct (q .interleaving) store places now limit (λ q. Unit {0}) (λ n q u. tt) (λ used q r. r .next .options ≡ q .options)
+    (λ used q u z. refl) (λ n used q u z f. (follows-produce k store places (suc n) now (suc n) q) .same-options) (λ n used q f r u z g h. h ∙ (follows-produce k store places (suc n) now (suc n) q) .same-options)
+    limit common-header-length q tt (omega arith)
+
+-- ---- every call
+
+-- A call, and behind it those that it is made of.
+abbrev whole : Call → Queue → List Entry
+whole c q = entry-of c q ∷ entries (made-of c q) q
+
+record FollowsWhole (k : ℕ) (c : Call) (q : Queue) : Type 0 where
+  options-kept : (step c q) .next .options ≡ q .options
+  whole-follows : view k ((step c q) .next) ≡ ledger (rule q) k (whole c q) (view k q)
+  whole-right : AllRight (rule q) k (whole c q) (view k q)
+
+-- A call that is made of no other.
+by-itself : (k : ℕ) (c : Call) (q : Queue) → made-of c q ≡ [] → Follows k c (passed-at (asks-at c) q) q (step c q) → Right k (entry-of c q) (view k q) → FollowsWhole k c q
+unfolding ledger entries
+by-itself k c q e h r = record {
+  options-kept = h .same-options;
+  whole-follows = h .follows ∙ ap (λ (cs : List Call). ledger (rule q) k (entries cs q) (enter (rule q) k (entry-of c q) (view k q))) (sym e);
+  whole-right = (r, subst (λ (cs : List Call). AllRight (rule q) k (entries cs q) (enter (rule q) k (entry-of c q) (view k q))) (sym e) tt);
+}
+
+-- A filling enters nothing by itself; unless it is refused its calls do.
+follows-fill : (k store places buffer now : ℕ) (p : Packet) (q : Queue) → FollowsWhole k (fill store places buffer now p) q
+unfolding step Calls.fill checked refused-or filled-with made-of passed-at enter entered ledger entries
+follows-fill k store places buffer now p q = let h = go (first-refusal (fill-checks store places buffer now (p .limit) q)) in record { options-kept = h .0; whole-follows = h .1 .0; whole-right = (refl, h .1 .1) }
+  where
+    r : Filling
+    r = filling store places now (p .limit) q
+
+    -- By what the call shows.
+    By : Step → Type 0
+    By s =
+        let a = is-refused (s .outcome .answer) in let cs = (if a then [] else separate-calls store places now (r .sizes)) in let l = (if a then view k q else view k q) in
+        (s .next .options ≡ q .options) × ((view k (s .next) ≡ ledger (rule q) k (entries cs q) l) × AllRight (rule q) k (entries cs q) l)
+
+    fills : By (reply (filled [] 0) [] (r .next))
+    fills = let h = filling-follows (rule q) k store places now (p .limit) q refl in (filling-options k store places now (p .limit) q, (h .calls-follow, h .calls-right))
+
+    past : (fs : List Fragment) (x : Option ℕ) → By (filled-with p q r fs x)
+    past [] none = fills
+    past [] (some n) = (refl, (refl, tt))
+    past (f ∷ fs) x = fills
+
+    go : (x : Option ℕ) → By (refused-or x q (filled-with p q r (r .fragments) (r .refusal)))
+    go none = past (r .fragments) (r .refusal)
+    go (some n) = (refl, (refl, tt))
+
+follows-step : (k : ℕ) (c : Call) (q : Queue) → FollowsWhole k c q
+unfolding step passed-at enter entered made-of
+follows-step k (add store now m) q = by-itself k (add store now m) q refl (follows-add k store now m q) refl
+follows-step k (produce store places buffer now size) q = by-itself k (produce store places buffer now size) q refl (follows-produce k store places buffer now size q) (ask-right (rule q) k store places buffer now size q refl)
+follows-step k (fill store places buffer now p) q = follows-fill k store places buffer now p q
+follows-step k (discard places s m) q = by-itself k (discard places s m) q refl (follows-discard k places s m q) refl
+follows-step k (close places s) q = by-itself k (close places s) q refl (follows-close k places s q) refl
+follows-step k ready-ids q = by-itself k ready-ids q refl (follows-ready k q) refl
+follows-step k commit q = by-itself k commit q refl (follows-commit k q) refl
+follows-step k rollback q = by-itself k rollback q refl (follows-rollback k q) refl
+follows-step k reset q = by-itself k reset q refl (follows-reset k q) refl
+follows-step k (set-threshold places s t) q = by-itself k (set-threshold places s t) q refl (follows-threshold k places s t q) refl
+follows-step k (set-priority s p) q = by-itself k (set-priority s p) q refl (follows-priority k s p q) refl
+follows-step k (set-interleaving b) q = by-itself k (set-interleaving b) q refl (follows-interleaving k b q) refl
+follows-step k (restore store now image) q = by-itself k (restore store now image) q refl (follows-restore k store now image q) refl
+follows-step k (ask-priority s) q = by-itself k (ask-priority s) q refl (record { same-options = refl; follows = refl }) refl
+follows-step k (ask-amount s) q = by-itself k (ask-amount s) q refl (record { same-options = refl; follows = refl }) refl
+follows-step k (ask-threshold s) q = by-itself k (ask-threshold s) q refl (record { same-options = refl; follows = refl }) refl
+follows-step k ask-total q = by-itself k ask-total q refl (record { same-options = refl; follows = refl }) refl
+follows-step k ask-empty q = by-itself k ask-empty q refl (record { same-options = refl; follows = refl }) refl
+follows-step k ask-has-data q = by-itself k ask-has-data q refl (record { same-options = refl; follows = refl }) refl
+follows-step k ask-streams-ready q = by-itself k ask-streams-ready q refl (record { same-options = refl; follows = refl }) refl
+follows-step k ask-readiness q = by-itself k ask-readiness q refl (record { same-options = refl; follows = refl }) refl
 
 -- ---- a list of calls, from any queue on
+
+ledger-append : (strict : Bool) (k : ℕ) (es fs : List Entry) (l : Ledger) → ledger strict k (es ++ fs) l ≡ ledger strict k fs (ledger strict k es l)
+unfolding ledger
+ledger-append strict k [] fs l = refl
+ledger-append strict k (e ∷ es) fs l = ledger-append strict k es fs (enter strict k e l)
+
+right-append : (strict : Bool) (k : ℕ) (es fs : List Entry) (l : Ledger) → AllRight strict k es l → AllRight strict k fs (ledger strict k es l) → AllRight strict k (es ++ fs) l
+unfolding ledger
+right-append strict k [] fs l a b = b
+right-append strict k (e ∷ es) fs l a b = (a .0, right-append strict k es fs (enter strict k e l) (a .1) b)
+
+same-rule : (k : ℕ) (c : Call) (q : Queue) → rule ((step c q) .next) ≡ rule q
+same-rule k c q = ap (λ (o : Options). o .strict-restart) ((follows-step k c q) .options-kept)
 
 run-follows : (strict : Bool) (k : ℕ) (cs : List Call) (q : Queue) → rule q ≡ strict → view k (after cs q) ≡ ledger strict k (history cs q) (view k q)
 unfolding after ledger history
 run-follows strict k [] q e = refl
 run-follows strict k (c ∷ cs) q e =
-    let f = follows-step k c q in
-    run-follows strict k cs ((step c q) .next) (ap (λ (o : Options). o .strict-restart) (f .same-options) ∙ e)
-    ∙ ap (ledger strict k (history cs ((step c q) .next))) (f .follows ∙ ap (λ (b : Bool). enter b k (entry-of c q) (view k q)) e)
+    run-follows strict k cs ((step c q) .next) (same-rule k c q ∙ e)
+    ∙ ap (ledger strict k (history cs ((step c q) .next))) ((follows-step k c q) .whole-follows ∙ ap (λ (b : Bool). ledger b k (whole c q) (view k q)) e)
+    ∙ sym (ledger-append strict k (whole c q) (history cs ((step c q) .next)) (view k q))
 
 run-right : (strict : Bool) (k : ℕ) (cs : List Call) (q : Queue) → rule q ≡ strict → AllRight strict k (history cs q) (view k q)
 unfolding history
 run-right strict k [] q e = tt
 run-right strict k (c ∷ cs) q e =
     let f = follows-step k c q in
-    (right-step k c q, subst (AllRight strict k (history cs ((step c q) .next))) (f .follows ∙ ap (λ (b : Bool). enter b k (entry-of c q) (view k q)) e) (run-right strict k cs ((step c q) .next) (ap (λ (o : Options). o .strict-restart) (f .same-options) ∙ e)))
+    right-append strict k (whole c q) (history cs ((step c q) .next)) (view k q)
+    (subst (λ (b : Bool). AllRight b k (whole c q) (view k q)) e (f .whole-right))
+    (subst (AllRight strict k (history cs ((step c q) .next))) (f .whole-follows ∙ ap (λ (b : Bool). ledger b k (whole c q) (view k q)) e) (run-right strict k cs ((step c q) .next) (same-rule k c q ∙ e)))
 
 new-view : (k : ℕ) (o : Options) → view k (new-queue o) ≡ new-ledger
 unfolding new-queue

@@ -15,7 +15,7 @@ use Rattle.queue_model.specs.Close.{untouched, kept, closed-state}
 use Rattle.queue_model.specs.Reset.{whole-item, whole-head}
 use Rattle.queue_model.specs.Image.{Handover}
 use Rattle.queue_model.specs.Reader.{read-image}
-use Rattle.queue_model.specs.Run.{Call, add, produce, discard, close, ready-ids, commit, rollback, reset, set-threshold, set-priority, set-interleaving, restore, ask-priority, ask-amount, ask-threshold, ask-total, ask-empty, ask-has-data, ask-streams-ready, ask-readiness}
+use Rattle.queue_model.specs.Run.{Call, add, produce, fill, discard, close, ready-ids, commit, rollback, reset, set-threshold, set-priority, set-interleaving, restore, ask-priority, ask-amount, ask-threshold, ask-total, ask-empty, ask-has-data, ask-streams-ready, ask-readiness}
 use Rattle.queue_model.specs.History.{Piece, Entry}
 use Rattle.queue_model.specs.Arrivals.{Ledger, ledger-with, new-ledger, on-stream, append-arrival, count-arrival, drop-first, has-expired, expire-head, expire-heads, sent-on, send-first, send-piece, send-pieces, has-message-id, discard-head, close-in, close-stream, readied, ready-stream, reopen-in, reopen-stream, reset-ledger, records-of, image-laid, entered, enter, ledger, Arrivals, no-arrivals, image-arrives, arrives, arrivals, Same, InOrder, none-left, ended, waits, Request4-order}
 use Rattle.queue_model.proofs.Arrivals.Heads.{numbered-same}
@@ -181,6 +181,7 @@ ordered-entered : (strict : Bool) (k : ℕ) (c : Call) (ps : List Piece) (ss : L
 unfolding entered arrives
 ordered-entered strict k (add store now m) ps ss l b o = ordered-add k store now m l b o
 ordered-entered strict k (produce store places buffer now size) ps ss l b o = ordered-pieces k ps (expire-heads k now ss l) b (ordered-expired k now ss l b o)
+ordered-entered strict k (fill store places buffer now p) ps ss l b o = o
 ordered-entered strict k (discard places s m) ps ss l b o = ordered-on s k (discard-head m) l b o (ordered-discard m l b o)
 ordered-entered strict k (close places s) ps ss l b o = ordered-on s k close-stream l b o (ordered-close l b o)
 ordered-entered strict k ready-ids ps ss l b o = unfold ready-stream in ordered-with l b (readied (l .state)) (l .counters) (l .messages) o (o .in-order)

@@ -22,14 +22,15 @@ use Rattle.queue_model.specs.Settings.{threshold-checks, priority-checks
 use Rattle.queue_model.specs.Image.{StreamRecord, MessageRecord, Handover}
 use Rattle.queue_model.specs.Reader.{read-image}
 use Rattle.queue_model.specs.Restore.{restored-stream, restored-item, restore-streams, restore-message, restore-messages, restored, mid-too-early, record-checks, restore-read, restore-checks}
-use Rattle.queue_model.specs.Run.{Call, add, produce, discard, close, ready-ids, commit, rollback, reset, set-threshold, set-priority, set-interleaving, restore, ask-priority, ask-amount, ask-threshold, ask-total, ask-empty, ask-has-data, ask-streams-ready, ask-readiness, step}
+use Rattle.queue_model.specs.Run.{Call, add, produce, fill, discard, close, ready-ids, commit, rollback, reset, set-threshold, set-priority, set-interleaving, restore, ask-priority, ask-amount, ask-threshold, ask-total, ask-empty, ask-has-data, ask-streams-ready, ask-readiness, step}
 use Rattle.queue_model.specs.Demands.{Typed, Reachable, created, called}
 use Rattle.queue_model.proofs.Table.{Every, every-put, every-map, every-weaken, every-both, every-find}
 use Rattle.queue_model.proofs.Checks.{Passed, all-passed, or-left, or-right}
 use Rattle.queue_model.proofs.Streams.{every-at}
 use Rattle.queue_model.proofs.Invariant.Messages.{WellRest, WellItems}
 use Rattle.queue_model.proofs.Invariant.Well.{Kept, Well, inside, kept-at}
-use Rattle.queue_model.proofs.Invariant.Sends.{FineLook, Chosen, headless, headed, heads, head-of-at, head-well, fine-look}
+use Rattle.queue_model.proofs.Invariant.Sends.{FineLook, Chosen, headless, headed, heads, head-of-at, head-well, fine-look, fine-produce}
+use Rattle.queue_model.proofs.Fill.Calls.{fill-keeps}
 use Rattle.queue_model.proofs.Invariant.Sixteen.{reachable-well, reachable-options}
 use Rattle.queue_model.proofs.Calm.Calm.{HeadAt}
 use Rattle.queue_model.specs.Calls
@@ -327,6 +328,8 @@ module _ (o : Options) (Q : PauseState → List Item → Type 0) (v : Keeps o Q)
   unfolding step
   held-step (add store now m) q t w e a = held-add store now m q a
   held-step (produce store places buffer now size) q t w e a = held-produce store places buffer now size q w a
+  held-step (fill store places buffer now p) q t w e a =
+      (fill-keeps (λ q. Well q × AllHeld Q q) (λ store places buffer now size q k. ((fine-produce store places buffer now size q (k .0)) .next-well, held-produce store places buffer now size q (k .0) (k .1))) store places buffer now p q (w, a)) .1
   held-step (discard places s k) q t w e a = held-discard places s k q w a
   held-step (close places s) q t w e a = held-close places s q w (kept-at q s w (t .1)) a
   held-step ready-ids q t w e a = held-ready q a

@@ -9,13 +9,14 @@ use lib.Dec.{ltb, leb, eqb, ltb→lt, leb→le}
 use lib.ListN.{length, length-append}
 use Rattle.queue_model.specs.Logic.{if_then_else_}
 use Rattle.queue_model.specs.Table.{sum-by}
-use Rattle.queue_model.specs.Types.{Item, PauseState, not-paused, pending, paused, resetting, Counters, Stream, Active, Scheduler, Options, Queue, Event, done, fragment, Step, remaining, expired, with-state, refuse, reply, Message, with-threshold, with-priority}
+use Rattle.queue_model.specs.Types.{Item, PauseState, not-paused, pending, paused, resetting, Counters, Stream, Active, Scheduler, Options, Queue, Event, Fragment, Packet, done, fragment, Step, remaining, expired, with-state, refuse, reply, Message, with-threshold, with-priority}
 use Rattle.queue_model.specs.Scheduler.{peek, remove-stream, accept, set-bytes-remaining}
 use Rattle.queue_model.specs.Streams.{max-streams, find-stream, put-stream, stream-at, waiting, stream-key, reschedule, weight-of, know}
 use Rattle.queue_model.specs.Refusals.{Check, first-refusal, refused-or, checked, event-places, short-of, short-of-head}
 use Rattle.queue_model.specs.Amounts.{low-event, total-falls, stream-falls, total-low, stream-low, lifecycle-events, sent-events, drop-head-events}
 use Rattle.queue_model.specs.Add.{add-checks, added}
 use Rattle.queue_model.specs.Produce.{Head, head-of, drop-head, drop-in, Look, nothing, broken, dropped, chosen, look-expired, look-at, look-for, look, numbered, make-fragment, end-pending, next-size, moved-on, handed-out-last, handed-out-part, handed-out, hand-out, after-look, pass-over, produce-checks}
+use Rattle.queue_model.specs.Fill.{Filling, no-calls, common-header-length, filling, filled-with, fill-checks}
 use Rattle.queue_model.specs.Discard.{discarded, discard-at, discard-checks}
 use Rattle.queue_model.specs.Close.{untouched, dropped-bytes, sweep-item, sweep-events, closed, close-in, close-checks}
 use Rattle.queue_model.specs.Reset.{is-paused, paused-ids, reset-checks, reopen}
@@ -23,13 +24,14 @@ use Rattle.queue_model.specs.Settings.{raised-event, threshold-checks, p
 use Rattle.queue_model.specs.Image.{Handover}
 use Rattle.queue_model.specs.Reader.{read-image}
 use Rattle.queue_model.specs.Restore.{restored, restore-read, restore-checks, record-checks}
-use Rattle.queue_model.specs.Run.{Call, add, produce, discard, close, ready-ids, commit, rollback, reset, set-threshold, set-priority, set-interleaving, restore, ask-priority, ask-amount, ask-threshold, ask-total, ask-empty, ask-has-data, ask-streams-ready, ask-readiness, step}
+use Rattle.queue_model.specs.Run.{Call, add, produce, fill, discard, close, ready-ids, commit, rollback, reset, set-threshold, set-priority, set-interleaving, restore, ask-priority, ask-amount, ask-threshold, ask-total, ask-empty, ask-has-data, ask-streams-ready, ask-readiness, step}
 use Rattle.queue_model.proofs.Tests.{holds, ltb-true, ltb-false}
 use Rattle.queue_model.proofs.Table.{found, missing, look-up, find-key, sum-put-old, sum-find, sum-le, length-sum}
 use Rattle.queue_model.proofs.Checks.{not-less}
 use Rattle.queue_model.proofs.Streams.{at-found, at-new}
 use Rattle.queue_model.proofs.Invariant.Well.{Kept, Well, shrunk}
-use Rattle.queue_model.proofs.Invariant.Sends.{FineLook, headless, headed, heads, head-of-at, fine-look}
+use Rattle.queue_model.proofs.Invariant.Sends.{FineLook, headless, headed, heads, head-of-at, fine-look, fine-produce}
+use Rattle.queue_model.proofs.Fill.Calls.{fill-induct}
 use Rattle.queue_model.proofs.Calm.Calm.{HeadAt}
 use Rattle.queue_model.specs.Calls
 use Rattle.queue_model.specs.Restore
@@ -290,17 +292,70 @@ few-checked cs q s f = go (first-refusal cs)
     go (some n) = omega arith
 
 -- What spends no more than the potential fires few events.
-few-spent : (q : Queue) (x : Option Step) → Well q → MaybeSpends (potential q) x → Few (Option·getD x (refuse q 16))
-few-spent q none w f = omega arith
-few-spent q (some s) w f = let a = potential-fits q w in omega arith
+few-spent : (q : Queue) (s : Step) → Well q → Spends (potential q) s → Few s
+few-spent q s w f = let a = potential-fits q w in omega arith
+
+-- A call that checks first spends no more than the potential if it does not past its checks.
+spends-checked : (cs : List Check) (q : Queue) (s : Step) → Spends (potential q) s → Spends (potential q) (checked cs q s)
+unfolding checked refused-or
+spends-checked cs q s f = go (first-refusal cs)
+  where
+    go : (x : Option ℕ) → Spends (potential q) (refused-or x q s)
+    go none = f
+    go (some n) = omega arith
+
+spends-default : (q : Queue) (x : Option Step) → MaybeSpends (potential q) x → Spends (potential q) (Option·getD x (refuse q 16))
+spends-default q none f = omega arith
+spends-default q (some s) f = f
+
+-- The next fragment's events and what can still be fired after it are no more than what could be fired before.
+pub produce-spends : (store places buffer now size : ℕ) (q : Queue) → Well q → Spends (potential q) (Calls.produce store places buffer now size q)
+unfolding Calls.produce
+produce-spends store places buffer now size q w =
+    let x : Option Step = pass-over (suc (waiting (q .streams))) now size q [] in
+    spends-checked (produce-checks store places buffer now size q) q (Option·getD x (refuse q 16))
+    (spends-default q x (maybe-more (0 + potential q) (potential q) x (omega arith) (pass-spends (suc (waiting (q .streams))) now size q [] w)))
 
 -- The next fragment fires few events.
 few-produce : (store places buffer now size : ℕ) (q : Queue) → Well q → Few (Calls.produce store places buffer now size q)
-unfolding Calls.produce
-few-produce store places buffer now size q w =
-    let x : Option Step = pass-over (suc (waiting (q .streams))) now size q [] in
-    few-checked (produce-checks store places buffer now size q) q (Option·getD x (refuse q 16))
-    (few-spent q x w (maybe-more (0 + potential q) (potential q) x (omega arith) (pass-spends (suc (waiting (q .streams))) now size q [] w)))
+few-produce store places buffer now size q w = few-spent q (Calls.produce store places buffer now size q) w (produce-spends store places buffer now size q w)
+
+-- ---- filling a packet
+
+-- So are those of all calls of a filling together.
+abbrev FillSpends : Queue → Filling → Type 0
+FillSpends q r = length (r .events) + potential (r .next) ≤ potential q
+
+filling-spends : (store places now limit : ℕ) (q : Queue) → Well q → FillSpends q (filling store places now limit q)
+unfolding no-calls filling
+filling-spends store places now limit q w =
+    fill-induct (q .interleaving) store places now limit Well (λ n q w. (fine-produce store places (suc n) now (suc n) q w) .next-well) (λ used q r. FillSpends q r)
+    (λ used q w e. omega arith)
+    (λ n used q w e f. produce-spends store places (suc n) now (suc n) q w)
+    (λ n used q f r w e g h.
+    let s : Step = Calls.produce store places (suc n) now (suc n) q in
+    let a = produce-spends store places (suc n) now (suc n) q w in let b = length-append (s .outcome .events) (r .events) in omega arith)
+    limit common-header-length q w (omega arith)
+
+-- Document 02, 5/13: its event list "gets all their events up to 2,305, which suffice".
+pub filling-events : (store places now limit : ℕ) (q : Queue) → Well q → length ((filling store places now limit q) .events) ≤ event-places
+filling-events store places now limit q w = let a = filling-spends store places now limit q w in let b = potential-fits q w in omega arith
+
+filled-few : (p : Packet) (q : Queue) (r : Filling) → length (r .events) ≤ event-places → Few (filled-with p q r (r .fragments) (r .refusal))
+unfolding filled-with
+filled-few p q r h = go (r .fragments) (r .refusal)
+  where
+    go : (fs : List Fragment) (x : Option ℕ) → Few (filled-with p q r fs x)
+    go [] (some n) = omega arith
+    go [] none = h
+    go (f ∷ fs) x = h
+
+-- Filling a packet fires few events.
+few-fill : (store places buffer now : ℕ) (p : Packet) (q : Queue) → Well q → Few (Calls.fill store places buffer now p q)
+unfolding Calls.fill
+few-fill store places buffer now p q w =
+    let r : Filling = filling store places now (p .limit) q in
+    few-checked (fill-checks store places buffer now (p .limit) q) q (filled-with p q r (r .fragments) (r .refusal)) (filled-few p q r (filling-events store places now (p .limit) q w))
 
 -- ---- discard
 
@@ -448,6 +503,7 @@ pub events-fit : (c : Call) (q : Queue) → Well q → length ((step c q) .outco
 unfolding step
 events-fit (add store now m) q w = few-add store now m q
 events-fit (produce store places buffer now size) q w = few-produce store places buffer now size q w
+events-fit (fill store places buffer now p) q w = few-fill store places buffer now p q w
 events-fit (discard places s k) q w = few-discard places s k q w
 events-fit (close places s) q w = few-close places s q w
 events-fit ready-ids q w = few-ready q

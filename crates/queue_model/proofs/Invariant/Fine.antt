@@ -10,7 +10,7 @@ use lib.ListN.{length}
 use Rattle.types.specs.Wrap.{wrap-suc}
 use Rattle.queue_model.specs.Logic.{same-bool, any, if_then_else_}
 use Rattle.queue_model.specs.Table.{find}
-use Rattle.queue_model.specs.Types.{Item, PauseState, not-paused, pending, paused, resetting, Counters, Stream, Active, Scheduler, Queue, Answer, refused, done, number, flag, ids, fragment, nothing-waits, Step, remaining, with-pause, with-counters, with-priority, with-threshold, with-state, reply, Message}
+use Rattle.queue_model.specs.Types.{Item, PauseState, not-paused, pending, paused, resetting, Counters, Stream, Active, Scheduler, Queue, Answer, refused, done, number, flag, ids, fragment, nothing-waits, filled, Step, remaining, with-pause, with-counters, with-priority, with-threshold, with-state, reply, Message}
 use Rattle.queue_model.specs.Scheduler.{remove-stream}
 use Rattle.queue_model.specs.Streams.{max-messages, find-stream, put-stream, stream-at, too-many, waiting, payload-bytes, occupied, free-bytes, head-size, weight-of, reschedule, reschedule-each, some-items, has-items, zero-counters, know, amounts, stream-key, with-message}
 use Rattle.queue_model.specs.Refusals.{Check, first-refusal, refused-or, checked, max-word, max-time, max-payload, short-of}
@@ -40,6 +40,7 @@ sixteen (flag b) = false
 sixteen (ids ks) = false
 sixteen (fragment f) = false
 sixteen nothing-waits = false
+sixteen (filled bs n) = false
 
 pub record Fine (q : Queue) (s : Step) : Type 0 where
   pub next-well : Well (s .next)

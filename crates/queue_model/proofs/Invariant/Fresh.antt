@@ -21,7 +21,7 @@ use Rattle.queue_model.specs.Restore.{restored, record-checks, restore-r
 use Rattle.queue_model.specs.Settings.{threshold-checks, priority-checks, switched}
 use Rattle.queue_model.specs.Restart.{Afresh, NotRestored}
 use Rattle.queue_model.specs.Answers.{fragments-in, of-stream}
-use Rattle.queue_model.specs.Run.{Call, add, produce, discard, close, ready-ids, commit, rollback, reset, set-threshold, set-priority, set-interleaving, restore, ask-priority, ask-amount, ask-threshold, ask-total, ask-empty, ask-has-data, ask-streams-ready, ask-readiness, step}
+use Rattle.queue_model.specs.Run.{Call, add, produce, fill, discard, close, ready-ids, commit, rollback, reset, set-threshold, set-priority, set-interleaving, restore, ask-priority, ask-amount, ask-threshold, ask-total, ask-empty, ask-has-data, ask-streams-ready, ask-readiness, step}
 use Rattle.queue_model.proofs.Tests.{eqb-true, eqb-false}
 use Rattle.queue_model.proofs.Table.{Every, every-put, every-map, every-find, every-snoc, own, other, is-own}
 use Rattle.queue_model.proofs.Checks.{checked-either}
@@ -279,6 +279,7 @@ module _ (k : ℕ) where
   unfolding step
   follows-step (add store now m) q n w a = unfold Calls.add in follows-checked (add-checks store now m q) q _ a (no-fragment refl (fresh-added now m q a))
   follows-step (produce store places buffer now size) q n w a = follows-produce store places buffer now size q w a
+  follows-step (fill store places buffer now p) q n w a = absurd (n .1 store places buffer now p refl)
   follows-step (discard places s m) q n w a = unfold Calls.discard in follows-checked (discard-checks places) q _ a (follows-discard-at m s q a)
   follows-step (close places s) q n w a = unfold Calls.close in follows-checked (close-checks places s q) q _ a (follows-close-in ((stream-at q s) .pause-state) q s a)
   follows-step ready-ids q n w a = follows-ready q a
@@ -290,7 +291,7 @@ module _ (k : ℕ) where
   follows-step (set-priority s p) q n w a = unfold Calls.set-priority in
       follows-checked (priority-checks s q) q _ a (no-fragment refl (every-put stream-key (FreshAs k) (with-priority p (stream-at q s)) (q .streams) (λ e. let u = fresh-at q s a e in record { zeroed = u .zeroed; no-mids = u .no-mids }) a))
   follows-step (set-interleaving b) q n w a = follows-set-interleaving b q a
-  follows-step (restore store now image) q n w a = follows-restore store now image q a (λ e. n store now image refl e)
+  follows-step (restore store now image) q n w a = follows-restore store now image q a (λ e. n .0 store now image refl e)
   follows-step (ask-priority s) q n w a = no-fragment refl a
   follows-step (ask-amount s) q n w a = no-fragment refl a
   follows-step (ask-threshold s) q n w a = no-fragment refl a

@@ -26,7 +26,7 @@ use Rattle.queue_model.specs.Settings.{threshold-checks, priority-checks
 use Rattle.queue_model.specs.Image.{StreamRecord, MessageRecord, Handover}
 use Rattle.queue_model.specs.Reader.{read-image, streams-right, messages-right, handover-right}
 use Rattle.queue_model.specs.Restore.{restored-stream, restored-item, restore-streams, restore-message, restore-messages, half-sent-first, first-half-sent, remember-half-sent, restored, record-checks, restore-read, restore-checks}
-use Rattle.queue_model.specs.Run.{Call, add, produce, discard, close, ready-ids, commit, rollback, reset, set-threshold, set-priority, set-interleaving, restore, ask-priority, ask-amount, ask-threshold, ask-total, ask-empty, ask-has-data, ask-streams-ready, ask-readiness, step}
+use Rattle.queue_model.specs.Run.{Call, add, produce, fill, discard, close, ready-ids, commit, rollback, reset, set-threshold, set-priority, set-interleaving, restore, ask-priority, ask-amount, ask-threshold, ask-total, ask-empty, ask-has-data, ask-streams-ready, ask-readiness, step}
 use Rattle.queue_model.specs.Demands.{Typed, Reachable, created, called}
 use Rattle.queue_model.specs.MidMessage.{half-sent-record, half-sent-records, AtMostOne, Uninterrupted, NeverInterleaved, at-first, later, Request10-remembered}
 use Rattle.queue_model.proofs.Tests.{holds, ltb-false, leb-false, eqb-true, eqb-false, less, same, more, tri}
@@ -41,7 +41,8 @@ use Rattle.queue_model.proofs.Invariant.Waits.{Remembers, WeightFits}
 use Rattle.queue_model.proofs.Invariant.Well.{Kept, Well, inside, kept-at}
 use Rattle.queue_model.proofs.Invariant.Fine.{keeps-none, keeps-first, keeps, Alike, paused-alike, reopened-alike}
 use Rattle.queue_model.proofs.Invariant.Recalls.{positive}
-use Rattle.queue_model.proofs.Invariant.Sends.{Chosen, headless, headed, heads, head-of-at, head-well, drop-in-well}
+use Rattle.queue_model.proofs.Invariant.Sends.{Chosen, headless, headed, heads, head-of-at, head-well, drop-in-well, fine-produce}
+use Rattle.queue_model.proofs.Fill.Calls.{fill-keeps}
 use Rattle.queue_model.proofs.Invariant.Passing.{Past, here, over, Ends, none-waits, hands-out, Next, refuses, passes, next-fragment}
 use Rattle.queue_model.proofs.Invariant.Sixteen.{reachable-well}
 use Rattle.queue_model.proofs.Calm.Calm.{HeadAt, behead}
@@ -507,6 +508,8 @@ recalls-step : (c : Call) (q : Queue) → Typed c → Uninterrupted c q → Well
 unfolding step
 recalls-step (add store now m) q t u w a = recalls-add store now m q (kept-at q (m .stream-id) w (t .1 .1 .stream-id)) a
 recalls-step (produce store places buffer now size) q t u w a = recalls-produce store places buffer now size q w a
+recalls-step (fill store places buffer now p) q t u w a =
+    (fill-keeps (λ q. Well q × Recalls q) (λ store places buffer now size q k. ((fine-produce store places buffer now size q (k .0)) .next-well, recalls-produce store places buffer now size q (k .0) (k .1))) store places buffer now p q (w, a)) .1
 recalls-step (discard places s k) q t u w a = recalls-discard places s k q w a
 recalls-step (close places s) q t u w a = recalls-close places s q (kept-at q s w (t .1)) w a
 recalls-step ready-ids q t u w a = recalls-ready q a

@@ -17,7 +17,7 @@ use Rattle.queue_model.specs.Reset.{is-resetting, reopened, reopen}
 use Rattle.queue_model.specs.Settings.{threshold-checks, priority-checks, raised-event, switched}
 use Rattle.queue_model.specs.Reader.{read-image}
 use Rattle.queue_model.specs.Restore.{restore-read, restore-checks}
-use Rattle.queue_model.specs.Run.{Call, add, produce, discard, close, ready-ids, commit, rollback, reset, set-threshold, set-priority, set-interleaving, restore, ask-priority, ask-amount, ask-threshold, ask-total, ask-empty, ask-has-data, ask-streams-ready, ask-readiness, step}
+use Rattle.queue_model.specs.Run.{Call, add, produce, fill, discard, close, ready-ids, commit, rollback, reset, set-threshold, set-priority, set-interleaving, restore, ask-priority, ask-amount, ask-threshold, ask-total, ask-empty, ask-has-data, ask-streams-ready, ask-readiness, step}
 use Rattle.queue_model.proofs.Table.{find-put-same, find-put-other, own, other, is-own, not-in-nil}
 use Rattle.queue_model.proofs.Checks.{Passed, all-passed, or-left, not-false, nil-of}
 use Rattle.queue_model.proofs.Streams.{at-found, at-id}
@@ -42,6 +42,7 @@ pub record Lasts (F : PauseState → List Item → Type 0) : Type 0 where
 abbrev pub plain : Call → Bool
 plain (add store now m) = true
 plain (produce store places buffer now size) = false
+plain (fill store places buffer now p) = false
 plain (discard places s k) = false
 plain (close places s) = true
 plain ready-ids = false
@@ -159,6 +160,7 @@ module _ (k : ℕ) (F : PauseState → List Item → Type 0) (l : Lasts F) where
   unfolding step
   plain-step (add store now x) q e h = has-add store now x q h
   plain-step (produce store places buffer now size) q e h = let z : _≡_ {A = ℕ} 0 1 = cc in absurd (omega arith)
+  plain-step (fill store places buffer now p) q e h = let z : _≡_ {A = ℕ} 0 1 = cc in absurd (omega arith)
   plain-step (discard places s x) q e h = let z : _≡_ {A = ℕ} 0 1 = cc in absurd (omega arith)
   plain-step (close places s) q e h = has-close places s q h
   plain-step ready-ids q e h = let z : _≡_ {A = ℕ} 0 1 = cc in absurd (omega arith)

@@ -24,7 +24,7 @@ use Rattle.queue_model.specs.Settings.{threshold-checks, priority-checks
 use Rattle.queue_model.specs.Image.{StreamRecord, MessageRecord, Handover}
 use Rattle.queue_model.specs.Reader.{read-image}
 use Rattle.queue_model.specs.Restore.{restored-stream, restored-item, restore-streams, restore-message, restore-messages, half-sent-first, restored, record-checks, restore-read, restore-checks}
-use Rattle.queue_model.specs.Run.{Call, add, produce, discard, close, ready-ids, commit, rollback, reset, set-threshold, set-priority, set-interleaving, restore, ask-priority, ask-amount, ask-threshold, ask-total, ask-empty, ask-has-data, ask-streams-ready, ask-readiness, step}
+use Rattle.queue_model.specs.Run.{Call, add, produce, fill, discard, close, ready-ids, commit, rollback, reset, set-threshold, set-priority, set-interleaving, restore, ask-priority, ask-amount, ask-threshold, ask-total, ask-empty, ask-has-data, ask-streams-ready, ask-readiness, step}
 use Rattle.queue_model.specs.Demands.{Typed}
 use Rattle.queue_model.specs.Answers.{fragments-in}
 use Rattle.queue_model.specs.Unbroken.{Behind, UnbrokenBehind, Continues, starts, Onward}
@@ -344,6 +344,7 @@ pub goes-step : (l : Option Fragment) (c : Call) (q : Queue) → Typed c → Onw
 unfolding step
 goes-step l (add store now m) q t u w a b = goes-add l store now m q b
 goes-step l (produce store places buffer now size) q t u w a b = goes-produce l store places buffer now size q w a b
+goes-step l (fill store places buffer now p) q t u w a b = absurd u
 goes-step l (discard places s k) q t u w a b = goes-discard l places s k q w b
 goes-step l (close places s) q t u w a b = goes-close l places s q (kept-at q s w (t .1)) b
 goes-step l ready-ids q t u w a b = goes-ready l q b

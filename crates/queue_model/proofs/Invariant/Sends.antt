@@ -201,7 +201,7 @@ module _ (q : Queue) (k : ℕ) (s : Stream) (i : Item) (is : List Item) (w : Wel
   head-payload = ap payload-bytes (h .items)
 
   -- No amount falls below 0.
-  head-enough : (n : ℕ) → n ≤ remaining i → short-of q s n ≡ false
+  pub head-enough : (n : ℕ) → n ≤ remaining i → short-of q s n ≡ false
   head-enough n l =
       let a = head-kept .counted in let b = head-unsent in
       let c : s .amount ≤ q .total = subst (λ (x : Stream). x .amount ≤ q .total) at-head (amount-le q k w) in

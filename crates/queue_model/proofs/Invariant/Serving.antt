@@ -24,7 +24,7 @@ use Rattle.queue_model.specs.Questions.{amount-of}
 use Rattle.queue_model.specs.Image.{Handover}
 use Rattle.queue_model.specs.Reader.{read-image}
 use Rattle.queue_model.specs.Restore.{remember-half-sent, restored, record-checks, restore-read, restore-checks}
-use Rattle.queue_model.specs.Run.{Call, add, produce, discard, close, ready-ids, commit, rollback, reset, set-threshold, set-priority, set-interleaving, restore, ask-priority, ask-amount, ask-threshold, ask-total, ask-empty, ask-has-data, ask-streams-ready, ask-readiness, step}
+use Rattle.queue_model.specs.Run.{Call, add, produce, fill, discard, close, ready-ids, commit, rollback, reset, set-threshold, set-priority, set-interleaving, restore, ask-priority, ask-amount, ask-threshold, ask-total, ask-empty, ask-has-data, ask-streams-ready, ask-readiness, step}
 use Rattle.queue_model.specs.Demands.{Typed, Reachable, created, called}
 use Rattle.queue_model.specs.Waiting.{is-waiting, WaitsBy, Waiting-seen}
 use Rattle.queue_model.proofs.Table.{find-here, find-there, find-key, find-put-same, find-put-other, find-without-other, find-after, own, other, is-own, not-in-nil, found, missing, look-up, Rising, Every, every-find}
@@ -36,7 +36,8 @@ use Rattle.queue_model.proofs.Invariant.Messages.{WellItems}
 use Rattle.queue_model.proofs.Invariant.Waits.{Listed, Holds, holds-put-own, holds-put, scheduled-id}
 use Rattle.queue_model.proofs.Invariant.Well.{Kept, Well, inside, kept-at, well-tail}
 use Rattle.queue_model.proofs.Invariant.Fine.{Alike, paused-alike, reopened-alike, keeps-none, keeps-first, keeps}
-use Rattle.queue_model.proofs.Invariant.Sends.{FineLook, Chosen, headless, headed, heads, head-of-at, head-well, head-for, fine-look}
+use Rattle.queue_model.proofs.Invariant.Sends.{FineLook, Chosen, headless, headed, heads, head-of-at, head-well, head-for, fine-look, fine-produce}
+use Rattle.queue_model.proofs.Fill.Calls.{fill-keeps}
 use Rattle.queue_model.proofs.Invariant.Sixteen.{fine-step, reachable-well}
 use Rattle.queue_model.proofs.Calm.Calm.{HeadAt}
 use Rattle.queue_model.specs.Calls
@@ -546,6 +547,8 @@ serves-step : (c : Call) (q : Queue) → Typed c → Well q → Well ((step c q)
 unfolding step
 serves-step (add store now m) q t w v a = serves-add store now m q a
 serves-step (produce store places buffer now size) q t w v a = serves-produce store places buffer now size q w a
+serves-step (fill store places buffer now p) q t w v a =
+    (fill-keeps (λ q. Well q × AtEase q) (λ store places buffer now size q k. ((fine-produce store places buffer now size q (k .0)) .next-well, serves-produce store places buffer now size q (k .0) (k .1))) store places buffer now p q (w, a)) .1
 serves-step (discard places s k) q t w v a = serves-discard places s k q w a
 serves-step (close places s) q t w v a = serves-close places s q (kept-at q s w (t .1)) a
 serves-step ready-ids q t w v a = serves-ready q a

@@ -9,18 +9,20 @@ use Rattle.queue_model.specs.Types.{Options, Queue, refused}
 use Rattle.queue_model.specs.Streams.{new-queue}
 use Rattle.queue_model.specs.Refusals.{Check, first-refusal, create-refusal}
 use Rattle.queue_model.specs.Image.{save-checks, save-refusal}
-use Rattle.queue_model.specs.Run.{Call, add, produce, discard, close, ready-ids, commit, rollback, reset, set-threshold, set-priority, set-interleaving, restore, ask-priority, ask-amount, ask-threshold, ask-total, ask-empty, ask-has-data, ask-streams-ready, ask-readiness, step}
+use Rattle.queue_model.specs.Run.{Call, add, produce, fill, discard, close, ready-ids, commit, rollback, reset, set-threshold, set-priority, set-interleaving, restore, ask-priority, ask-amount, ask-threshold, ask-total, ask-empty, ask-has-data, ask-streams-ready, ask-readiness, step}
 use Rattle.queue_model.specs.Demands.{Typed, Reachable, created, called}
 use Rattle.queue_model.proofs.Invariant.Well.{Well, well-new, create-checks}
 use Rattle.queue_model.proofs.Invariant.Fine.{sixteen, Fine, Safe, safe-refusal, fine-add, fine-close, fine-ready, fine-reopen, fine-reset, fine-set-threshold, fine-set-priority, fine-set-interleaving}
 use Rattle.queue_model.proofs.Invariant.Sends.{fine-produce, fine-discard}
 use Rattle.queue_model.proofs.Invariant.Accepted.{fine-restore}
+use Rattle.queue_model.proofs.Fill.Calls.{fine-fill}
 
 -- Every call is fine.
 pub fine-step : (c : Call) (q : Queue) → Typed c → Well q → Fine q (step c q)
 unfolding step
 fine-step (add store now m) q t w = fine-add store now m q w (t .1 .1)
 fine-step (produce store places buffer now size) q t w = fine-produce store places buffer now size q w
+fine-step (fill store places buffer now p) q t w = fine-fill store places buffer now p q w
 fine-step (discard places s k) q t w = fine-discard places s k q w
 fine-step (close places s) q t w = fine-close places s q w (t .1)
 fine-step ready-ids q t w = fine-ready q w

@@ -17,7 +17,7 @@ use Rattle.queue_model.specs.Close.{kept}
 use Rattle.queue_model.specs.Image.{MessageRecord, Handover, message-record, message-records, handover, write-image}
 use Rattle.queue_model.specs.Reader.{has-flag, read-image}
 use Rattle.queue_model.specs.Restore.{restored-item, half-sent-first}
-use Rattle.queue_model.specs.Run.{Call, add, produce, discard, close, ready-ids, commit, rollback, reset, set-threshold, set-priority, set-interleaving, restore, ask-priority, ask-amount, ask-threshold, ask-total, ask-empty, ask-has-data, ask-streams-ready, ask-readiness, step}
+use Rattle.queue_model.specs.Run.{Call, add, produce, fill, discard, close, ready-ids, commit, rollback, reset, set-threshold, set-priority, set-interleaving, restore, ask-priority, ask-amount, ask-threshold, ask-total, ask-empty, ask-has-data, ask-streams-ready, ask-readiness, step}
 use Rattle.queue_model.specs.Demands.{Created, Reachable, fresh, Demand2-images}
 use Rattle.queue_model.specs.MidMessage.{half-sent-record, half-sent-records, AtMostOne, Uninterrupted, NeverInterleaved, at-first, later}
 use Rattle.queue_model.specs.Answers.{fragments-in}
@@ -158,6 +158,7 @@ module _ (saved : ℕ) where
 uninterrupted : (c : Call) (q : Queue) → Onward c q → Uninterrupted c q
 uninterrupted (add store now m) q u = u
 uninterrupted (produce store places buffer now size) q u = u
+uninterrupted (fill store places buffer now p) q u = tt
 uninterrupted (discard places s k) q u = u
 uninterrupted (close places s) q u = u
 uninterrupted ready-ids q u = u

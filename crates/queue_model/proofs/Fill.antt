@@ -1,0 +1,7 @@
+pub mod Calls
+pub mod Sizes
+pub mod Answers
+pub mod Lengths
+pub mod Refusals
+pub mod Request5
+pub mod Unbroken
