@@ -109,7 +109,8 @@ fn put_bytes(output: &mut [u8], at: usize, src: &[u8])
     copy(src, &mut output[at..end]);
 }
 
-fn put_zeros(output: &mut [u8], at: usize, n: usize)
+// "Zeros pad to a multiple of 4": up to three.
+pub fn put_zeros(output: &mut [u8], at: usize, n: usize)
     requires { ⌜ (n ≤ 3) × (at + n ≤ length (now output)) ⌝ }
     ensures { λ _. ⌜ now (output .exit) ≡ wrote (now (output .entry)) at (replicate n 0) ⌝ }
 {

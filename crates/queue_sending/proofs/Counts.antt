@@ -28,7 +28,7 @@ use Rattle.queue_sending.specs.Data.{dataToSend, ProducedWith, producedW
 use Rattle.queue_sending.specs.Fragment.{leastOf, sendCode, writtenSent, sent, handedOut}
 use Rattle.queue_sending.specs.Numbers.{numberedItem, numberedStream}
 use Rattle.payload_store.specs.Reading.{readPart}
-use Rattle.queue_sending.specs.Produce.{produceCode, pastOf, expiredDropped, afterLook, afterDrop, passOver, settledAs, settled, producedPast, produceNext}
+use Rattle.queue_sending.specs.Produce.{produceCode, pastFrom, expiredDropped, afterLook, afterDrop, passOver, settledAs, settled, producedPast, producedAfter, produceNext}
 use Rattle.queue_sending.specs.declared.choice.Look.{Look}
 use Rattle.queue_sending.specs.declared.choice.Look.the-variants as look
 use Rattle.queue_sending.specs.declared.data.Produced.{Produced}
@@ -181,24 +181,28 @@ pass-few (suc n) ws st es bs time size k h =
     (omega (arith, h, expired-length ws es k id row)) (λ l v j g. pass-few n l st v bs time size j g) (expiredDropped ws es k id row .answer))
     h (lookAhead ws time)
 
-past-few : (ws st es bs : List ℕ) (time size : ℕ) → eventWords ≤ length es → Few (producedPast ws st es bs time size)
-unfolding producedPast pastOf
-past-few ws st es bs time size h =
-    few-pick (ltb 1024 (totalsAt ws .waiting)) (refusedWith 16 ws es bs) (settled ws es bs (passOver (totalsAt ws .waiting) ws st es bs time size 0)) (λ e. few-refused 16 ws es bs)
-    (λ e. by (passOver (totalsAt ws .waiting) ws st es bs time size 0) (pass-few (totalsAt ws .waiting) ws st es bs time size 0 h) (passOver (totalsAt ws .waiting) ws st es bs time size 0 .answer))
+past-few : (ws st es bs : List ℕ) (time size k : ℕ) → eventWords ≤ length es → Few (producedPast ws st es bs time size k)
+unfolding producedPast pastFrom
+past-few ws st es bs time size k h =
+    few-pick (ltb 1024 (totalsAt ws .waiting)) (refusedWith 16 ws es bs) (settled ws es bs (passOver (totalsAt ws .waiting) ws st es bs time size k)) (λ e. few-refused 16 ws es bs)
+    (λ e. by (passOver (totalsAt ws .waiting) ws st es bs time size k) (pass-few (totalsAt ws .waiting) ws st es bs time size k h) (passOver (totalsAt ws .waiting) ws st es bs time size k .answer))
   where
     by : (p : ProducedWith) → Few p → (r : Produced) → Few (settledAs ws es bs p r)
     by p f (produced.Nothing k) = f
     by p f (produced.Fragment k d) = f
     by p f (produced.Refused code) = few-refused code ws es bs
 
--- The call counts no more events than the list has places, where it has them.
+-- The call counts no more events than the list has places, where it has them; also after k events.
+pub after-few : (ws st es bs : List ℕ) (time size k : ℕ) → eventWords ≤ length es → Few (producedAfter ws st es bs time size k)
+unfolding producedAfter
+after-few ws st es bs time size k h = look-few (λ (id row : ℕ). producedPast ws st es bs time size k) ws st es bs size k (λ id row. past-few ws st es bs time size k h) h (lookAhead ws time)
+
 pub produce-few : (ws st es bs : List ℕ) (time size : ℕ) → eventWords ≤ length es → Few (produceNext ws st es bs time size)
 unfolding produceNext
 produce-few ws st es bs time size h =
     few-pick (ltb 0 (produceCode ws (length st) (length es) (length bs) time size)) (refusedWith (produceCode ws (length st) (length es) (length bs) time size) ws es bs)
-    (afterLook (λ (id row : ℕ). producedPast ws st es bs time size) ws st es bs size 0 (lookAhead ws time)) (λ e. few-refused (produceCode ws (length st) (length es) (length bs) time size) ws es bs)
-    (λ e. look-few (λ (id row : ℕ). producedPast ws st es bs time size) ws st es bs size 0 (λ id row. past-few ws st es bs time size h) h (lookAhead ws time))
+    (producedAfter ws st es bs time size 0) (λ e. few-refused (produceCode ws (length st) (length es) (length bs) time size) ws es bs)
+    (λ e. after-few ws st es bs time size 0 h)
 
 -- ------------------------------------------------------------------ places past what is written
 

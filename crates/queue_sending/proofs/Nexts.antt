@@ -25,7 +25,7 @@ use Rattle.queue_sending.specs.Data.{ProducedWith, producedWith, refused
 use Rattle.queue_sending.specs.Fragment.{leastOf, sendCode, sent, chosenCode, handedOut}
 use Rattle.queue_sending.specs.Next.{sentNext, refusedNext, nextFound, nextPassed, Leads}
 use Rattle.queue_sending.specs.Passing.{Kept}
-use Rattle.queue_sending.specs.Produce.{passed, sentFound, sentChosen, sentAfter, refusal, copied, pastFrom, pastOf, producedPast}
+use Rattle.queue_sending.specs.Produce.{passed, sentFound, sentChosen, sentAfter, refusal, copied, pastFrom, producedPast}
 use Rattle.queue_sending.specs.declared.choice.Look.{Look}
 use Rattle.queue_sending.specs.declared.choice.Look.the-variants as look
 use Rattle.queue_sending.specs.declared.data.DataToSend.{DataToSend}
@@ -192,15 +192,15 @@ module _ (room : ℕ) (ws st es bs : List ℕ) (time size m k : ℕ) (log us vs 
 
 -- ------------------------------------------------------------------ as many as wait
 
-pub all-led : (ws st es bs : List ℕ) (time size m : ℕ) (n : Next) (l v : List ℕ) → Leads n l st v bs size (pastFrom ws st es bs time size m 0) → Leads n l st v bs size (pastOf ws st es bs time size m)
-unfolding pastFrom pastOf
-all-led ws st es bs time size m n l v g = g
-
-module _ (ws st es bs : List ℕ) (time size m : ℕ) (em : m ≡ totalsAt ws .waiting) where
-  pub waiting-many : 1024 < m → Leads (next.Refused 16) ws st es bs size (producedPast ws st es bs time size)
+module _ (ws st es bs : List ℕ) (time size m k : ℕ) (em : m ≡ totalsAt ws .waiting) where
+  pub waiting-many : 1024 < m → Leads (next.Refused 16) ws st es bs size (producedPast ws st es bs time size k)
   unfolding producedPast
   waiting-many h = rw (← em, lt-ltb _ _ h) (refuses 16 ws st es bs size)
 
-  pub waiting-few : m ≤ 1024 → (n : Next) (l v : List ℕ) → Leads n l st v bs size (pastOf ws st es bs time size m) → Leads n l st v bs size (producedPast ws st es bs time size)
+  pub waiting-few : m ≤ 1024 → (n : Next) (l v : List ℕ) → Leads n l st v bs size (pastFrom ws st es bs time size m k) → Leads n l st v bs size (producedPast ws st es bs time size k)
   unfolding producedPast
   waiting-few h n l v g = rw (← em, le-ltb _ _ h) g
+
+-- No events before are the start of a call.
+pub none-before : (ws st es bs : List ℕ) (time size m k : ℕ) (n : Next) (l v : List ℕ) → k ≤ 0 → Leads n l st v bs size (pastFrom ws st es bs time size m 0) → Leads n l st v bs size (pastFrom ws st es bs time size m k)
+none-before ws st es bs time size m k n l v h g = let z : 0 ≡ k = omega (arith, h) in subst (λ (j : ℕ). Leads n l st v bs size (pastFrom ws st es bs time size m j)) z g

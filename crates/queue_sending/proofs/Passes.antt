@@ -28,7 +28,7 @@ use Rattle.queue_sending.specs.Passing.{Kept}
 use Rattle.queue_sending.specs.Data.{dataToSend, ProducedWith, producedWith, refusedWith}
 use Rattle.queue_sending.specs.Fragment.{leastOf, sendCode, writtenSent, sent, handedOut}
 use Rattle.queue_sending.specs.Numbers.{numberedItem, numberedStream}
-use Rattle.queue_sending.specs.Produce.{produceCode, expiredDropped, afterLook, afterDrop, afterCall, passOver, afterChoice, afterTurn, afterDropped, passed, sentFound, sentChosen, sentAfter, refusal, copied, settledAs, settled, pastFrom, pastOf, producedPast, produceNext}
+use Rattle.queue_sending.specs.Produce.{produceCode, expiredDropped, afterLook, afterDrop, afterCall, passOver, afterChoice, afterTurn, afterDropped, passed, sentFound, sentChosen, sentAfter, refusal, copied, settledAs, settled, pastFrom, producedPast, producedAfter, produceNext}
 use Rattle.queue_sending.proofs.Counts.{behind, pass-behind}
 use Rattle.queue_sending.specs.declared.choice.Look.{Look}
 use Rattle.queue_sending.specs.declared.choice.Look.the-variants as look
@@ -430,10 +430,6 @@ found-past ws st es bs time size n k f ef g = by f refl
         (settled-is ws es bs (handedOut ws st es bs size k at id row) (hand-stays ws st es bs size k at id row)
         ∙ ap (λ (p : ProducedWith). settled ws es bs p) (pass-chosen ws st es bs time size n k f ef at id row (handedOut ws st es bs size k at id row) e refl))
 
-pub past-all : (ws st es bs : List ℕ) (time size n : ℕ) → pastFrom ws st es bs time size n 0 ≡ pastOf ws st es bs time size n
-unfolding pastFrom pastOf
-past-all ws st es bs time size n = refl
-
 pub then-copied : (a b w head : List ℕ) (n : ℕ) → b ≡ a → w ≡ copied b head n → w ≡ copied a head n
 then-copied a b w head n e f = f ∙ ap (λ (l : List ℕ). copied l head n) e
 
@@ -449,46 +445,54 @@ code-places ws len places room time size code ec h = by (eqb (optionsAt ws .«st
 
 -- ------------------------------------------------------------------ a refused call
 
-past-stays : (ws st es bs : List ℕ) (time size : ℕ) → Stays ws es bs (producedPast ws st es bs time size)
-unfolding producedPast pastOf
-past-stays ws st es bs time size =
-    stay-pick ws es bs (ltb 1024 (totalsAt ws .waiting)) _ _ (stay-refused 16 ws es bs) (settled-stays ws es bs (passOver (totalsAt ws .waiting) ws st es bs time size 0))
+past-stays : (ws st es bs : List ℕ) (time size k : ℕ) → Stays ws es bs (producedPast ws st es bs time size k)
+unfolding producedPast pastFrom
+past-stays ws st es bs time size k =
+    stay-pick ws es bs (ltb 1024 (totalsAt ws .waiting)) _ _ (stay-refused 16 ws es bs) (settled-stays ws es bs (passOver (totalsAt ws .waiting) ws st es bs time size k))
 
--- Refused, the call leaves the queue, the list of events and the fragment buffer as they were.
+-- Refused, the call leaves the queue, the list of events and the fragment buffer as they were; also after k events.
+pub after-refused : (ws st es bs : List ℕ) (time size k : ℕ) → Stays ws es bs (producedAfter ws st es bs time size k)
+unfolding producedAfter
+after-refused ws st es bs time size k = by (lookAhead ws time)
+  where
+    by : (l : Look) → Stays ws es bs (afterLook (λ (id row : ℕ). producedPast ws st es bs time size k) ws st es bs size k l)
+    by look.Nothing = stay-pick ws es bs (ltb 2305 k) _ _ (stay-refused 16 ws es bs) (stay-nothing k ws es bs ws es bs)
+    by look.Broken = stay-refused 16 ws es bs
+    by (look.Expired id row) = past-stays ws st es bs time size k
+    by (look.Chosen at id row) = hand-stays ws st es bs size k at id row
+
 pub produce-refused : (ws st es bs : List ℕ) (time size : ℕ) → Stays ws es bs (produceNext ws st es bs time size)
 unfolding produceNext
 produce-refused ws st es bs time size =
     stay-pick ws es bs (ltb 0 (produceCode ws (length st) (length es) (length bs) time size)) _ _
-    (stay-refused (produceCode ws (length st) (length es) (length bs) time size) ws es bs) (by (lookAhead ws time))
-  where
-    by : (l : Look) → Stays ws es bs (afterLook (λ (id row : ℕ). producedPast ws st es bs time size) ws st es bs size 0 l)
-    by look.Nothing = stay-nothing 0 ws es bs ws es bs
-    by look.Broken = stay-refused 16 ws es bs
-    by (look.Expired id row) = past-stays ws st es bs time size
-    by (look.Chosen at id row) = hand-stays ws st es bs size 0 at id row
+    (stay-refused (produceCode ws (length st) (length es) (length bs) time size) ws es bs) (after-refused ws st es bs time size 0)
 
 -- ------------------------------------------------------------------ the call is passing over
 
--- Also where no head has expired the call leaves what passing over as many messages as wait leaves.
-pub produce-passes : (ws st es bs : List ℕ) (time size : ℕ) → totalsAt ws .waiting ≤ 1024
-    → produceNext ws st es bs time size
-    ≡ pick (ltb 0 (produceCode ws (length st) (length es) (length bs) time size)) (refusedWith (produceCode ws (length st) (length es) (length bs) time size) ws es bs)
-    (settled ws es bs (passOver (totalsAt ws .waiting) ws st es bs time size 0))
-unfolding produceNext producedPast pastOf
-produce-passes ws st es bs time size h =
-    ap (λ (p : ProducedWith). pick (ltb 0 (produceCode ws (length st) (length es) (length bs) time size)) (refusedWith (produceCode ws (length st) (length es) (length bs) time size) ws es bs) p)
-    (by (lookAhead ws time) refl)
+-- Also where no head has expired the call leaves what passing over as many messages as wait leaves; after k events.
+pub after-passes : (ws st es bs : List ℕ) (time size k : ℕ) → k ≤ 2305 → totalsAt ws .waiting ≤ 1024 → producedAfter ws st es bs time size k ≡ settled ws es bs (passOver (totalsAt ws .waiting) ws st es bs time size k)
+unfolding producedAfter producedPast pastFrom
+after-passes ws st es bs time size k hk h = by (lookAhead ws time) refl
   where
     n : ℕ
     n = totalsAt ws .waiting
 
     all : ProducedWith
-    all = settled ws es bs (passOver n ws st es bs time size 0)
+    all = settled ws es bs (passOver n ws st es bs time size k)
 
-    by : (l : Look) → lookAhead ws time ≡ l → afterLook (λ (id row : ℕ). producedPast ws st es bs time size) ws st es bs size 0 l ≡ all
-    by look.Nothing e = ap (λ (p : ProducedWith). settled ws es bs p) (pass-nothing ws st es bs time size n 0 look.Nothing (sym e) refl (omega arith))
-    by look.Broken e = ap (λ (p : ProducedWith). settled ws es bs p) (pass-broken ws st es bs time size n 0 look.Broken (sym e) refl)
+    by : (l : Look) → lookAhead ws time ≡ l → afterLook (λ (id row : ℕ). producedPast ws st es bs time size k) ws st es bs size k l ≡ all
+    by look.Nothing e = rw (le-ltb _ _ hk) (ap (λ (p : ProducedWith). settled ws es bs p) (pass-nothing ws st es bs time size n k look.Nothing (sym e) refl hk))
+    by look.Broken e = ap (λ (p : ProducedWith). settled ws es bs p) (pass-broken ws st es bs time size n k look.Broken (sym e) refl)
     by (look.Expired id row) e = rw (le-ltb _ _ h)
     by (look.Chosen at id row) e =
-        settled-is ws es bs (handedOut ws st es bs size 0 at id row) (hand-stays ws st es bs size 0 at id row)
-        ∙ ap (λ (p : ProducedWith). settled ws es bs p) (pass-chosen ws st es bs time size n 0 (look.Chosen at id row) (sym e) at id row (handedOut ws st es bs size 0 at id row) refl refl)
+        settled-is ws es bs (handedOut ws st es bs size k at id row) (hand-stays ws st es bs size k at id row)
+        ∙ ap (λ (p : ProducedWith). settled ws es bs p) (pass-chosen ws st es bs time size n k (look.Chosen at id row) (sym e) at id row (handedOut ws st es bs size k at id row) refl refl)
+
+pub produce-passes : (ws st es bs : List ℕ) (time size : ℕ) → totalsAt ws .waiting ≤ 1024
+    → produceNext ws st es bs time size
+    ≡ pick (ltb 0 (produceCode ws (length st) (length es) (length bs) time size)) (refusedWith (produceCode ws (length st) (length es) (length bs) time size) ws es bs)
+    (settled ws es bs (passOver (totalsAt ws .waiting) ws st es bs time size 0))
+unfolding produceNext
+produce-passes ws st es bs time size h =
+    ap (λ (p : ProducedWith). pick (ltb 0 (produceCode ws (length st) (length es) (length bs) time size)) (refusedWith (produceCode ws (length st) (length es) (length bs) time size) ws es bs) p)
+    (after-passes ws st es bs time size 0 (omega arith) h)

@@ -117,17 +117,18 @@ settled ws es bs p = settledAs ws es bs p (p .answer)
 unfoldable pub pastFrom : List ℕ → List ℕ → List ℕ → List ℕ → ℕ → ℕ → ℕ → ℕ → ProducedWith
 pastFrom ws st es bs time size n k = settled ws es bs (passOver n ws st es bs time size k)
 
-unfoldable pub pastOf : List ℕ → List ℕ → List ℕ → List ℕ → ℕ → ℕ → ℕ → ProducedWith
-pastOf ws st es bs time size n = settled ws es bs (passOver n ws st es bs time size 0)
-
 -- Passing over as many messages as wait; 16 where that is more than there are places.
-unfoldable pub producedPast : List ℕ → List ℕ → List ℕ → List ℕ → ℕ → ℕ → ProducedWith
-producedPast ws st es bs time size =
+unfoldable pub producedPast : List ℕ → List ℕ → List ℕ → List ℕ → ℕ → ℕ → ℕ → ProducedWith
+producedPast ws st es bs time size k =
     pick (ltb 1024 (totalsAt ws .waiting)) (refusedWith 16 ws es bs)
-    (pastOf ws st es bs time size (totalsAt ws .waiting))
+    (pastFrom ws st es bs time size (totalsAt ws .waiting) k)
 
--- The next fragment of at most `size` bytes. Where no head has expired nothing is passed over.
+-- The next fragment of at most `size` bytes, after k events. Where no head has expired nothing is passed over.
+unfoldable pub producedAfter : List ℕ → List ℕ → List ℕ → List ℕ → ℕ → ℕ → ℕ → ProducedWith
+producedAfter ws st es bs time size k = afterLook (λ (id row : ℕ). producedPast ws st es bs time size k) ws st es bs size k (lookAhead ws time)
+
+-- The call: its arguments judged, then the next fragment.
 unfoldable pub produceNext : List ℕ → List ℕ → List ℕ → List ℕ → ℕ → ℕ → ProducedWith
 produceNext ws st es bs time size =
     pick (ltb 0 (produceCode ws (length st) (length es) (length bs) time size)) (refusedWith (produceCode ws (length st) (length es) (length bs) time size) ws es bs)
-    (afterLook (λ (id row : ℕ). producedPast ws st es bs time size) ws st es bs size 0 (lookAhead ws time))
+    (producedAfter ws st es bs time size 0)

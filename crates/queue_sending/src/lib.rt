@@ -14,3 +14,4 @@ pub use data::DataToSend;
 pub use data::Expiry;
 pub use data::Produced;
 pub use next_fragment::produce;
+pub use next_fragment::produce_after;

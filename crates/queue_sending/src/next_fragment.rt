@@ -6,14 +6,14 @@ ghost use Rattle.queue_streams.specs.Events.{eventWords};
 ghost use Rattle.queue_sending.specs.Choice.{lookAhead};
 ghost use Rattle.queue_sending.specs.Data.{producedWith};
 ghost use Rattle.queue_sending.specs.Next.{sentNext, Leads};
-ghost use Rattle.queue_sending.specs.Produce.{produceCode, producedPast, afterLook, produceNext};
+ghost use Rattle.queue_sending.specs.Produce.{produceCode, producedPast, afterLook, producedAfter, produceNext};
 ghost use Rattle.queue_sending.specs.declared.choice.Look.the-variants.{Expired};
 use crate::choice::Look;
 use crate::choice::look_ahead;
 use crate::data::Produced;
 use crate::fragment::hand_out;
 use crate::next::Next;
-use crate::past::pass_first;
+use crate::past::pass_from;
 use queue_streams::events::EVENT_WORDS;
 use queue_words::QUEUE_WORDS;
 use queue_words::header::load_options;
@@ -56,7 +56,7 @@ fn produce_code(
     0
 }
 
-// Passes over as many messages as wait.
+// Passes over as many messages as wait, after k events.
 fn pass_waiting(
     queue: &mut [u64; QUEUE_WORDS],
     store: &[u8],
@@ -64,17 +64,18 @@ fn pass_waiting(
     buffer: &[u8],
     time: u64,
     size: u64,
+    k: usize,
     id: u16,
     row: usize,
 ) -> Next
     requires { ⌜ (eventWords ≤ length (now events)) × (Expired id row ≡ lookAhead (now queue) time) ⌝ }
-    ensures { λ r. ⌜ Leads r (now (queue .exit)) (now (store .entry)) (now (events .exit)) (now (buffer .entry)) size (producedPast (now (queue .entry)) (now (store .entry)) (now (events .entry)) (now (buffer .entry)) time size) ⌝ }
+    ensures { λ r. ⌜ Leads r (now (queue .exit)) (now (store .entry)) (now (events .exit)) (now (buffer .entry)) size (producedPast (now (queue .entry)) (now (store .entry)) (now (events .entry)) (now (buffer .entry)) time size k) ⌝ }
 {
     let t = load_totals(&*queue);
     if t.waiting > 1024 {
         return Next::Refused(16);
     }
-    pass_first(
+    pass_from(
         queue,
         store,
         events,
@@ -82,12 +83,13 @@ fn pass_waiting(
         time,
         size,
         t.waiting as usize,
+        k,
         id,
         row,
     )
 }
 
-// What the call does next, by what a look has found. Where no head has expired nothing is passed over.
+// What the call does next, after k events, by what a look has found. Where no head has expired nothing is passed over.
 fn next_looked(
     queue: &mut [u64; QUEUE_WORDS],
     store: &[u8],
@@ -95,16 +97,65 @@ fn next_looked(
     buffer: &[u8],
     time: u64,
     size: u64,
+    k: usize,
     found: Look,
 ) -> Next
     requires { ⌜ (eventWords ≤ length (now events)) × (found ≡ lookAhead (now queue) time) ⌝ }
-    ensures { λ r. ⌜ sentNext (now (queue .exit)) (now (store .entry)) (now (events .exit)) (now (buffer .entry)) size r ≡ afterLook (λ (id row : ℕ). producedPast (now (queue .entry)) (now (store .entry)) (now (events .entry)) (now (buffer .entry)) time size) (now (queue .entry)) (now (store .entry)) (now (events .entry)) (now (buffer .entry)) size 0 found ⌝ }
+    ensures { λ r. ⌜ sentNext (now (queue .exit)) (now (store .entry)) (now (events .exit)) (now (buffer .entry)) size r ≡ afterLook (λ (id row : ℕ). producedPast (now (queue .entry)) (now (store .entry)) (now (events .entry)) (now (buffer .entry)) time size k) (now (queue .entry)) (now (store .entry)) (now (events .entry)) (now (buffer .entry)) size k found ⌝ }
 {
     match found {
-        Look::Expired(id, row) => pass_waiting(queue, store, events, buffer, time, size, id, row),
-        Look::Nothing => Next::Nothing(0),
+        Look::Expired(id, row) => pass_waiting(
+            queue,
+            store,
+            events,
+            buffer,
+            time,
+            size,
+            k,
+            id,
+            row,
+        ),
+        Look::Nothing => {
+            if k > 2305 {
+                return Next::Refused(16);
+            }
+            Next::Nothing(k)
+        }
         Look::Broken => Next::Refused(16),
-        Look::Chosen(at, id, row) => Next::Chosen(0, at, id, row),
+        Look::Chosen(at, id, row) => Next::Chosen(k, at, id, row),
+    }
+}
+
+// The next fragment of at most `size` bytes, after k events of earlier calls: what one call for the next fragment is within a filling
+// (document 02, 5/13). The arguments are judged by the caller.
+pub fn produce_after(
+    queue: &mut [u64; QUEUE_WORDS],
+    store: &[u8],
+    events: &mut [u64],
+    buffer: &mut [u8],
+    time: u64,
+    size: u64,
+    k: usize,
+) -> Produced
+    requires { ⌜ eventWords ≤ length (now events) ⌝ }
+    ensures { λ r. ⌜ producedWith r (now (queue .exit)) (now (events .exit)) (now (buffer .exit)) ≡ producedAfter (now (queue .entry)) (now (store .entry)) (now (events .entry)) (now (buffer .entry)) time size k ⌝ }
+{
+    let found = look_ahead(&*queue, time);
+    let next = next_looked(queue, store, events, &*buffer, time, size, k, found);
+    match next {
+        Next::Refused(n) => Produced::Refused(n),
+        Next::Nothing(j) => Produced::Nothing(j),
+        Next::Chosen(j, at, id, row) => hand_out(
+            queue,
+            store,
+            events,
+            buffer,
+            size,
+            j,
+            at,
+            id,
+            row,
+        ),
     }
 }
 
@@ -130,21 +181,5 @@ pub fn produce(
     if code > 0 {
         return Produced::Refused(code);
     }
-    let found = look_ahead(&*queue, time);
-    let next = next_looked(queue, store, events, &*buffer, time, size, found);
-    match next {
-        Next::Refused(n) => Produced::Refused(n),
-        Next::Nothing(k) => Produced::Nothing(k),
-        Next::Chosen(k, at, id, row) => hand_out(
-            queue,
-            store,
-            events,
-            buffer,
-            size,
-            k,
-            at,
-            id,
-            row,
-        ),
-    }
+    produce_after(queue, store, events, buffer, time, size, 0)
 }

@@ -6,7 +6,7 @@ ghost use Rattle.queue_streams.specs.Events.{eventWords};
 ghost use Rattle.undo_log.specs.Log.{undone};
 ghost use Rattle.queue_sending.specs.Choice.{lookAhead};
 ghost use Rattle.queue_sending.specs.Next.{nextFound, Leads};
-ghost use Rattle.queue_sending.specs.Produce.{copied, pastFrom, pastOf};
+ghost use Rattle.queue_sending.specs.Produce.{copied, pastFrom};
 ghost use Rattle.queue_sending.specs.declared.choice.Look.the-variants.{Expired};
 use crate::choice::Look;
 use crate::next::Next;
@@ -330,7 +330,7 @@ fn next_past(
 
 // Passes over expired heads, from the head of the stream in a row on. The first is in a log of its own, the next ones in a longer one:
 // an array is cleared before its use, and most often but one head has expired.
-pub fn pass_first(
+fn pass_first(
     queue: &mut [u64; QUEUE_WORDS],
     store: &[u8],
     events: &mut [u64],
@@ -342,7 +342,7 @@ pub fn pass_first(
     row: usize,
 ) -> Next
     requires { ⌜ (eventWords ≤ length (now events)) × (Expired id row ≡ lookAhead (now queue) time) ⌝ }
-    ensures { λ r. ⌜ Leads r (now (queue .exit)) (now (store .entry)) (now (events .exit)) (now (buffer .entry)) size (pastOf (now (queue .entry)) (now (store .entry)) (now (events .entry)) (now (buffer .entry)) time size waiting) ⌝ }
+    ensures { λ r. ⌜ Leads r (now (queue .exit)) (now (store .entry)) (now (events .exit)) (now (buffer .entry)) size (pastFrom (now (queue .entry)) (now (store .entry)) (now (events .entry)) (now (buffer .entry)) time size waiting 0) ⌝ }
 {
     let mut header = [0u64; HEADER];
     copy_words(&mut header, &*queue, HEADER);
@@ -357,4 +357,53 @@ pub fn pass_first(
         return n;
     }
     n
+}
+
+// The same after k events of earlier calls; where there are some, with the log that they leave room for.
+pub fn pass_from(
+    queue: &mut [u64; QUEUE_WORDS],
+    store: &[u8],
+    events: &mut [u64],
+    buffer: &[u8],
+    time: u64,
+    size: u64,
+    waiting: usize,
+    k: usize,
+    id: u16,
+    row: usize,
+) -> Next
+    requires { ⌜ (eventWords ≤ length (now events)) × (Expired id row ≡ lookAhead (now queue) time) ⌝ }
+    ensures { λ r. ⌜ Leads r (now (queue .exit)) (now (store .entry)) (now (events .exit)) (now (buffer .entry)) size (pastFrom (now (queue .entry)) (now (store .entry)) (now (events .entry)) (now (buffer .entry)) time size waiting k) ⌝ }
+{
+    if k > 4 {
+        let n = pass_on(
+            queue,
+            store,
+            events,
+            buffer,
+            time,
+            size,
+            waiting,
+            k,
+            id,
+            row,
+        );
+        return handed_on(n);
+    }
+    if k > 0 {
+        let n = pass_more(
+            queue,
+            store,
+            events,
+            buffer,
+            time,
+            size,
+            waiting,
+            k,
+            id,
+            row,
+        );
+        return handed_on(n);
+    }
+    pass_first(queue, store, events, buffer, time, size, waiting, id, row)
 }

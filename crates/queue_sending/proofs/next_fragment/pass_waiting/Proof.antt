@@ -7,10 +7,10 @@ use Rattle.queue_sending.proofs.next_fragment.pass_waiting.Statement.{s
 use Rattle.queue_sending.proofs.next_fragment.pass_waiting.Tie as tie
 
 returns : tie.Need-returns
-returns c = waiting-many _ _ _ _ _ _ _ (ap (λ (t : Totals). t .waiting) (c .before .before .load-totals .ensures)) (c .if1 .taken)
+returns c = waiting-many _ _ _ _ _ _ _ _ (ap (λ (t : Totals). t .waiting) (c .before .before .load-totals .ensures)) (c .if1 .taken)
 
 returns-2 : tie.Need-returns-2
-returns-2 c = waiting-few _ _ _ _ _ _ _ (ap (λ (t : Totals). t .waiting) (c .before .before .before .before .before .before .before .load-totals .ensures)) (c .before .before .before .before .before .if1 .left) _ _ _ (c .before .before .pass-first .ensures)
+returns-2 c = waiting-few _ _ _ _ _ _ _ _ (ap (λ (t : Totals). t .waiting) (c .before .before .before .before .before .before .before .load-totals .ensures)) (c .before .before .before .before .before .if1 .left) _ _ _ (c .before .before .pass-from .ensures)
 
 pub pass-waiting-spec : {M : Type 1} → statement M
 pass-waiting-spec =
