@@ -3,7 +3,7 @@ use Prim.Native.Nat.{ℕ, _-_}
 use mathlib.Core.Path.{_≡_}
 use mathlib.Core.List.{List, [], _++_}
 use lib.ListN.{length, replicate}
-use Rattle.queue_model.specs.Types.{Answer, refused, done, number, flag, ids, fragment, nothing-waits}
+use Rattle.queue_model.specs.Types.{Answer, refused, done, number, flag, ids, fragment, nothing-waits, filled}
 use Rattle.queue_model.specs.Run as run
 use Rattle.queue_streams.specs.declared.answers.Call.{Call}
 use Rattle.queue_streams.specs.declared.answers.Call.the-variants.{Accepted, Refused}
@@ -25,6 +25,7 @@ readyOf (flag b) = idsOf (Accepted 0) []
 readyOf (ids l) = idsOf (Accepted 0) l
 readyOf (fragment f) = idsOf (Accepted 0) []
 readyOf nothing-waits = idsOf (Accepted 0) []
+readyOf (filled bs n) = idsOf (Accepted 0) []
 
 -- The call is the model's: good words, which stand for the model's next queue, and the model's ids.
 pub record Readies (ws st : List ℕ) (r : ReadyStreams) (ws′ st′ : List ℕ) : Type 0 where

@@ -9,3 +9,4 @@ pub mod Sent
 pub mod Passing
 pub mod Numbers
 pub mod Produces
+pub mod After

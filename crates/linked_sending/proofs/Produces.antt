@@ -47,7 +47,7 @@ module _ (store places room time size : ℕ) (q : Queue) where
 
 -- ---- what the words do
 
-settled-same : (ws es bs : List ℕ) (p : ProducedWith) → refusal (p .answer) ≡ false → settled ws es bs p ≡ p
+pub settled-same : (ws es bs : List ℕ) (p : ProducedWith) → refusal (p .answer) ≡ false → settled ws es bs p ≡ p
 settled-same ws es bs p e = go (p .answer) e
   where
     go : (r : Produced) → refusal r ≡ false → settledAs ws es bs p r ≡ p

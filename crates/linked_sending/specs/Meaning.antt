@@ -5,7 +5,7 @@ use mathlib.Core.List.{List, [], _++_, map}
 use mathlib.Core.Option.{Option, none, some}
 use lib.ListN.{length, drop}
 use Rattle.types.specs.Keys.{key-of}
-use Rattle.queue_model.specs.Types.{Answer, refused, done, number, flag, ids, fragment, nothing-waits, Fragment, Outcome, Step}
+use Rattle.queue_model.specs.Types.{Answer, refused, done, number, flag, ids, fragment, nothing-waits, filled, Fragment, Outcome, Step}
 use Rattle.queue_model.specs.Answers.{answer-number, event-count, fragments-in}
 use Rattle.queue_model.specs.Run as run
 use Rattle.queue_streams.specs.Events.{placesIn, written}
@@ -53,6 +53,7 @@ producedOf (flag b) k = produced.Nothing k
 producedOf (ids l) k = produced.Nothing k
 producedOf (fragment f) k = produced.Fragment k (dataOf f)
 producedOf nothing-waits k = produced.Nothing k
+producedOf (filled bs n) k = produced.Nothing k
 
 -- The lent buffer with the fragment's bytes at its start; "places past what a call writes stay unchanged".
 abbrev pub bufferOf : Answer → List ℕ → List ℕ
@@ -63,6 +64,7 @@ bufferOf (flag b) bs = bs
 bufferOf (ids l) bs = bs
 bufferOf (fragment f) bs = f .bytes ++ drop (length (f .bytes)) bs
 bufferOf nothing-waits bs = bs
+bufferOf (filled cs n) bs = cs ++ drop (length cs) bs
 
 -- What is left is a step of the model: its answer, its events in order, its fragment's bytes, its next queue.
 pub record Sends (s : Step) (st es bs : List ℕ) (p : ProducedWith) : Type 0 where

@@ -3,7 +3,7 @@ use Prim.Native.Nat.{ℕ}
 use mathlib.Core.Path.{_≡_}
 use mathlib.Core.Bool.{Bool, false}
 use mathlib.Core.List.{List}
-use Rattle.queue_model.specs.Types.{Answer, refused, done, number, flag, ids, fragment, nothing-waits}
+use Rattle.queue_model.specs.Types.{Answer, refused, done, number, flag, ids, fragment, nothing-waits, filled}
 use Rattle.queue_model.specs.Answers.{answer-number, answer-value, answer-flag}
 use Rattle.queue_model.specs.Calls
 use Rattle.queue_model.specs.Run as run
@@ -25,6 +25,7 @@ flagOf (flag b) = flag-answer.Value b
 flagOf (ids l) = flag-answer.Value false
 flagOf (fragment f) = flag-answer.Value false
 flagOf nothing-waits = flag-answer.Value false
+flagOf (filled bs n) = flag-answer.Value false
 
 -- A question answers r: for every input w, the definition on the words; on the words of a queue, with the store st, m st, the model's. It changes nothing.
 pub record Asked {A : Type 0} (ws : List ℕ) (r w : A) (m : List ℕ → A) : Type 0 where

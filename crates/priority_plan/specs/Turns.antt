@@ -6,7 +6,7 @@ use mathlib.Core.Option.{Option, none, some}
 use Prim.Native.Nat.{ℕ}
 use lib.Dec.{eqb}
 use Rattle.queue_model.specs.Logic.{if_then_else_, any}
-use Rattle.queue_model.specs.Types.{Answer, refused, done, number, flag, ids, fragment, nothing-waits, Outcome, expired}
+use Rattle.queue_model.specs.Types.{Answer, refused, done, number, flag, ids, fragment, nothing-waits, filled, Outcome, expired}
 use Rattle.queue_model.specs.Add.{expiry}
 use Rattle.priority_plan.specs.Works.{PlannedStream, All}
 use Rattle.priority_plan.specs.Jobs.{Adding}
@@ -22,6 +22,7 @@ shown (flag b) = none
 shown (ids ks) = none
 shown (fragment f) = some (f .stream-id)
 shown nothing-waits = none
+shown (filled bs n) = none
 
 abbrev pub says-nothing : Answer → Bool
 says-nothing (refused n) = false
@@ -31,6 +32,7 @@ says-nothing (flag b) = false
 says-nothing (ids ks) = false
 says-nothing (fragment f) = false
 says-nothing nothing-waits = true
+says-nothing (filled bs n) = false
 
 -- A list without the first place of a number.
 unfoldable pub remove : ℕ → List ℕ → List ℕ

@@ -4,7 +4,7 @@ use mathlib.Core.Path.{_≡_}
 use mathlib.Core.Bool.{Bool}
 use mathlib.Core.List.{List, []}
 use lib.ListN.{length}
-use Rattle.queue_model.specs.Types.{Answer, refused, done, number, flag, ids, fragment, nothing-waits, Outcome}
+use Rattle.queue_model.specs.Types.{Answer, refused, done, number, flag, ids, fragment, nothing-waits, filled, Outcome}
 use Rattle.queue_model.specs.Answers.{answer-number, event-count}
 use Rattle.queue_model.specs.Run as run
 use Rattle.queue_streams.specs.Answers.{callNumber, callEvents}
@@ -27,6 +27,7 @@ callOf (flag b) k = Accepted k
 callOf (ids l) k = Accepted k
 callOf (fragment f) k = Accepted k
 callOf nothing-waits k = Accepted k
+callOf (filled bs n) k = Accepted k
 
 -- What the model's call shows.
 abbrev pub shown : run.Call → List ℕ → List ℕ → Outcome
@@ -57,3 +58,4 @@ numberOf (flag b) = number-answer.Value 0
 numberOf (ids l) = number-answer.Value 0
 numberOf (fragment f) = number-answer.Value 0
 numberOf nothing-waits = number-answer.Value 0
+numberOf (filled bs n) = number-answer.Value 0
