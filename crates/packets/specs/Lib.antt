@@ -1,0 +1,2 @@
+-- Packets on the wire. Assumes nothing.
+pub mod Filling
