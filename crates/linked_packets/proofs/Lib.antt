@@ -1,0 +1,4 @@
+-- Filling a packet is the model's.
+pub mod Chunk
+pub mod Calls
+pub mod Fills

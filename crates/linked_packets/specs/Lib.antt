@@ -1,0 +1,2 @@
+-- Filling a packet is the model's.
+pub mod Meaning
