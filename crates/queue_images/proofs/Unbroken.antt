@@ -70,7 +70,7 @@ gone-on a len s ds h c t u =
     let k = step-link c s (h .good) t in
     let o = meant c s .outcome in
     let gs : List Fragment = fragments-in (o .answer) in
-    let m : model.Sends (optionsWith a len) (meant c s .next) (h .fragments ++ gs) = model.goes-on (h .sends) (callOf (length (s .store)) c) (typed-call (length (s .store)) c (store-small s (h .good)) t) (uninterleaved (λ x. ⊥) c s (h .good) t u) in
+    let m : model.Sends (optionsWith a len) (meant c s .next) (h .fragments ++ gs) = model.goes-on (h .sends) (callOf (length (s .store)) c) (typed-call (length (s .store)) c (store-small s (h .good)) t) (uninterleaved ⊥ (λ x. ⊥) c s (h .good) t u) in
     record {
       good = k .good;
       store-is = k .same-store ∙ h .store-is;

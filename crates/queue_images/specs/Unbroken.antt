@@ -38,7 +38,7 @@ Unbroken ds = UnbrokenBehind starts Continues none ds
 
 -- A call that neither switches interleaving on nor restores.
 abbrev pub Onward : Call → State → Type 0
-Onward c s = Uninterleaved (λ x. ⊥) c s
+Onward c s = Uninterleaved ⊥ (λ x. ⊥) c s
 
 -- A new queue without interleaving, in any words and with any bytes in the store: as it is created, or with that choice made.
 pub data New (a : Arguments) (len : ℕ) : State → Type 0 where

@@ -12,7 +12,13 @@ use Rattle.queue_model.specs.Streams.{stream-key, new-stream, at, stream-at, wa
 use Rattle.queue_model.specs.Questions.{amount-of}
 use Rattle.queue_model.specs.Run as run
 use Rattle.queue_model.specs.Account as model
-use Rattle.queue_model.specs.Account.{Account, both, for-stream, unless-refused, passed, head-bytes, image-left}
+use Rattle.queue_model.specs.Logic.{if_then_else_}
+use Rattle.queue_model.specs.Answers.{is-refused}
+use Rattle.queue_model.specs.Fill.{filling}
+use Rattle.queue_streams.specs.Events.{placesIn}
+use Rattle.linked_packets.specs.Meaning.{filledOf}
+use Rattle.queue_runs.specs.Refusals.{refusal}
+use Rattle.queue_model.specs.Account.{Account, no-bytes, fill-account, both, for-stream, unless-refused, passed, head-bytes, image-left}
 use Rattle.queue_model.specs.Close.{closing-bytes}
 use Rattle.queue_model.specs.Reset.{put-back}
 use Rattle.queue_model.specs.Reader.{read-image}
@@ -30,7 +36,7 @@ use Rattle.queue_questions.specs.Questions.{amountOf}
 use Rattle.queue_state.specs.Promise.{numberOf}
 use Rattle.queue_state.specs.Promise as promise
 use Rattle.linked_streams.proofs.Asks.{amount-asked, total-asked}
-use Rattle.queue_runs.specs.Calls.{Call, add, produce, discard, close, ready-ids, commit, rollback, reset, set-threshold, set-priority, set-interleaving, restore, ask-priority, ask-amount, ask-threshold, ask-total, ask-empty, ask-has-data, ask-streams-ready, ask-readiness, callOf, Typed, Shown, called, sent}
+use Rattle.queue_runs.specs.Calls.{Call, add, produce, fill, discard, close, ready-ids, commit, rollback, reset, set-threshold, set-priority, set-interleaving, restore, ask-priority, ask-amount, ask-threshold, ask-total, ask-empty, ask-has-data, ask-streams-ready, ask-readiness, callOf, Typed, Shown, called, sent, filled}
 use Rattle.queue_runs.specs.Run.{State, step, after}
 use Rattle.queue_runs.specs.Meaning.{queueOf, Good, AllTyped, callsOf}
 use Rattle.queue_runs.specs.Creation.{optionsWith, newState}
@@ -110,6 +116,7 @@ called-unless (plain.flag b) m n = refl
 called-unless (plain.ids l) m n = refl
 called-unless (plain.fragment f) m n = refl
 called-unless plain.nothing-waits m n = refl
+called-unless (plain.filled bs c) m n = refl
 
 sent-unless : (a : plain.Answer) (m n : ℕ) → unlessRefused (sent (producedOf a m)) n ≡ unless-refused a n
 sent-unless (plain.refused r) m n = refl
@@ -119,6 +126,7 @@ sent-unless (plain.flag b) m n = refl
 sent-unless (plain.ids l) m n = refl
 sent-unless (plain.fragment f) m n = refl
 sent-unless plain.nothing-waits m n = refl
+sent-unless (plain.filled bs c) m n = refl
 
 pub key-same : (u : Bool) (id : StreamId) → key-id (key-of u id) ≡ id
 key-same true id = refl
@@ -132,10 +140,21 @@ sent-handed k (plain.flag b) m = refl
 sent-handed k (plain.ids l) m = refl
 sent-handed k (plain.fragment f) m = ap (λ (x : StreamId). for-stream k (x .0) (length (f .bytes))) (key-same (f .unordered) (record { 0 = f .stream-id }))
 sent-handed k plain.nothing-waits m = refl
+sent-handed k (plain.filled bs c) m = refl
+
+pub filled-refusal : (a : plain.Answer) (m : ℕ) → refusal (filled (filledOf a m)) ≡ is-refused a
+filled-refusal (plain.refused r) m = refl
+filled-refusal plain.done m = refl
+filled-refusal (plain.number x) m = refl
+filled-refusal (plain.flag b) m = refl
+filled-refusal (plain.ids l) m = refl
+filled-refusal (plain.fragment f) m = refl
+filled-refusal plain.nothing-waits m = refl
+filled-refusal (plain.filled bs c) m = refl
 
 -- A call moves what the model's call moves.
 account-link : (k : ℕ) (c : Call) (s : State) → Good s → Typed c → account k c s ≡ model.account k (callOf (length (s .store)) c) (queueOf s)
-unfolding account model.account
+unfolding account model.account model.produce-account
 account-link k (add time m payload) s g t =
     let o = meant (add time m payload) s .outcome in
     let n : ℕ = for-stream k (m .«stream_id» .0) (length payload) in
@@ -146,6 +165,10 @@ account-link k (produce es bs time size) s g t =
     let e = step-link (produce es bs time size) s g t .shows-are in
     ap₂ (λ (x y : ℕ). record { accepted = 0; handed-out = x; dropped-unsent = y; put-back-whole = 0; left-to-send = 0 })
     (ap (λ (x : Shown). handed k (x .answer)) e ∙ sent-handed k (o .answer) (length (o .events))) (ap (λ (x : Shown). unlessRefused (x .answer) n) e ∙ sent-unless (o .answer) (length (o .events)) n)
+account-link k (fill es bs time p) s g t =
+    let o = meant (fill es bs time p) s .outcome in
+    let x : Account = fill-account k (length (s .store)) (placesIn es) time ((filling (length (s .store)) (placesIn es) time (p .limit) (queueOf s)) .sizes) (queueOf s) in
+    ap (λ (b : Bool). if b then no-bytes else x) (ap (λ (y : Shown). refusal (y .answer)) (step-link (fill es bs time p) s g t .shows-are) ∙ filled-refusal (o .answer) (length (o .events)))
 account-link k (discard es id m) s g t =
     let o = meant (discard es id m) s .outcome in
     let n : ℕ = for-stream k id (head-bytes m ((stream-at (queueOf s) id) .items)) in

@@ -50,7 +50,7 @@ use Rattle.queue_restarts.specs.declared.whole.Sum.{Sum}
 use Rattle.queue_sending.specs.Choice.{lookAhead, lookFor, lookAt}
 use Rattle.queue_sending.specs.Data.{producedNumber, refusedWith}
 use Rattle.queue_sending.specs.Fragment.{handedOut, sent, sendCode, leastOf}
-use Rattle.queue_sending.specs.Produce.{produceCode, produceNext, producedPast, pastOf, passOver, expiredDropped}
+use Rattle.queue_sending.specs.Produce.{produceCode, produceNext, producedAfter, producedPast, pastFrom, passOver, expiredDropped}
 use Rattle.queue_sending.specs.declared.choice.Look.the-variants as look
 use Rattle.queue_sending.specs.declared.data.Produced.the-variants as produced
 use Rattle.queue_runs.specs.Run.{State, step}
@@ -197,7 +197,7 @@ unfolding lookAhead lookFor lookAt
 bare-look ws time p = rw (p .chosen, le-ltb 255 (p .at) (omega (arith, p .in-table)), p .found-at, lt-ltb 1023 (streamAt ws (p .row) .first) (omega (arith, p .bare)))
 
 pub chosen-bare-is-sixteen : ChosenBareIsSixteen
-unfolding step produceNext
+unfolding step produceNext producedAfter
 chosen-bare-is-sixteen s es bs time size p e = rw (e, bare-look (s .words) time p)
 
 -- ------------------------------------------------------------------ an amount that would fall below 0
@@ -235,7 +235,7 @@ handed-unfit s es bs size at id row h = go (ltb 255 at) (ltb 255 row) (ltb 1023 
     go false false false e = rw e
 
 pub unfit-chosen-is-sixteen : UnfitChosenIsSixteen
-unfolding step produceNext
+unfolding step produceNext producedAfter
 unfit-chosen-is-sixteen s es bs time size at id row e l h = rw (e, l) (handed-unfit s es bs size at id row h)
 
 -- an expired head
@@ -256,10 +256,10 @@ past-unfit zero s es bs time size id row l h = rw l
 past-unfit (suc n) s es bs time size id row l h = rw (l, dropped-unfit (s .words) es 0 id row h)
 
 pub unfit-expired-is-sixteen : UnfitExpiredIsSixteen
-unfolding step produceNext producedPast pastOf
+unfolding step produceNext producedAfter producedPast pastFrom
 unfit-expired-is-sixteen s es bs time size id row e l h = rw (e, l) (go (ltb 1024 (totalsAt (s .words) .waiting)))
   where
-    go : (b : Bool) → producedNumber (pick b (refusedWith 16 (s .words) es bs) (pastOf (s .words) (s .store) es bs time size (totalsAt (s .words) .waiting)) .answer) ≡ 16
+    go : (b : Bool) → producedNumber (pick b (refusedWith 16 (s .words) es bs) (pastFrom (s .words) (s .store) es bs time size (totalsAt (s .words) .waiting) 0) .answer) ≡ 16
     go true = refl
     go false = rw (past-unfit (totalsAt (s .words) .waiting) s es bs time size id row l h)
 

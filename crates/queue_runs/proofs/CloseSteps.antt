@@ -20,13 +20,14 @@ use Rattle.queue_model.proofs.Invariant.OneStream.{plain}
 use Rattle.queue_model.proofs.Invariant.Fates.{plain-pending, plain-paused, ready-pending, Discards, discard-stays, discard-ends, discard-pending, discard-paused, Sends, send-stays, send-further, send-delivers, send-expires, produce-pending, produce-paused}
 use Rattle.queue_model.proofs.Invariant.Closing.{paused-listed, pending-unlisted}
 use Rattle.queue_sending.specs.declared.data.Produced.the-variants as produced
+use Rattle.packets.specs.declared.packet.Packet.{Packet}
 use Rattle.linked_restarts.specs.Ids.{readyOf}
 use Rattle.linked_sending.specs.Meaning.{producedOf, bufferOf}
-use Rattle.queue_runs.specs.Calls.{Call, add, produce, discard, close, ready-ids, commit, rollback, reset, set-threshold, set-priority, set-interleaving, restore, ask-priority, ask-amount, ask-threshold, ask-total, ask-empty, ask-has-data, ask-streams-ready, ask-readiness, callOf, Typed, Shown, readied}
+use Rattle.queue_runs.specs.Calls.{Call, add, produce, fill, discard, close, ready-ids, commit, rollback, reset, set-threshold, set-priority, set-interleaving, restore, ask-priority, ask-amount, ask-threshold, ask-total, ask-empty, ask-has-data, ask-streams-ready, ask-readiness, callOf, Typed, Shown, readied}
 use Rattle.queue_runs.specs.Run as runs
 use Rattle.queue_runs.specs.Run.{State, step}
 use Rattle.queue_runs.specs.Meaning.{queueOf, AllTyped, shownOf}
-use Rattle.queue_runs.specs.Closing.{idsIn, tells, Part, partSent, partIn, AllOf, joined, Abandons, discards, expires}
+use Rattle.queue_runs.specs.Closing.{NotReset, idsIn, tells, Part, partSent, partIn, AllOf, joined, Abandons, discards, expires}
 use Rattle.queue_runs.proofs.Steps.{step-link, typed-call, store-small, meant}
 use Rattle.queue_runs.proofs.Demand3.{Stands}
 use Rattle.queue_runs.proofs.Account.{key-same}
@@ -59,11 +60,13 @@ data Kind (k : ℕ) (c : Call) : Type 0 where
   discards-kind : (es : List ℕ) (id m : ℕ) → c ≡ discard es id m → Kind k c
   ready-kind : c ≡ ready-ids → Kind k c
   reset-kind : c ≡ reset → Kind k c
+  fills-kind : (es bs : List ℕ) (time : ℕ) (p : Packet) → c ≡ fill es bs time p → Kind k c
   plain-kind : ((len : ℕ) → plain (callOf len c) ≡ true) → ((o : Outcome) → part k (shownOf c o) ≡ []) → Kind k c
 
 kind : (k : ℕ) (c : Call) → Kind k c
 kind k (add time m payload) = plain-kind (λ len. refl) (λ o. refl)
 kind k (produce es bs time size) = sends-kind es bs time size refl
+kind k (fill es bs time p) = fills-kind es bs time p refl
 kind k (discard es id m) = discards-kind es id m refl
 kind k (close es id) = plain-kind (λ len. refl) (λ o. refl)
 kind k ready-ids = ready-kind refl
@@ -92,6 +95,7 @@ no-part k (plain.flag b) n bs h = refl
 no-part k (plain.ids l) n bs h = refl
 no-part k (plain.fragment f) n bs h = rw (key-same (f .unordered) (record { 0 = f .stream-id }), ne-eqb (f .stream-id) k (h f refl))
 no-part k plain.nothing-waits n bs h = refl
+no-part k (plain.filled cs m) n bs h = refl
 
 -- One of this stream.
 one-part : (k : ℕ) (f : Fragment) (n : ℕ) (bs : List ℕ) → f .stream-id ≡ k → partSent k (producedOf (plain.fragment f) n) (bufferOf (plain.fragment f) bs) ≡ record { message = f .message-id; bytes = f .bytes } ∷ []
@@ -156,14 +160,15 @@ module _ {o : plain.Options} {len : ℕ} (k : ℕ) (i : Item) (s : State) (n : S
           turn-delivers (next-paused q) (subst (AllOf (i .message-id)) (sym (only f e a)) (b, tt)) (ap joined (only f e a) ∙ append-nil (f .bytes) ∙ g)
       go (send-expires e q) = turn-abandons (next-paused q) (expires es bs time size e)
 
-  pub turn : (c : Call) → Typed c → (c ≡ reset → ⊥) → Turn k i c s
+  pub turn : (c : Call) → Typed c → NotReset c → Turn k i c s
   turn c t r = go (kind k c)
     where
       go : Kind k c → Turn k i c s
       go (sends-kind es bs time size e) = subst (λ (x : Call). Turn k i x s) (sym e) (turn-produce es bs time size (subst Typed e t))
       go (discards-kind es id m e) = subst (λ (x : Call). Turn k i x s) (sym e) (turn-discard es id m (subst Typed e t))
       go (ready-kind e) = subst (λ (x : Call). Turn k i x s) (sym e) (turn-same ready-ids tt refl (ready-pending k i (queueOf s) p))
-      go (reset-kind e) = absurd (r e)
+      go (reset-kind e) = absurd (r .0 e)
+      go (fills-kind es bs time p e) = absurd (r .1 es bs time p e)
       go (plain-kind f g) = turn-same c t (g (meant c s .outcome)) (plain-pending k i (callOf (length (s .store)) c) (queueOf s) (f (length (s .store))) p)
 
 -- ------------------------------------------------------------------ one call on a paused stream
@@ -192,12 +197,13 @@ module _ {o : plain.Options} {len : ℕ} (k : ℕ) (s : State) (n : Stands o len
   rest-same : (c : Call) → Typed c → Paused k (meant c s .next) → Rest k c s
   rest-same c t q = rest-stays (subst (Paused k) (sym (step-link c s (n .good) t .next-is)) q)
 
-  pub rest : (c : Call) → Typed c → (c ≡ reset → ⊥) → Rest k c s
+  pub rest : (c : Call) → Typed c → NotReset c → Rest k c s
   rest c t r = go (kind k c)
     where
       go : Kind k c → Rest k c s
       go (sends-kind es bs time size e) = subst (λ (x : Call). Rest k x s) (sym e) (rest-same (produce es bs time size) (subst Typed e t) (produce-paused k (length (s .store)) _ (length bs) time size (queueOf s) (n .good .well) p))
       go (discards-kind es id m e) = subst (λ (x : Call). Rest k x s) (sym e) (rest-same (discard es id m) (subst Typed e t) (discard-paused k _ id m (queueOf s) p))
       go (ready-kind e) = subst (λ (x : Call). Rest k x s) (sym e) (rest-told ready-tells)
-      go (reset-kind e) = absurd (r e)
+      go (reset-kind e) = absurd (r .0 e)
+      go (fills-kind es bs time p e) = absurd (r .1 es bs time p e)
       go (plain-kind f g) = rest-same c t (plain-paused k (callOf (length (s .store)) c) (queueOf s) (f (length (s .store))) p)

@@ -27,7 +27,7 @@ use Rattle.queue_runs.specs.Run as runs
 use Rattle.queue_runs.specs.Run.{State, step}
 use Rattle.queue_runs.specs.Meaning.{queueOf, AllTyped, sentOf, loudOf}
 use Rattle.queue_runs.specs.Refusals.{refusal}
-use Rattle.queue_runs.specs.Closing.{tells, Ready, ready-now, told-before, parts, AllOf, joined, Abandons, discards, expires, Over, delivered, abandoned, Course, goes-on, is-over, CourseOf, NoReset, Asks, asks, AllAsk, Request3-closing}
+use Rattle.queue_runs.specs.Closing.{tells, Ready, ready-now, told-before, parts, AllOf, joined, Abandons, discards, expires, Over, delivered, abandoned, Course, goes-on, is-over, CourseOf, NotReset, NoReset, Asks, asks, AllAsk, Request3-closing}
 use Rattle.queue_runs.proofs.Steps.{step-link, meant}
 use Rattle.queue_runs.proofs.Forms.{Loud, loud-refused, loud-done, Sent, sent-refused, sent-nothing, sent-fragment, form-of}
 use Rattle.queue_runs.proofs.Demand3.{Stands, stands}
@@ -202,8 +202,8 @@ module _ {o : plain.Options} {len : ℕ} (k : ℕ) (es bs : List ℕ) (time size
 winds-call : {o : plain.Options} {len : ℕ} (k : ℕ) (c : Call) (s : State) → Stands o len s → Typed c → Asks s c → (i : Item) → Pending k i (queueOf s) → Winds k c s
 winds-call k c s n t (asks es bs time size r) i p = winds k es bs time size s n t i r p
 
-asks-no-reset : (s : State) (c : Call) → Asks s c → c ≡ reset → ⊥
-asks-no-reset s c (asks es bs time size r) e = let z : _≡_ {A = ℕ} 0 1 = cc in omega arith
+asks-no-reset : (s : State) (c : Call) → Asks s c → NotReset c
+asks-no-reset s c (asks es bs time size r) = (λ e. let z : _≡_ {A = ℕ} 0 1 = cc in omega arith, λ x y t p e. let z : _≡_ {A = ℕ} 0 1 = cc in omega arith)
 
 all-ask-no-reset : (ps : List Call) (s : State) → AllAsk ps s → NoReset ps
 all-ask-no-reset [] s a = tt
@@ -268,7 +268,7 @@ module _ {o : plain.Options} {len : ℕ} (k : ℕ) (s : State) (n : Stands o len
   begins-nothing : (h : Option Item) → Begins k h (queueOf s) → (cs : List Call) (es bs : List ℕ) (time size m : ℕ) → AllTyped cs → NoReset cs → Typed (produce es bs time size)
       → step (produce es bs time size) (runs.after cs s) .shows .answer ≡ sent (produced.Nothing m) → Ready k s (cs ++ produce es bs time size ∷ [])
   begins-nothing h b cs es bs time size m t r u e =
-      begins-ready h b cs (produce es bs time size ∷ []) t r (u, tt) ((λ z. let y : _≡_ {A = ℕ} 0 1 = cc in omega arith), tt)
+      begins-ready h b cs (produce es bs time size ∷ []) t r (u, tt) ((λ z. (let y : _≡_ {A = ℕ} 0 1 = cc in omega arith), λ v w x p z. let y : _≡_ {A = ℕ} 0 1 = cc in omega arith), tt)
       (λ j q. rested-cons k (runs.after cs s) (produce es bs time size) [] (resting (unfold runs.after in none-ends k es bs time size (runs.after cs s) (stands-after cs s n t) u j m e q)))
 
   begins-hangs : (h : Option Item) → Begins k h (queueOf s) → (cs ps : List Call) → AllTyped cs → NoReset cs → AllTyped ps → AllAsk ps (runs.after cs s) → totalOf (runs.after cs s .words) ≤ length ps → Ready k s (cs ++ ps)

@@ -1,17 +1,18 @@
 -- Which answers the model's calls give, and with which of them events go. Assumes nothing.
 use mathlib.Core.Bool.{Bool, true, false}
-use mathlib.Core.List.{List, [], _++_}
+use mathlib.Core.List.{List, [], _∷_, _++_}
 use mathlib.Core.Option.{Option, none, some, Option·getD}
 use Prim.Native.Nat.{ℕ, zero, suc, min}
 use lib.Dec.{eqb}
 use Rattle.queue_model.specs.Logic.{if_then_else_}
-use Rattle.queue_model.specs.Types.{Item, PauseState, not-paused, pending, paused, resetting, Stream, Active, Queue, Event, Fragment, Answer, refused, done, number, flag, ids, fragment, nothing-waits, Outcome, Step, refuse, reply, remaining}
+use Rattle.queue_model.specs.Types.{Item, PauseState, not-paused, pending, paused, resetting, Stream, Active, Queue, Event, Fragment, Answer, refused, done, number, flag, ids, fragment, nothing-waits, filled, Packet, Outcome, Step, refuse, reply, remaining}
 use Rattle.queue_model.specs.Streams.{find-stream, stream-at, waiting}
 use Rattle.queue_model.specs.Refusals.{Check, first-refusal, refused-or, checked, short-of, short-of-head}
 use Rattle.queue_model.specs.Amounts.{drop-head-events, sent-events}
 use Rattle.queue_model.specs.Add as add
 use Rattle.queue_model.specs.Produce.{Head, no-head, head, head-of, Look, nothing, broken, dropped, chosen, look, drop-in, numbered, make-fragment, handed-out, hand-out, after-look, pass-over, produce-checks}
 use Rattle.queue_model.specs.Produce as produce
+use Rattle.queue_model.specs.Fill as fill
 use Rattle.queue_model.specs.Discard.{discarded, discard-at, discard-checks}
 use Rattle.queue_model.specs.Discard as discard
 use Rattle.queue_model.specs.Close.{closed, close-in, close-checks}
@@ -44,6 +45,11 @@ pub data Sent : Outcome → Type 0 where
   sent-nothing : (es : List Event) → Sent (told nothing-waits es)
   sent-fragment : (f : Fragment) (es : List Event) → Sent (told (fragment f) es)
 
+-- Filling a packet.
+pub data Filled : Outcome → Type 0 where
+  filled-refused : (n : ℕ) → Filled (told (refused n) [])
+  filled-told : (bs : List ℕ) (n : ℕ) (es : List Event) → Filled (told (filled bs n) es)
+
 -- Ids, a number, a truth.
 pub data Ids : Outcome → Type 0 where
   ids-told : (l : List ℕ) → Ids (told (ids l) [])
@@ -58,6 +64,7 @@ pub data Flag : Outcome → Type 0 where
 abbrev pub Form : run.Call → Outcome → Type 0
 Form (run.add store now m) o = Quiet o
 Form (run.produce store places buffer now size) o = Sent o
+Form (run.fill store places buffer now p) o = Filled o
 Form (run.discard places s k) o = Loud o
 Form (run.close places s) o = Loud o
 Form run.ready-ids o = Ids o
@@ -127,6 +134,20 @@ produce-sent store places buffer now size q =
     go none h = sent-refused 16
     go (some s) h = h
 
+-- ------------------------------------------------------------------ filling a packet
+
+filled-form : (p : Packet) (q : Queue) (r : fill.Filling) (fs : List Fragment) (x : Option ℕ) → Filled (fill.filled-with p q r fs x .outcome)
+unfolding fill.filled-with
+filled-form p q r [] (some n) = filled-refused n
+filled-form p q r [] none = filled-told _ _ (r .events)
+filled-form p q r (f ∷ fs) x = filled-told _ _ (r .events)
+
+fill-filled : (store places buffer now : ℕ) (p : Packet) (q : Queue) → Filled (fill.fill store places buffer now p q .outcome)
+unfolding fill.fill
+fill-filled store places buffer now p q =
+    let r : fill.Filling = fill.filling store places now (p .limit) q in
+    checked-form Filled (fill.fill-checks store places buffer now (p .limit) q) q (fill.filled-with p q r (r .fragments) (r .refusal)) filled-refused (filled-form p q r (r .fragments) (r .refusal))
+
 -- ------------------------------------------------------------------ discard and close
 
 discarded-loud : (q : Queue) (s : Stream) (i : Item) (is : List Item) → Loud (discarded q s i is .outcome)
@@ -178,6 +199,7 @@ pub form-of : (c : run.Call) (q : Queue) → Form c (run.step c q .outcome)
 unfolding run.step add.add reset.ready-ids reset.commit reset.rollback reset.reopen reset.reset settings.set-threshold settings.set-priority settings.set-interleaving
 form-of (run.add store now m) q = checked-form Quiet (add.add-checks store now m q) q (reply done [] (add.added now m q)) quiet-refused quiet-done
 form-of (run.produce store places buffer now size) q = produce-sent store places buffer now size q
+form-of (run.fill store places buffer now p) q = fill-filled store places buffer now p q
 form-of (run.discard places s k) q = discard-loud places s k q
 form-of (run.close places s) q = close-loud places s q
 form-of run.ready-ids q = ids-told _

@@ -8,12 +8,12 @@ use Rattle.queue_model.specs.Types.{Fragment, Outcome}
 use Rattle.queue_model.specs.Answers.{fragments-in}
 use Rattle.queue_sending.specs.declared.data.DataToSend.{DataToSend}
 use Rattle.linked_sending.specs.Meaning.{dataOf, producedOf}
-use Rattle.queue_runs.specs.Calls.{Call, add, produce, discard, close, ready-ids, commit, rollback, reset, set-threshold, set-priority, set-interleaving, restore, ask-priority, ask-amount, ask-threshold, ask-total, ask-empty, ask-has-data, ask-streams-ready, ask-readiness, callOf, Typed, Shown}
+use Rattle.queue_runs.specs.Calls.{Call, add, produce, fill, discard, close, ready-ids, commit, rollback, reset, set-threshold, set-priority, set-interleaving, restore, ask-priority, ask-amount, ask-threshold, ask-total, ask-empty, ask-has-data, ask-streams-ready, ask-readiness, callOf, Typed, Shown}
 use Rattle.queue_runs.specs.Run.{State, step}
 use Rattle.queue_runs.specs.Meaning.{queueOf, Good, shownOf}
 use Rattle.queue_runs.specs.Fragments.{dataSent, dataIn}
 use Rattle.queue_runs.proofs.Steps.{step-link, meant}
-use Rattle.queue_runs.proofs.Forms.{Quiet, quiet-refused, quiet-done, Loud, loud-refused, loud-done, Ids, ids-told, Number, number-told, Flag, flag-told, Form, form-of}
+use Rattle.queue_runs.proofs.Forms.{Quiet, quiet-refused, quiet-done, Loud, loud-refused, loud-done, Filled, filled-refused, filled-told, Ids, ids-told, Number, number-told, Flag, flag-told, Form, form-of}
 
 quiet-none : (o : Outcome) → Quiet o → fragments-in (o .answer) ≡ []
 quiet-none o (quiet-refused n) = refl
@@ -22,6 +22,10 @@ quiet-none o quiet-done = refl
 loud-none : (o : Outcome) → Loud o → fragments-in (o .answer) ≡ []
 loud-none o (loud-refused n) = refl
 loud-none o (loud-done es) = refl
+
+filled-none : (o : Outcome) → Filled o → fragments-in (o .answer) ≡ []
+filled-none o (filled-refused n) = refl
+filled-none o (filled-told bs n es) = refl
 
 ids-none : (o : Outcome) → Ids o → fragments-in (o .answer) ≡ []
 ids-none o (ids-told l) = refl
@@ -40,6 +44,7 @@ data-sent (plain.flag b) n = refl
 data-sent (plain.ids l) n = refl
 data-sent (plain.fragment f) n = refl
 data-sent plain.nothing-waits n = refl
+data-sent (plain.filled bs c) n = refl
 
 none-shown : (fs : List Fragment) → fs ≡ [] → [] ≡ map dataOf fs
 none-shown fs e = ap (map dataOf) (sym e)
@@ -48,6 +53,7 @@ none-shown fs e = ap (map dataOf) (sym e)
 pub data-shown : (len : ℕ) (c : Call) (o : Outcome) → Form (callOf len c) o → dataIn (shownOf c o .answer) ≡ map dataOf (fragments-in (o .answer))
 data-shown len (add time m payload) o f = none-shown (fragments-in (o .answer)) (quiet-none o f)
 data-shown len (produce es bs time size) o f = data-sent (o .answer) (length (o .events))
+data-shown len (fill es bs time p) o f = none-shown (fragments-in (o .answer)) (filled-none o f)
 data-shown len (discard es id k) o f = none-shown (fragments-in (o .answer)) (loud-none o f)
 data-shown len (close es id) o f = none-shown (fragments-in (o .answer)) (loud-none o f)
 data-shown len ready-ids o f = none-shown (fragments-in (o .answer)) (ids-none o f)

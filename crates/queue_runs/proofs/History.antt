@@ -1,7 +1,7 @@
 -- The history that the code's calls show is the model's. Assumes nothing.
 use mathlib.Core.Path.{_≡_, refl, ap, ap₂, _∙_}
 use mathlib.Core.Bool.{Bool}
-use mathlib.Core.List.{List, [], _∷_, map}
+use mathlib.Core.List.{List, [], _∷_, _++_, map}
 use Prim.Native.Nat.{ℕ}
 use lib.ListN.{length}
 use Rattle.types.specs.declared.StreamId.{StreamId}
@@ -9,7 +9,7 @@ use Rattle.queue_model.specs.Types as plain
 use Rattle.queue_model.specs.Types.{Queue, Outcome, Fragment}
 use Rattle.queue_model.specs.Run as run
 use Rattle.queue_model.specs.Answers.{is-refused, fragments-in}
-use Rattle.queue_model.specs.History.{Piece, piece, Entry, entry, asks-at, passed-at, history}
+use Rattle.queue_model.specs.History.{Piece, piece, Entry, entry, asks-at, passed-at, entries, made-of, history}
 use Rattle.linked_streams.specs.Questions.{flagOf}
 use Rattle.linked_restarts.specs.Ids.{readyOf}
 use Rattle.linked_sending.specs.Meaning.{dataOf}
@@ -19,7 +19,7 @@ use Rattle.queue_runs.specs.Calls.{Call, callOf}
 use Rattle.queue_runs.specs.Meaning.{callsOf, allShownOf, shownOf, quietOf, loudOf, sentOf, countOf, truthOf}
 use Rattle.queue_runs.specs.Refusals.{refusal}
 use Rattle.queue_runs.specs.History.{pieceOf, entryOf, historyOf}
-use Rattle.queue_runs.proofs.Account.{key-same}
+use Rattle.queue_runs.proofs.Account.{key-same, filled-refusal}
 use Rattle.queue_runs.proofs.Fragments.{data-shown}
 use Rattle.queue_runs.proofs.Forms.{Quiet, quiet-refused, quiet-done, Loud, loud-refused, loud-done, Sent, sent-refused, sent-nothing, sent-fragment, Ids, ids-told, Number, number-told, Flag, flag-told, Form, form-of}
 
@@ -56,6 +56,7 @@ truth-refusal o (flag-told b) = refl
 refusal-shown : (len : ℕ) (c : Call) (o : Outcome) → Form (callOf len c) o → refusal (shownOf c o .answer) ≡ is-refused (o .answer)
 refusal-shown len (calls.add time m payload) o f = quiet-refusal o f
 refusal-shown len (calls.produce es bs time size) o f = sent-refusal es bs o f
+refusal-shown len (calls.fill es bs time p) o f = filled-refusal (o .answer) (length (o .events))
 refusal-shown len (calls.discard es id k) o f = loud-refusal es o f
 refusal-shown len (calls.close es id) o f = loud-refusal es o f
 refusal-shown len calls.ready-ids o f = ids-refusal o f
@@ -92,4 +93,4 @@ unfolding historyOf history run.run
 history-same len [] q = refl
 history-same len (c ∷ cs) q =
     let x : plain.Step = run.step (callOf len c) q in
-    ap₂ (λ (e : Entry) (es : List Entry). e ∷ es) (entry-same len c (x .outcome) (passed-at (asks-at (callOf len c)) q) (form-of (callOf len c) q)) (history-same len cs (x .next))
+    ap₂ (λ (e : Entry) (es : List Entry). e ∷ (entries (made-of (callOf len c) q) q ++ es)) (entry-same len c (x .outcome) (passed-at (asks-at (callOf len c)) q) (form-of (callOf len c) q)) (history-same len cs (x .next))

@@ -2,7 +2,7 @@
 use mathlib.Core.Path.{_≡_, refl, sym, _∙_}
 use mathlib.Core.Bool.{Bool, true, false}
 use mathlib.Core.List.{List, [], _∷_}
-use Prim.Native.Nat.{ℕ, zero, suc, _-_}
+use Prim.Native.Nat.{ℕ, zero, suc, _+_, _-_}
 use native.Mathlib.Omega.{arith}
 use lib.Dec.{ltb, leb, eqb}
 use lib.ListN.{length}
@@ -54,7 +54,7 @@ use Rattle.queue_restarts.specs.Reset.{resetQueue, sumOf}
 use Rattle.queue_sending.specs.Choice.{lookAhead}
 use Rattle.queue_sending.specs.Data.{ProducedWith, producedWith, refusedWith}
 use Rattle.queue_sending.specs.Fragment.{leastOf, sendCode, sent, handedOut}
-use Rattle.queue_sending.specs.Produce.{produceCode, expiredDropped, afterLook, afterDrop, afterCall, passOver, settledAs, pastOf, producedPast, produceNext}
+use Rattle.queue_sending.specs.Produce.{produceCode, expiredDropped, afterLook, afterDrop, afterCall, passOver, settledAs, pastFrom, producedPast, producedAfter, produceNext}
 use Rattle.queue_sending.specs.declared.choice.Look.{Look}
 use Rattle.queue_sending.specs.declared.choice.Look.the-variants as look
 use Rattle.queue_sending.specs.declared.data.Produced.{Produced}
@@ -62,11 +62,21 @@ use Rattle.queue_sending.specs.declared.data.Produced.the-variants as produced
 use Rattle.image_rules.specs.Code.{rulesKept, amountsFit, imageCode}
 use Rattle.image_rules.specs.Trailers.{trailerIn}
 use Rattle.handover.specs.Restore as restoring
-use Rattle.queue_runs.specs.Calls.{add, produce, discard, close, ready-ids, commit, rollback, reset, set-threshold, set-priority, set-interleaving, restore, ask-priority, ask-amount, ask-threshold, ask-total, ask-empty, ask-has-data, ask-streams-ready, ask-readiness}
+use Rattle.queue_runs.specs.Calls.{add, produce, fill, discard, close, ready-ids, commit, rollback, reset, set-threshold, set-priority, set-interleaving, restore, ask-priority, ask-amount, ask-threshold, ask-total, ask-empty, ask-has-data, ask-streams-ready, ask-readiness}
 use Rattle.queue_runs.specs.Run.{step}
-use Rattle.queue_runs.specs.Refusals.{callRefused, sentRefused, numberRefused, flagRefused}
+use Rattle.queue_runs.specs.Refusals.{callRefused, sentRefused, fillRefused, numberRefused, flagRefused}
 use Rattle.queue_streams.specs.Answers.{callNumber, numberNumber, flagNumber}
 use Rattle.queue_sending.specs.Data.{producedNumber}
+use Rattle.queue_model.specs.Fill.{common-header-length, common-header}
+use Rattle.types.specs.Wrap.{wrap-suc}
+use Rattle.queue_model.specs.Chunks.{padded}
+use Rattle.chunks.specs.Layout.{headerSize}
+use Rattle.chunks.specs.declared.chunk.ChunkKind.{ChunkKind}
+use Rattle.big_endian.specs.Numbers.{wrote}
+use Rattle.packets.specs.declared.filling.Filling.{Filling}
+use Rattle.packets.specs.declared.packet.Packet.{Packet}
+use Rattle.packets.specs.declared.packet.PacketFilled.the-variants as packet
+use Rattle.packets.specs.Filling.{packetOf, kindOf, fillCode, oneFilled, FillingWith, fillingWith, reached, afterOne, andOn, sizeAsked, fillOn, FilledWith, filledWith, filledNumber, finishedAnswer, finishedPacket, finished, fillPacket}
 use Rattle.queue_runs.specs.Numbers.{among, RefusalsListed}
 use Rattle.queue_runs.proofs.Stays.{not-refused}
 
@@ -436,31 +446,106 @@ data-asked ws = waits-listed (peekWords ws)
 
 -- ---- the next fragment
 
+-- Its calls are refused with 16 alone, which is in the list.
+module _ (l : List ℕ) (has : among 16 l ≡ true) where
+  unfoldable Sends : ProducedWith → Type 0
+  Sends r = sentRefused (r .answer) ≡ true → among (producedNumber (r .answer)) l ≡ true
+
+  sends-pick : (b : Bool) (x y : ProducedWith) → Sends x → Sends y → Sends (pick b x y)
+  sends-pick true x y f g = f
+  sends-pick false x y f g = g
+
+  sends-refused : (n : ℕ) (ws es bs : List ℕ) → among n l ≡ true → Sends (refusedWith n ws es bs)
+  unfolding Sends
+  sends-refused n ws es bs h e = h
+
+  sends-nothing : (k : ℕ) (ws es bs : List ℕ) → Sends (producedWith (produced.Nothing k) ws es bs)
+  unfolding Sends
+  sends-nothing k ws es bs e = not-refused e
+
+  sends-code : (n : ℕ) (ws es bs : List ℕ) (y : ProducedWith) → Code l n → Sends y → Sends (pick (ltb 0 n) (refusedWith n ws es bs) y)
+  unfolding Code
+  sends-code n ws es bs y h g = go (ltb 0 n) h
+    where
+      go : (b : Bool) → (b ≡ true → among n l ≡ true) → Sends (pick b (refusedWith n ws es bs) y)
+      go true f = sends-refused n ws es bs (f refl)
+      go false f = g
+
+  send-code : (ws : List ℕ) (len : ℕ) (s : OutgoingStream) (m : Item) (n room : ℕ) → Code l (sendCode ws len s m n room)
+  unfolding sendCode
+  send-code ws len s m n room =
+      code-pick l (ltb (rest m) n) _ _ (code-in l 16 has)
+      (code-pick l (ltb 0 (readCode ws len (s .first) (m .offset) n room)) _ _ (code-in l 16 has) (head-code l has ws s (s .first) (m .next) n))
+
+  -- a fragment that is not refused
+  sends-fragment : (a : Produced) (ws es bs : List ℕ) → sentRefused a ≡ false → Sends (producedWith a ws es bs)
+  unfolding Sends
+  sends-fragment a ws es bs f e = not-refused (sym f ∙ e)
+
+  sent-listed : (ws st es bs : List ℕ) (k at id row : ℕ) (s : OutgoingStream) (m : Item) (n : ℕ) → Sends (sent ws st es bs k at id row s m n)
+  unfolding sent
+  sent-listed ws st es bs k at id row s m n =
+      sends-code (sendCode ws (length st) s m n (length bs)) ws es bs _ (send-code ws (length st) s m n (length bs)) (sends-fragment _ _ _ _ refl)
+
+  handed-listed : (ws st es bs : List ℕ) (size k at id row : ℕ) → Sends (handedOut ws st es bs size k at id row)
+  unfolding handedOut
+  handed-listed ws st es bs size k at id row =
+      sends-pick (ltb 2303 k) _ _ (sends-refused 16 ws es bs has)
+      (sends-pick (ltb 255 at) _ _ (sends-refused 16 ws es bs has)
+      (sends-pick (ltb 255 row) _ _ (sends-refused 16 ws es bs has)
+      (sends-pick (ltb 1023 (streamAt ws row .first)) _ _ (sends-refused 16 ws es bs has)
+      (sent-listed ws st es bs k at id row (streamAt ws row) (itemAt ws (streamAt ws row .first)) (leastOf (activeAt ws at .«bytes_remaining») size)))))
+
+  after-listed : (expired : ℕ → ℕ → ProducedWith) (ws st es bs : List ℕ) (size k : ℕ) → ((id row : ℕ) → Sends (expired id row)) → (x : Look) → Sends (afterLook expired ws st es bs size k x)
+  after-listed expired ws st es bs size k h look.Nothing = sends-pick (ltb 2305 k) _ _ (sends-refused 16 ws es bs has) (sends-nothing k ws es bs)
+  after-listed expired ws st es bs size k h look.Broken = sends-refused 16 ws es bs has
+  after-listed expired ws st es bs size k h (look.Expired id row) = h id row
+  after-listed expired ws st es bs size k h (look.Chosen at id row) = handed-listed ws st es bs size k at id row
+
+  -- an expired head dropped
+  expired-listed : (ws es : List ℕ) (k id row : ℕ) → Loud l (expiredDropped ws es k id row)
+  unfolding expiredDropped
+  expired-listed ws es k id row =
+      loud-pick l (ltb 255 row) _ _ (loud-refused l 16 ws es has)
+      (loud-pick l (ltb 1023 (streamAt ws row .first)) _ _ (loud-refused l 16 ws es has)
+      (head-listed l has ws es k id row (streamAt ws row) (itemAt ws (streamAt ws row .first))))
+
+  drop-listed : (again : List ℕ → List ℕ → ℕ → ProducedWith) (ws es bs : List ℕ) → ((l e : List ℕ) (j : ℕ) → Sends (again l e j)) → (a : Call) → (callRefused a ≡ true → among (callNumber a) l ≡ true) → Sends (afterDrop again ws es bs a)
+  drop-listed again ws es bs h (call.Accepted k) f = h ws es k
+  drop-listed again ws es bs h (call.Refused n) f = sends-refused n ws es bs (f refl)
+
+  turn-listed : (again : List ℕ → List ℕ → ℕ → ProducedWith) (bs : List ℕ) → ((l e : List ℕ) (j : ℕ) → Sends (again l e j)) → (c : CalledWith) → Loud l c → Sends (afterCall again bs c)
+  unfolding Loud
+  turn-listed again bs h c f = drop-listed again (c .next) (c .events) bs h (c .answer) f
+
+  pass-listed : (n : ℕ) (ws st es bs : List ℕ) (time size k : ℕ) → Sends (passOver n ws st es bs time size k)
+  unfolding passOver
+  pass-listed zero ws st es bs time size k = after-listed _ ws st es bs size k (λ id row. sends-refused 16 ws es bs has) (lookAhead ws time)
+  pass-listed (suc n) ws st es bs time size k =
+      after-listed _ ws st es bs size k (λ id row. turn-listed (λ (l e : List ℕ) (j : ℕ). passOver n l st e bs time size j) bs (λ l e j. pass-listed n l st e bs time size j) (expiredDropped ws es k id row) (expired-listed ws es k id row)) (lookAhead ws time)
+
+  settled-listed : (ws es bs : List ℕ) (p : ProducedWith) → Sends p → Sends (settledAs ws es bs p (p .answer))
+  unfolding Sends
+  settled-listed ws es bs p h = go (p .answer) refl
+    where
+      go : (a : Produced) → p .answer ≡ a → Sends (settledAs ws es bs p a)
+      go (produced.Nothing k) e = h
+      go (produced.Fragment k d) e = h
+      go (produced.Refused n) e = λ z. let u : sentRefused (p .answer) ≡ true → among (producedNumber (p .answer)) l ≡ true = h in rw e at u refl
+
+  past-listed : (ws st es bs : List ℕ) (time size k : ℕ) → Sends (producedPast ws st es bs time size k)
+  unfolding producedPast pastFrom
+  past-listed ws st es bs time size k =
+      sends-pick (ltb 1024 (totalsAt ws .waiting)) _ _ (sends-refused 16 ws es bs has)
+      (settled-listed ws es bs (passOver (totalsAt ws .waiting) ws st es bs time size k) (pass-listed (totalsAt ws .waiting) ws st es bs time size k))
+
+  -- the next fragment after k events
+  next-listed : (ws st es bs : List ℕ) (time size k : ℕ) → Sends (producedAfter ws st es bs time size k)
+  unfolding producedAfter
+  next-listed ws st es bs time size k = after-listed _ ws st es bs size k (λ id row. past-listed ws st es bs time size k) (lookAhead ws time)
+
 abbrev sending : List ℕ
 sending = 2 ∷ 3 ∷ 4 ∷ 9 ∷ 10 ∷ 16 ∷ []
-
-unfoldable Sends : ProducedWith → Type 0
-Sends r = sentRefused (r .answer) ≡ true → among (producedNumber (r .answer)) sending ≡ true
-
-sends-pick : (b : Bool) (x y : ProducedWith) → Sends x → Sends y → Sends (pick b x y)
-sends-pick true x y f g = f
-sends-pick false x y f g = g
-
-sends-refused : (n : ℕ) (ws es bs : List ℕ) → among n sending ≡ true → Sends (refusedWith n ws es bs)
-unfolding Sends
-sends-refused n ws es bs h e = h
-
-sends-nothing : (k : ℕ) (ws es bs : List ℕ) → Sends (producedWith (produced.Nothing k) ws es bs)
-unfolding Sends
-sends-nothing k ws es bs e = not-refused e
-
-sends-code : (n : ℕ) (ws es bs : List ℕ) (y : ProducedWith) → Code sending n → Sends y → Sends (pick (ltb 0 n) (refusedWith n ws es bs) y)
-unfolding Code
-sends-code n ws es bs y h g = go (ltb 0 n) h
-  where
-    go : (b : Bool) → (b ≡ true → among n sending ≡ true) → Sends (pick b (refusedWith n ws es bs) y)
-    go true f = sends-refused n ws es bs (f refl)
-    go false f = g
 
 produce-code : (ws : List ℕ) (len places room time size : ℕ) → Code sending (produceCode ws len places room time size)
 unfolding produceCode
@@ -473,79 +558,98 @@ produce-code ws len places room time size =
     (code-pick sending (ltb room size) _ _ (code-in sending 10 refl) (code-none sending))))))
     (code-in sending 2 refl)
 
-send-code : (ws : List ℕ) (len : ℕ) (s : OutgoingStream) (m : Item) (n room : ℕ) → Code sending (sendCode ws len s m n room)
-unfolding sendCode
-send-code ws len s m n room =
-    code-pick sending (ltb (rest m) n) _ _ (code-in sending 16 refl)
-    (code-pick sending (ltb 0 (readCode ws len (s .first) (m .offset) n room)) _ _ (code-in sending 16 refl) (head-code sending refl ws s (s .first) (m .next) n))
-
--- a fragment that is not refused
-sends-fragment : (a : Produced) (ws es bs : List ℕ) → sentRefused a ≡ false → Sends (producedWith a ws es bs)
-unfolding Sends
-sends-fragment a ws es bs f e = not-refused (sym f ∙ e)
-
-sent-listed : (ws st es bs : List ℕ) (k at id row : ℕ) (s : OutgoingStream) (m : Item) (n : ℕ) → Sends (sent ws st es bs k at id row s m n)
-unfolding sent
-sent-listed ws st es bs k at id row s m n =
-    sends-code (sendCode ws (length st) s m n (length bs)) ws es bs _ (send-code ws (length st) s m n (length bs)) (sends-fragment _ _ _ _ refl)
-
-handed-listed : (ws st es bs : List ℕ) (size k at id row : ℕ) → Sends (handedOut ws st es bs size k at id row)
-unfolding handedOut
-handed-listed ws st es bs size k at id row =
-    sends-pick (ltb 2303 k) _ _ (sends-refused 16 ws es bs refl)
-    (sends-pick (ltb 255 at) _ _ (sends-refused 16 ws es bs refl)
-    (sends-pick (ltb 255 row) _ _ (sends-refused 16 ws es bs refl)
-    (sends-pick (ltb 1023 (streamAt ws row .first)) _ _ (sends-refused 16 ws es bs refl)
-    (sent-listed ws st es bs k at id row (streamAt ws row) (itemAt ws (streamAt ws row .first)) (leastOf (activeAt ws at .«bytes_remaining») size)))))
-
-after-listed : (expired : ℕ → ℕ → ProducedWith) (ws st es bs : List ℕ) (size k : ℕ) → ((id row : ℕ) → Sends (expired id row)) → (x : Look) → Sends (afterLook expired ws st es bs size k x)
-after-listed expired ws st es bs size k h look.Nothing = sends-pick (ltb 2305 k) _ _ (sends-refused 16 ws es bs refl) (sends-nothing k ws es bs)
-after-listed expired ws st es bs size k h look.Broken = sends-refused 16 ws es bs refl
-after-listed expired ws st es bs size k h (look.Expired id row) = h id row
-after-listed expired ws st es bs size k h (look.Chosen at id row) = handed-listed ws st es bs size k at id row
-
--- an expired head dropped
-expired-listed : (ws es : List ℕ) (k id row : ℕ) → Loud sending (expiredDropped ws es k id row)
-unfolding expiredDropped
-expired-listed ws es k id row =
-    loud-pick sending (ltb 255 row) _ _ (loud-refused sending 16 ws es refl)
-    (loud-pick sending (ltb 1023 (streamAt ws row .first)) _ _ (loud-refused sending 16 ws es refl)
-    (head-listed sending refl ws es k id row (streamAt ws row) (itemAt ws (streamAt ws row .first))))
-
-drop-listed : (again : List ℕ → List ℕ → ℕ → ProducedWith) (ws es bs : List ℕ) → ((l e : List ℕ) (j : ℕ) → Sends (again l e j)) → (a : Call) → (callRefused a ≡ true → among (callNumber a) sending ≡ true) → Sends (afterDrop again ws es bs a)
-drop-listed again ws es bs h (call.Accepted k) f = h ws es k
-drop-listed again ws es bs h (call.Refused n) f = sends-refused n ws es bs (f refl)
-
-turn-listed : (again : List ℕ → List ℕ → ℕ → ProducedWith) (bs : List ℕ) → ((l e : List ℕ) (j : ℕ) → Sends (again l e j)) → (c : CalledWith) → Loud sending c → Sends (afterCall again bs c)
-unfolding Loud
-turn-listed again bs h c f = drop-listed again (c .next) (c .events) bs h (c .answer) f
-
-pass-listed : (n : ℕ) (ws st es bs : List ℕ) (time size k : ℕ) → Sends (passOver n ws st es bs time size k)
-unfolding passOver
-pass-listed zero ws st es bs time size k = after-listed _ ws st es bs size k (λ id row. sends-refused 16 ws es bs refl) (lookAhead ws time)
-pass-listed (suc n) ws st es bs time size k =
-    after-listed _ ws st es bs size k (λ id row. turn-listed (λ (l e : List ℕ) (j : ℕ). passOver n l st e bs time size j) bs (λ l e j. pass-listed n l st e bs time size j) (expiredDropped ws es k id row) (expired-listed ws es k id row)) (lookAhead ws time)
-
-settled-listed : (ws es bs : List ℕ) (p : ProducedWith) → Sends p → Sends (settledAs ws es bs p (p .answer))
-unfolding Sends
-settled-listed ws es bs p h = go (p .answer) refl
-  where
-    go : (a : Produced) → p .answer ≡ a → Sends (settledAs ws es bs p a)
-    go (produced.Nothing k) e = h
-    go (produced.Fragment k d) e = h
-    go (produced.Refused n) e = λ z. let u : sentRefused (p .answer) ≡ true → among (producedNumber (p .answer)) sending ≡ true = h in rw e at u refl
-
-past-listed : (ws st es bs : List ℕ) (time size : ℕ) → Sends (producedPast ws st es bs time size)
-unfolding producedPast pastOf
-past-listed ws st es bs time size =
-    sends-pick (ltb 1024 (totalsAt ws .waiting)) _ _ (sends-refused 16 ws es bs refl)
-    (settled-listed ws es bs (passOver (totalsAt ws .waiting) ws st es bs time size 0) (pass-listed (totalsAt ws .waiting) ws st es bs time size 0))
-
-produce-listed : (ws st es bs : List ℕ) (time size : ℕ) → Sends (produceNext ws st es bs time size)
+produce-listed : (ws st es bs : List ℕ) (time size : ℕ) → Sends sending refl (produceNext ws st es bs time size)
 unfolding produceNext
 produce-listed ws st es bs time size =
-    sends-code (produceCode ws (length st) (length es) (length bs) time size) ws es bs _ (produce-code ws (length st) (length es) (length bs) time size)
-    (after-listed _ ws st es bs size 0 (λ id row. past-listed ws st es bs time size) (lookAhead ws time))
+    sends-code sending refl (produceCode ws (length st) (length es) (length bs) time size) ws es bs _ (produce-code ws (length st) (length es) (length bs) time size) (next-listed sending refl ws st es bs time size 0)
+
+-- ---- filling a packet
+
+abbrev packing : List ℕ
+packing = 20 ∷ 21 ∷ 2 ∷ 3 ∷ 4 ∷ 16 ∷ []
+
+packing-code : (ws : List ℕ) (len places room time limit : ℕ) → Code packing (fillCode ws len places room time limit)
+unfolding fillCode
+packing-code ws len places room time limit =
+    code-pick packing (ltb limit 36) _ _ (code-in packing 20 refl)
+    (code-pick packing (ltb 65535 limit) _ _ (code-in packing 20 refl)
+    (code-pick packing (ltb room limit) _ _ (code-in packing 21 refl)
+    (code-pick packing (eqb (optionsAt ws .«store_length») len) _ _
+    (code-pick packing (ltb places eventWords) _ _ (code-in packing 3 refl)
+    (code-pick packing (ltb 4611686018427387903 time) _ _ (code-in packing 4 refl) (code-none packing)))
+    (code-in packing 2 refl))))
+
+-- The refusal that ends the calls, if any, is of the list.
+unfoldable Ends : FillingWith → Type 0
+Ends f = Code packing (f .progress .code)
+
+ends-reached : (used k chunks : ℕ) (ws es bs : List ℕ) → Ends (fillingWith (reached used k chunks 0) ws es bs)
+unfolding Ends
+ends-reached used k chunks ws es bs = code-none packing
+
+ends-refused : (used k chunks code : ℕ) (ws es bs : List ℕ) → among code packing ≡ true → Ends (fillingWith (reached used k chunks code) ws es bs)
+unfolding Ends
+ends-refused used k chunks code ws es bs h = code-in packing code h
+
+-- the number of a refused call
+refused-number : (p : ProducedWith) (code : ℕ) → p .answer ≡ produced.Refused code → Sends packing refl p → among code packing ≡ true
+unfolding Sends
+refused-number p code e h = let u : sentRefused (p .answer) ≡ true → among (producedNumber (p .answer)) packing ≡ true = h in rw e at u refl
+
+one-listed : (k : ChunkKind) (st : List ℕ) (time : ℕ) (ws es bs : List ℕ) (used j tsn size : ℕ) → Sends packing refl (oneFilled k st time ws es bs used j tsn size)
+unfolding oneFilled Sends
+one-listed k st time ws es bs used j tsn size = next-listed packing refl ws st es _ time size j
+
+-- a number that is not 0 is of the list
+coded : (n : ℕ) → Code packing n → ltb 0 n ≡ true → among n packing ≡ true
+unfolding Code
+coded n h e = h e
+
+finished-listed : (r : Filling) → Code packing (r .code) → fillRefused (finishedAnswer r) ≡ true → among (filledNumber (finishedAnswer r)) packing ≡ true
+unfolding finishedAnswer
+finished-listed r h = go (eqb (r .chunks) 0) (ltb 0 (r .code)) refl
+  where
+    go : (a b : Bool) → ltb 0 (r .code) ≡ b
+        → let x = pick a (pick b (packet.Refused (r .code)) (packet.Filled (r .events) 0 0)) (packet.Filled (r .events) (r .used) (r .chunks)) in fillRefused x ≡ true → among (filledNumber x) packing ≡ true
+    go true true e f = coded (r .code) h e
+    go true false e f = not-refused f
+    go false b e f = not-refused f
+
+fills-listed : (turns : ℕ) (k : ChunkKind) (st : List ℕ) (time limit most : ℕ) (ws es bs : List ℕ) (used j chunks tsn : ℕ) → Ends (fillOn turns k st time limit most ws es bs used j chunks tsn)
+unfolding fillOn
+fills-listed zero k st time limit most ws es bs used j chunks tsn = ends-reached used j chunks ws es bs
+fills-listed (suc turns) k st time limit most ws es bs used j chunks tsn =
+    go (λ l v b u i c t. fills-listed turns k st time limit most l v b u i c t) (eqb (sizeAsked k limit most used) 0)
+  where
+    p : ProducedWith
+    p = oneFilled k st time ws es bs used j tsn (sizeAsked k limit most used)
+
+    Again : Type 0
+    Again = (l v b : List ℕ) (u i c t : ℕ) → Ends (fillOn turns k st time limit most l v b u i c t)
+
+    listed-one : Sends packing refl (oneFilled k st time ws es bs used j tsn (sizeAsked k limit most used))
+    listed-one = one-listed k st time ws es bs used j tsn (sizeAsked k limit most used)
+
+    on : Again → (r : Produced) → p .answer ≡ r → Ends (afterOne (λ (l v b : List ℕ) (u i c t : ℕ). fillOn turns k st time limit most l v b u i c t) k used j chunks tsn (p .words) (p .events) (p .buffer) r)
+    on g (produced.Fragment i d) e = g (p .words) (p .events) (p .buffer) (used + padded (headerSize k + d .«data» .length)) i (chunks + 1) (wrap-suc 32 tsn)
+    on g (produced.Nothing i) e = ends-reached used i chunks (p .words) (p .events) (p .buffer)
+    on g (produced.Refused code) e = ends-refused used j chunks code (p .words) (p .events) (p .buffer) (refused-number p code e listed-one)
+
+    go : Again → (b : Bool) → Ends (pick b (fillingWith (reached used j chunks 0) ws es bs) (andOn (λ (l v b : List ℕ) (u i c t : ℕ). fillOn turns k st time limit most l v b u i c t) k used j chunks tsn p))
+    go g true = ends-reached used j chunks ws es bs
+    go g false = on g (p .answer) refl
+
+fill-listed : (ws st es bs : List ℕ) (time : ℕ) (p : Packet) → fillRefused (fillPacket ws st es bs time p .answer) ≡ true → among (filledNumber (fillPacket ws st es bs time p .answer)) packing ≡ true
+unfolding fillPacket Ends
+fill-listed ws st es bs time p = judged (ltb 0 (fillCode ws (length st) (length es) (length bs) time (p .limit))) refl
+  where
+    f : FillingWith
+    f = fillOn (p .limit) (kindOf (totalsAt ws .interleaving)) st time (p .limit) (optionsAt ws .«payload_limit») ws es bs common-header-length 0 0 (p .tsn)
+
+    judged : (b : Bool) → ltb 0 (fillCode ws (length st) (length es) (length bs) time (p .limit)) ≡ b
+        → let x = pick b (filledWith (packet.Refused (fillCode ws (length st) (length es) (length bs) time (p .limit))) ws es bs) (finished p f) in fillRefused (x .answer) ≡ true → among (filledNumber (x .answer)) packing ≡ true
+    judged true e h = coded (fillCode ws (length st) (length es) (length bs) time (p .limit)) (packing-code ws (length st) (length es) (length bs) time (p .limit)) e
+    judged false e h = finished-listed (f .progress) (fills-listed (p .limit) (kindOf (totalsAt ws .interleaving)) st time (p .limit) (optionsAt ws .«payload_limit») ws es bs common-header-length 0 0 (p .tsn)) h
 
 -- ---- the theorem
 
@@ -553,6 +657,7 @@ pub refusals-listed : RefusalsListed
 unfolding step Quiet Loud Stores Readies Asks Tells Sends
 refusals-listed (add time m payload) s e = add-listed (s .words) (s .store) time m payload e
 refusals-listed (produce es bs time size) s e = produce-listed (s .words) (s .store) es bs time size e
+refusals-listed (fill es bs time p) s e = fill-listed (s .words) (s .store) es bs time p e
 refusals-listed (discard es id k) s e = discard-listed (s .words) es id k e
 refusals-listed (close es id) s e = close-listed (s .words) es id e
 refusals-listed ready-ids s e = ready-listed (s .words) e

@@ -26,7 +26,7 @@ use Rattle.queue_sending.specs.declared.data.Produced.the-variants as produced
 use Rattle.queue_state.specs.Promise as promise
 use Rattle.queue_state.proofs.Singles.{model-schedules}
 use Rattle.linked_sending.specs.Meaning.{dataOf}
-use Rattle.queue_runs.specs.Calls.{Call, add, produce, discard, close, ready-ids, commit, rollback, reset, set-threshold, set-priority, set-interleaving, restore, ask-priority, ask-amount, ask-threshold, ask-total, ask-empty, ask-has-data, ask-streams-ready, ask-readiness, callOf, Typed, Shown, called, sent}
+use Rattle.queue_runs.specs.Calls.{Call, add, produce, fill, discard, close, ready-ids, commit, rollback, reset, set-threshold, set-priority, set-interleaving, restore, ask-priority, ask-amount, ask-threshold, ask-total, ask-empty, ask-has-data, ask-streams-ready, ask-readiness, callOf, Typed, Shown, called, sent}
 use Rattle.queue_runs.specs.Run.{State, step}
 use Rattle.queue_runs.specs.Meaning.{queueOf, Good, sentOf}
 use Rattle.queue_runs.specs.Creation.{Arguments, optionsWith, newState}
@@ -51,27 +51,28 @@ done-accepted time image s g t e =
     let o = meant (restore time image) s .outcome in
     ap (λ (x : Shown). refusal (x .answer)) (step-link (restore time image) s g t .shows-are) ∙ ap (λ (x : plain.Answer). refusal (called (promise.callOf x (length (o .events))))) e
 
-pub uninterleaved : (P : Option Handover → Type 0) (c : Call) (s : State) → Good s → Typed c → Uninterleaved P c s → model.Uninterleaved P (callOf (length (s .store)) c) (queueOf s)
-uninterleaved P (add time m payload) s g t u = u
-uninterleaved P (produce es bs time size) s g t u = u
-uninterleaved P (discard es id k) s g t u = u
-uninterleaved P (close es id) s g t u = u
-uninterleaved P ready-ids s g t u = u
-uninterleaved P commit s g t u = u
-uninterleaved P rollback s g t u = u
-uninterleaved P reset s g t u = u
-uninterleaved P (set-threshold es id n) s g t u = u
-uninterleaved P (set-priority id p) s g t u = u
-uninterleaved P (set-interleaving b) s g t u = u
-uninterleaved P (restore time image) s g t u = λ e. u (done-accepted time image s g t e)
-uninterleaved P (ask-priority id) s g t u = u
-uninterleaved P (ask-amount id) s g t u = u
-uninterleaved P (ask-threshold id) s g t u = u
-uninterleaved P ask-total s g t u = u
-uninterleaved P ask-empty s g t u = u
-uninterleaved P ask-has-data s g t u = u
-uninterleaved P ask-streams-ready s g t u = u
-uninterleaved P ask-readiness s g t u = u
+pub uninterleaved : (F : Type 0) (P : Option Handover → Type 0) (c : Call) (s : State) → Good s → Typed c → Uninterleaved F P c s → model.Uninterleaved F P (callOf (length (s .store)) c) (queueOf s)
+uninterleaved F P (add time m payload) s g t u = u
+uninterleaved F P (produce es bs time size) s g t u = u
+uninterleaved F P (fill es bs time p) s g t u = u
+uninterleaved F P (discard es id k) s g t u = u
+uninterleaved F P (close es id) s g t u = u
+uninterleaved F P ready-ids s g t u = u
+uninterleaved F P commit s g t u = u
+uninterleaved F P rollback s g t u = u
+uninterleaved F P reset s g t u = u
+uninterleaved F P (set-threshold es id n) s g t u = u
+uninterleaved F P (set-priority id p) s g t u = u
+uninterleaved F P (set-interleaving b) s g t u = u
+uninterleaved F P (restore time image) s g t u = λ e. u (done-accepted time image s g t e)
+uninterleaved F P (ask-priority id) s g t u = u
+uninterleaved F P (ask-amount id) s g t u = u
+uninterleaved F P (ask-threshold id) s g t u = u
+uninterleaved F P ask-total s g t u = u
+uninterleaved F P ask-empty s g t u = u
+uninterleaved F P ask-has-data s g t u = u
+uninterleaved F P ask-streams-ready s g t u = u
+uninterleaved F P ask-readiness s g t u = u
 
 never-stands : {a : Arguments} {len : ℕ} {s : State} → NeverInterleaved a len s → Stands (optionsWith a len) len s
 never-stands {a} {len} (at-first {before = b} c e) =
@@ -83,7 +84,7 @@ never-stands {a} {len} (later {s = s} n c t u) =
     let k = step-link c s (h .good) t in
     record {
       good = k .good;
-      never = subst (model.NeverInterleaved (optionsWith a len)) (sym (k .next-is)) (model.later (h .never) (callOf (length (s .store)) c) (typed-call (length (s .store)) c (store-small s (h .good)) t) (uninterleaved AtMostOne c s (h .good) t u));
+      never = subst (model.NeverInterleaved (optionsWith a len)) (sym (k .next-is)) (model.later (h .never) (callOf (length (s .store)) c) (typed-call (length (s .store)) c (store-small s (h .good)) t) (uninterleaved (Unit {0}) AtMostOne c s (h .good) t u));
       store-is = k .same-store ∙ h .store-is;
     }
 

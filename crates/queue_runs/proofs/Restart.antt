@@ -19,7 +19,7 @@ use Rattle.queue_model.proofs.Restart as theorem
 use Rattle.queue_streams.specs.declared.answers.Call.the-variants as call
 use Rattle.queue_sending.specs.declared.data.DataToSend.{DataToSend}
 use Rattle.linked_sending.specs.Meaning.{dataOf}
-use Rattle.queue_runs.specs.Calls.{Call, add, produce, discard, close, ready-ids, commit, rollback, reset, set-threshold, set-priority, set-interleaving, restore, ask-priority, ask-amount, ask-threshold, ask-total, ask-empty, ask-has-data, ask-streams-ready, ask-readiness, callOf, Typed, Shown, called}
+use Rattle.queue_runs.specs.Calls.{Call, add, produce, fill, discard, close, ready-ids, commit, rollback, reset, set-threshold, set-priority, set-interleaving, restore, ask-priority, ask-amount, ask-threshold, ask-total, ask-empty, ask-has-data, ask-streams-ready, ask-readiness, callOf, Typed, Shown, called}
 use Rattle.queue_runs.specs.Run as runs
 use Rattle.queue_runs.specs.Run.{State, step}
 use Rattle.queue_runs.specs.Meaning.{queueOf, Good, AllTyped, callsOf, quietOf}
@@ -66,26 +66,27 @@ first-afresh (f ∷ fs) a = record { first = a .first; mid = a .mid; ssn = a .ss
 -- ------------------------------------------------------------------ no restoring
 
 not-restored : (c : Call) (s : State) → Good s → Typed c → NotRestored c s → model.NotRestored (callOf (length (s .store)) c) (queueOf s)
-not-restored (add time m payload) s g t n = λ x y z e d. let u : _≡_ {A = ℕ} 0 1 = cc in omega arith
-not-restored (produce es bs time size) s g t n = λ x y z e d. let u : _≡_ {A = ℕ} 0 1 = cc in omega arith
-not-restored (discard es id m) s g t n = λ x y z e d. let u : _≡_ {A = ℕ} 0 1 = cc in omega arith
-not-restored (close es id) s g t n = λ x y z e d. let u : _≡_ {A = ℕ} 0 1 = cc in omega arith
-not-restored ready-ids s g t n = λ x y z e d. let u : _≡_ {A = ℕ} 0 1 = cc in omega arith
-not-restored commit s g t n = λ x y z e d. let u : _≡_ {A = ℕ} 0 1 = cc in omega arith
-not-restored rollback s g t n = λ x y z e d. let u : _≡_ {A = ℕ} 0 1 = cc in omega arith
-not-restored reset s g t n = λ x y z e d. let u : _≡_ {A = ℕ} 0 1 = cc in omega arith
-not-restored (set-threshold es id v) s g t n = λ x y z e d. let u : _≡_ {A = ℕ} 0 1 = cc in omega arith
-not-restored (set-priority id p) s g t n = λ x y z e d. let u : _≡_ {A = ℕ} 0 1 = cc in omega arith
-not-restored (set-interleaving b) s g t n = λ x y z e d. let u : _≡_ {A = ℕ} 0 1 = cc in omega arith
-not-restored (restore time image) s g t n = λ x y z e d. n time image refl (done-accepted time image s g t d)
-not-restored (ask-priority id) s g t n = λ x y z e d. let u : _≡_ {A = ℕ} 0 1 = cc in omega arith
-not-restored (ask-amount id) s g t n = λ x y z e d. let u : _≡_ {A = ℕ} 0 1 = cc in omega arith
-not-restored (ask-threshold id) s g t n = λ x y z e d. let u : _≡_ {A = ℕ} 0 1 = cc in omega arith
-not-restored ask-total s g t n = λ x y z e d. let u : _≡_ {A = ℕ} 0 1 = cc in omega arith
-not-restored ask-empty s g t n = λ x y z e d. let u : _≡_ {A = ℕ} 0 1 = cc in omega arith
-not-restored ask-has-data s g t n = λ x y z e d. let u : _≡_ {A = ℕ} 0 1 = cc in omega arith
-not-restored ask-streams-ready s g t n = λ x y z e d. let u : _≡_ {A = ℕ} 0 1 = cc in omega arith
-not-restored ask-readiness s g t n = λ x y z e d. let u : _≡_ {A = ℕ} 0 1 = cc in omega arith
+not-restored (add time m payload) s g t n = (λ x y z e d. let u : _≡_ {A = ℕ} 0 1 = cc in omega arith, λ a b c d k e. let u : _≡_ {A = ℕ} 0 1 = cc in omega arith)
+not-restored (produce es bs time size) s g t n = (λ x y z e d. let u : _≡_ {A = ℕ} 0 1 = cc in omega arith, λ a b c d k e. let u : _≡_ {A = ℕ} 0 1 = cc in omega arith)
+not-restored (fill es bs time p) s g t n = absurd (n .1 es bs time p refl)
+not-restored (discard es id m) s g t n = (λ x y z e d. let u : _≡_ {A = ℕ} 0 1 = cc in omega arith, λ a b c d k e. let u : _≡_ {A = ℕ} 0 1 = cc in omega arith)
+not-restored (close es id) s g t n = (λ x y z e d. let u : _≡_ {A = ℕ} 0 1 = cc in omega arith, λ a b c d k e. let u : _≡_ {A = ℕ} 0 1 = cc in omega arith)
+not-restored ready-ids s g t n = (λ x y z e d. let u : _≡_ {A = ℕ} 0 1 = cc in omega arith, λ a b c d k e. let u : _≡_ {A = ℕ} 0 1 = cc in omega arith)
+not-restored commit s g t n = (λ x y z e d. let u : _≡_ {A = ℕ} 0 1 = cc in omega arith, λ a b c d k e. let u : _≡_ {A = ℕ} 0 1 = cc in omega arith)
+not-restored rollback s g t n = (λ x y z e d. let u : _≡_ {A = ℕ} 0 1 = cc in omega arith, λ a b c d k e. let u : _≡_ {A = ℕ} 0 1 = cc in omega arith)
+not-restored reset s g t n = (λ x y z e d. let u : _≡_ {A = ℕ} 0 1 = cc in omega arith, λ a b c d k e. let u : _≡_ {A = ℕ} 0 1 = cc in omega arith)
+not-restored (set-threshold es id v) s g t n = (λ x y z e d. let u : _≡_ {A = ℕ} 0 1 = cc in omega arith, λ a b c d k e. let u : _≡_ {A = ℕ} 0 1 = cc in omega arith)
+not-restored (set-priority id p) s g t n = (λ x y z e d. let u : _≡_ {A = ℕ} 0 1 = cc in omega arith, λ a b c d k e. let u : _≡_ {A = ℕ} 0 1 = cc in omega arith)
+not-restored (set-interleaving b) s g t n = (λ x y z e d. let u : _≡_ {A = ℕ} 0 1 = cc in omega arith, λ a b c d k e. let u : _≡_ {A = ℕ} 0 1 = cc in omega arith)
+not-restored (restore time image) s g t n = (λ x y z e d. n .0 time image refl (done-accepted time image s g t d), λ a b c d k e. let u : _≡_ {A = ℕ} 0 1 = cc in omega arith)
+not-restored (ask-priority id) s g t n = (λ x y z e d. let u : _≡_ {A = ℕ} 0 1 = cc in omega arith, λ a b c d k e. let u : _≡_ {A = ℕ} 0 1 = cc in omega arith)
+not-restored (ask-amount id) s g t n = (λ x y z e d. let u : _≡_ {A = ℕ} 0 1 = cc in omega arith, λ a b c d k e. let u : _≡_ {A = ℕ} 0 1 = cc in omega arith)
+not-restored (ask-threshold id) s g t n = (λ x y z e d. let u : _≡_ {A = ℕ} 0 1 = cc in omega arith, λ a b c d k e. let u : _≡_ {A = ℕ} 0 1 = cc in omega arith)
+not-restored ask-total s g t n = (λ x y z e d. let u : _≡_ {A = ℕ} 0 1 = cc in omega arith, λ a b c d k e. let u : _≡_ {A = ℕ} 0 1 = cc in omega arith)
+not-restored ask-empty s g t n = (λ x y z e d. let u : _≡_ {A = ℕ} 0 1 = cc in omega arith, λ a b c d k e. let u : _≡_ {A = ℕ} 0 1 = cc in omega arith)
+not-restored ask-has-data s g t n = (λ x y z e d. let u : _≡_ {A = ℕ} 0 1 = cc in omega arith, λ a b c d k e. let u : _≡_ {A = ℕ} 0 1 = cc in omega arith)
+not-restored ask-streams-ready s g t n = (λ x y z e d. let u : _≡_ {A = ℕ} 0 1 = cc in omega arith, λ a b c d k e. let u : _≡_ {A = ℕ} 0 1 = cc in omega arith)
+not-restored ask-readiness s g t n = (λ x y z e d. let u : _≡_ {A = ℕ} 0 1 = cc in omega arith, λ a b c d k e. let u : _≡_ {A = ℕ} 0 1 = cc in omega arith)
 
 none-restored : (cs : List Call) (s : State) → Good s → AllTyped cs → NoneRestored cs s → model.NoneRestored (callsOf (length (s .store)) cs) (queueOf s)
 none-restored [] s g t n = tt

@@ -10,8 +10,9 @@ use Rattle.queue_state.specs.Promise as promise
 use Rattle.linked_streams.specs.Questions.{flagOf}
 use Rattle.linked_restarts.specs.Ids.{readyOf}
 use Rattle.linked_sending.specs.Meaning.{producedOf}
+use Rattle.linked_packets.specs.Meaning.{filledOf}
 use Rattle.queue_runs.specs.Calls as calls
-use Rattle.queue_runs.specs.Calls.{Call, Shown, called, sent, readied, number, flag}
+use Rattle.queue_runs.specs.Calls.{Call, Shown, called, sent, filled, readied, number, flag}
 use Rattle.queue_runs.specs.Run.{State, step, run}
 use Rattle.queue_runs.specs.Meaning.{Good, shownOf, AllTyped}
 use Rattle.queue_runs.specs.Creation.{Arguments, newState, Creates, sixteen, NoSixteen}
@@ -28,6 +29,7 @@ called-not (plain.flag b) k e = refl
 called-not (plain.ids l) k e = refl
 called-not (plain.fragment f) k e = refl
 called-not plain.nothing-waits k e = refl
+called-not (plain.filled bs n) k e = refl
 
 sent-not : (a : plain.Answer) (k : ℕ) → model.sixteen a ≡ false → sixteen (sent (producedOf a k)) ≡ false
 sent-not (plain.refused n) k e = e
@@ -37,6 +39,17 @@ sent-not (plain.flag b) k e = refl
 sent-not (plain.ids l) k e = refl
 sent-not (plain.fragment f) k e = refl
 sent-not plain.nothing-waits k e = refl
+sent-not (plain.filled bs n) k e = refl
+
+filled-not : (a : plain.Answer) (k : ℕ) → model.sixteen a ≡ false → sixteen (filled (filledOf a k)) ≡ false
+filled-not (plain.refused n) k e = e
+filled-not plain.done k e = refl
+filled-not (plain.number m) k e = refl
+filled-not (plain.flag b) k e = refl
+filled-not (plain.ids l) k e = refl
+filled-not (plain.fragment f) k e = refl
+filled-not plain.nothing-waits k e = refl
+filled-not (plain.filled bs n) k e = refl
 
 readied-not : (a : plain.Answer) → model.sixteen a ≡ false → sixteen (readied (readyOf a)) ≡ false
 readied-not (plain.refused n) e = e
@@ -46,6 +59,7 @@ readied-not (plain.flag b) e = refl
 readied-not (plain.ids l) e = refl
 readied-not (plain.fragment f) e = refl
 readied-not plain.nothing-waits e = refl
+readied-not (plain.filled bs n) e = refl
 
 number-not : (a : plain.Answer) → model.sixteen a ≡ false → sixteen (number (promise.numberOf a)) ≡ false
 number-not (plain.refused n) e = e
@@ -55,6 +69,7 @@ number-not (plain.flag b) e = refl
 number-not (plain.ids l) e = refl
 number-not (plain.fragment f) e = refl
 number-not plain.nothing-waits e = refl
+number-not (plain.filled bs n) e = refl
 
 flag-not : (a : plain.Answer) → model.sixteen a ≡ false → sixteen (flag (flagOf a)) ≡ false
 flag-not (plain.refused n) e = e
@@ -64,11 +79,13 @@ flag-not (plain.flag b) e = refl
 flag-not (plain.ids l) e = refl
 flag-not (plain.fragment f) e = refl
 flag-not plain.nothing-waits e = refl
+flag-not (plain.filled bs n) e = refl
 
 -- Where the model's answer is not 16, the call does not show it.
 shown-not : (c : Call) (o : Outcome) → model.sixteen (o .answer) ≡ false → sixteen (shownOf c o .answer) ≡ false
 shown-not (calls.add time m payload) o e = called-not (o .answer) _ e
 shown-not (calls.produce es bs time size) o e = sent-not (o .answer) _ e
+shown-not (calls.fill es bs time p) o e = filled-not (o .answer) _ e
 shown-not (calls.discard es id k) o e = called-not (o .answer) _ e
 shown-not (calls.close es id) o e = called-not (o .answer) _ e
 shown-not calls.ready-ids o e = readied-not (o .answer) e

@@ -36,13 +36,17 @@ use Rattle.queue_closing.specs.Walk.{maySweep}
 use Rattle.queue_restarts.specs.Ready as readying
 use Rattle.queue_restarts.specs.Reset.{resetQueue, sumOf}
 use Rattle.queue_sending.specs.Produce.{produceNext}
+use Rattle.packets.specs.declared.packet.PacketFilled.{PacketFilled}
+use Rattle.packets.specs.declared.packet.PacketFilled.the-variants as packet
+use Rattle.packets.specs.Filling.{fillPacket}
+use Rattle.packets.proofs.Refused.{fill-refused}
 use Rattle.queue_sending.specs.declared.data.Produced.{Produced}
 use Rattle.queue_sending.specs.declared.data.Produced.the-variants as produced
 use Rattle.queue_sending.proofs.Passes.{produce-refused}
 use Rattle.handover.specs.Restore as restoring
-use Rattle.queue_runs.specs.Calls.{add, produce, discard, close, ready-ids, commit, rollback, reset, set-threshold, set-priority, set-interleaving, restore, ask-priority, ask-amount, ask-threshold, ask-total, ask-empty, ask-has-data, ask-streams-ready, ask-readiness}
+use Rattle.queue_runs.specs.Calls.{add, produce, fill, discard, close, ready-ids, commit, rollback, reset, set-threshold, set-priority, set-interleaving, restore, ask-priority, ask-amount, ask-threshold, ask-total, ask-empty, ask-has-data, ask-streams-ready, ask-readiness}
 use Rattle.queue_runs.specs.Run.{State, state, step}
-use Rattle.queue_runs.specs.Refusals.{callRefused, sentRefused, RefusedUnchanged}
+use Rattle.queue_runs.specs.Refusals.{callRefused, sentRefused, fillRefused, RefusedUnchanged}
 
 pub not-refused : {G : Type 0} → false ≡ true → G
 not-refused e = let z : _≡_ {A = ℕ} 0 1 = cc in absurd (omega arith)
@@ -209,6 +213,12 @@ sent-code (produced.Nothing k) e = not-refused e
 sent-code (produced.Fragment k d) e = not-refused e
 sent-code (produced.Refused n) e = (n, refl)
 
+-- ---- filling a packet
+
+fill-code : (r : PacketFilled) → fillRefused r ≡ true → (n : ℕ) × (r ≡ packet.Refused n)
+fill-code (packet.Filled k bytes chunks) e = not-refused e
+fill-code (packet.Refused n) e = (n, refl)
+
 -- ---- the theorem
 
 state-is : (s : State) (ws st : List ℕ) → ws ≡ s .words → st ≡ s .store → state ws st ≡ s
@@ -221,6 +231,10 @@ refused-unchanged (produce es bs time size) s e =
     let c = sent-code (produceNext (s .words) (s .store) es bs time size .answer) e in
     let k = produce-refused (s .words) (s .store) es bs time size .stays (c .0) (c .1) in
     record { queue = state-is s _ _ (k .0) refl; events = k .1; buffer = k .2 }
+refused-unchanged (fill es bs time p) s e =
+    let c = fill-code (fillPacket (s .words) (s .store) es bs time p .answer) e in
+    let k = fill-refused (s .words) (s .store) es bs time p .stays (c .0) (c .1) in
+    record { queue = state-is s _ _ (k .0) refl; events = k .1 .0; buffer = k .1 .1 }
 refused-unchanged (discard es id k) s e = let k = discard-stays (s .words) es id k e in record { queue = state-is s _ _ (k .0) refl; events = k .1; buffer = refl }
 refused-unchanged (close es id) s e = let k = close-stays (s .words) es id e in record { queue = state-is s _ _ (k .0) refl; events = k .1; buffer = refl }
 refused-unchanged ready-ids s e = record { queue = state-is s _ _ (ready-stays (s .words) e) refl; events = refl; buffer = refl }

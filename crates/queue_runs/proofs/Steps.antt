@@ -28,10 +28,14 @@ use Rattle.linked_restarts.proofs.Switches.{switch-link}
 use Rattle.linked_restarts.proofs.WholeQueue.{reset-link}
 use Rattle.linked_sending.specs.Meaning.{Sends}
 use Rattle.linked_sending.proofs.Produces.{produce-link}
+use Rattle.packets.specs.declared.packet.Packet.{Packet}
+use Rattle.packets.specs.Filling.{FilledWith, fillPacket}
+use Rattle.linked_packets.specs.Meaning.{Fills}
+use Rattle.linked_packets.proofs.Fills.{fill-link}
 use Rattle.handover.specs.Restore as restoring
 use Rattle.linked_restoring.proofs.Restores.{restore-link}
-use Rattle.queue_runs.specs.Calls.{Call, add, produce, discard, close, ready-ids, commit, rollback, reset, set-threshold, set-priority, set-interleaving, restore, ask-priority, ask-amount, ask-threshold, ask-total, ask-empty, ask-has-data, ask-streams-ready, ask-readiness, callOf, Typed, shown, called, sent, readied, number, flag, count, truth}
-use Rattle.queue_runs.specs.Run.{State, Step, step, quiet, loud, sends, stores}
+use Rattle.queue_runs.specs.Calls.{Call, add, produce, fill, discard, close, ready-ids, commit, rollback, reset, set-threshold, set-priority, set-interleaving, restore, ask-priority, ask-amount, ask-threshold, ask-total, ask-empty, ask-has-data, ask-streams-ready, ask-readiness, callOf, Typed, shown, called, sent, filled, readied, number, flag, count, truth}
+use Rattle.queue_runs.specs.Run.{State, Step, step, quiet, loud, sends, fills, stores}
 use Rattle.queue_runs.specs.Meaning.{queueOf, Good, quietOf, loudOf, shownOf}
 
 -- ------------------------------------------------------------------ the model's call
@@ -47,6 +51,7 @@ store-small s g = let r = room (queueOf s .options) (g .well .creation) in let e
 pub typed-call : (len : ℕ) (c : Call) → len < 2 ^ 64 → Typed c → demands.Typed (callOf len c)
 typed-call len (add time m payload) h t = (h, (t .0, t .1 .0))
 typed-call len (produce es bs time size) h t = let l = t .0 .0 in (h, (omega arith, (t .1 .0 .0, t .1 .1)))
+typed-call len (fill es bs time p) h t = let l = t .0 .0 in (h, (omega arith, (t .1 .0 .0, t .1 .1)))
 typed-call len (discard es id k) h t = let l = t .0 .0 in (omega arith, t .1)
 typed-call len (close es id) h t = let l = t .0 .0 in (omega arith, t .1)
 typed-call len ready-ids h t = t
@@ -109,11 +114,15 @@ loud-told c s es r f d = record { good = d .does .good; next-is = d .does .next;
 sends-told : (s : State) (es bs : List ℕ) (time size : ℕ) (r : ProducedWith) → Sends (meant (produce es bs time size) s) (s .store) es bs r → Told (produce es bs time size) s (sends r (s .store))
 sends-told s es bs time size r d = record { good = d .good; next-is = d .next; shows-are = λ i. shown (sent (d .answer i)) (d .events i) (d .buffer i) }
 
+fills-told : (s : State) (es bs : List ℕ) (time : ℕ) (p : Packet) (r : FilledWith) → Fills (meant (fill es bs time p) s) (s .store) es bs r → Told (fill es bs time p) s (fills r (s .store))
+fills-told s es bs time p r d = record { good = d .good; next-is = d .next; shows-are = λ i. shown (filled (d .answer i)) (d .events i) (d .packet i) }
+
 -- Every call is the model's.
 pub step-told : (c : Call) (s : State) → Good s → Typed c → Told c s (step c s)
 unfolding step
 step-told (add time m payload) s g t = stores-told (add time m payload) s (adding.add (s .words) (s .store) time m payload) (λ o. refl) (add-link (s .words) (s .store) g time m payload (t .0) (t .1 .0))
 step-told (produce es bs time size) s g t = sends-told s es bs time size (produceNext (s .words) (s .store) es bs time size) (produce-link (s .words) (s .store) es bs time size g)
+step-told (fill es bs time p) s g t = fills-told s es bs time p (fillPacket (s .words) (s .store) es bs time p) (fill-link (s .words) (s .store) es bs time p g)
 step-told (discard es id k) s g t = loud-told (discard es id k) s es _ (λ o. refl) (discard-link (s .words) (s .store) es id k g (t .1 .0) (t .1 .1) (t .0 .0))
 step-told (close es id) s g t = loud-told (close es id) s es _ (λ o. refl) (close-link (s .words) (s .store) es id g (t .1) (t .0 .0))
 step-told ready-ids s g t = let d = ready-link (s .words) (s .store) g in record { good = d .good; next-is = d .next; shows-are = ap (λ a. shown (readied a) [] []) (d .answer) }

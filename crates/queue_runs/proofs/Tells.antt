@@ -8,7 +8,7 @@ use native.Mathlib.Omega.{arith}
 use lib.ListN.{length, getD, set, length-set, take, drop}
 use lib.Seq.{getD-set-same, getD-set-other, take-append-seam}
 use Rattle.types.specs.Keys.{key-of, key-id, key-unordered}
-use Rattle.queue_model.specs.Types.{Event, Fragment, refused, done, number, flag, ids, fragment, nothing-waits, Outcome}
+use Rattle.queue_model.specs.Types.{Event, Fragment, refused, done, number, flag, ids, fragment, nothing-waits, filled, Outcome}
 use Rattle.queue_streams.specs.Events.{placeWords, eventWords, putEvent, written}
 use Rattle.queue_restarts.specs.declared.ready.ReadyStreams.{ReadyStreams}
 use Rattle.queue_sending.specs.declared.data.DataToSend.{DataToSend}
@@ -20,9 +20,9 @@ use Rattle.linked_streams.specs.Questions.{flagOf}
 use Rattle.queue_state.specs.Promise as promise
 use Rattle.queue_runs.specs.Calls as calls
 use Rattle.queue_runs.specs.Calls.{Call, callOf, Shown}
-use Rattle.queue_runs.specs.Meaning.{quietOf, loudOf, sentOf, countOf, truthOf, shownOf}
+use Rattle.queue_runs.specs.Meaning.{quietOf, loudOf, sentOf, packedOf, countOf, truthOf, shownOf}
 use Rattle.queue_runs.proofs.Forms as form
-use Rattle.queue_runs.proofs.Forms.{told, Quiet, Loud, Sent, Ids, Form}
+use Rattle.queue_runs.proofs.Forms.{told, Quiet, Loud, Sent, Filled, Ids, Form}
 
 -- ------------------------------------------------------------------ events
 
@@ -172,6 +172,7 @@ sent-tell es bs o p h f (form.sent-fragment x us) (form.sent-fragment y vs) e =
     eventsIn : calls.Answer → ℕ
     eventsIn (calls.called c) = 0
     eventsIn (calls.sent p) = countIn p
+    eventsIn (calls.filled p) = 0
     eventsIn (calls.readied r) = 0
     eventsIn (calls.number n) = 0
     eventsIn (calls.flag f) = 0
@@ -181,11 +182,20 @@ sent-tell es bs o p h f (form.sent-fragment x us) (form.sent-fragment y vs) e =
     dataIn : DataToSend → calls.Answer → DataToSend
     dataIn d (calls.called c) = d
     dataIn d (calls.sent p) = dataAmong d p
+    dataIn d (calls.filled p) = d
     dataIn d (calls.readied r) = d
     dataIn d (calls.number n) = d
     dataIn d (calls.flag f) = d
     dataIn d (calls.count n) = d
     dataIn d (calls.truth b) = d
+
+fill-tell : (es bs : List ℕ) (o p : Outcome) → eventWords ≤ length es → length (o .events) ≤ 2305 → Filled o → Filled p → packedOf es bs o ≡ packedOf es bs p → o ≡ p
+fill-tell es bs o p h f (form.filled-refused n) (form.filled-refused m) e = let a = answers e in let z : n ≡ m = cc in ap (λ (k : ℕ). told (refused k) []) z
+fill-tell es bs o p h f (form.filled-refused n) (form.filled-told ys m vs) e = let a = answers e in let z : _≡_ {A = ℕ} 0 1 = cc in absurd (omega arith)
+fill-tell es bs o p h f (form.filled-told xs n us) (form.filled-refused m) e = let a = answers e in let z : _≡_ {A = ℕ} 0 1 = cc in absurd (omega arith)
+fill-tell es bs o p h f (form.filled-told xs n us) (form.filled-told ys m vs) e =
+    let a = answers e in let z : length us ≡ length vs = cc in let l : length xs ≡ length ys = cc in let c : n ≡ m = cc in
+    λ i. told (filled (bytes-tell xs ys bs l (ap (λ (w : Shown). w .buffer) e) i) (c i)) (events-tell es us vs h f z (ap (λ (w : Shown). w .events) e) i)
 
 ids-tell : (o p : Outcome) → Ids o → Ids p → readyOf (o .answer) ≡ readyOf (p .answer) → o ≡ p
 ids-tell o p (form.ids-told l) (form.ids-told m) e =
@@ -209,6 +219,7 @@ truth-tell o p (form.flag-told n) (form.flag-told m) e = ap (λ (k : Bool). told
 abbrev pub Long : Call → Type 0
 Long (calls.add time m payload) = Unit {0}
 Long (calls.produce es bs time size) = eventWords ≤ length es
+Long (calls.fill es bs time p) = eventWords ≤ length es
 Long (calls.discard es id k) = eventWords ≤ length es
 Long (calls.close es id) = eventWords ≤ length es
 Long calls.ready-ids = Unit {0}
@@ -232,6 +243,7 @@ Long calls.ask-readiness = Unit {0}
 pub shows-tell : (len : ℕ) (c : Call) (o p : Outcome) → Long c → length (o .events) ≤ 2305 → Form (callOf len c) o → Form (callOf len c) p → shownOf c o ≡ shownOf c p → o ≡ p
 shows-tell len (calls.add time m payload) o p h f a b e = quiet-tell o p a b e
 shows-tell len (calls.produce es bs time size) o p h f a b e = sent-tell es bs o p h f a b e
+shows-tell len (calls.fill es bs time k) o p h f a b e = fill-tell es bs o p h f a b e
 shows-tell len (calls.discard es id k) o p h f a b e = loud-tell es o p h f a b e
 shows-tell len (calls.close es id) o p h f a b e = loud-tell es o p h f a b e
 shows-tell len calls.ready-ids o p h f a b e = let x = answers e in let z : readyOf (o .answer) ≡ readyOf (p .answer) = cc in ids-tell o p a b z

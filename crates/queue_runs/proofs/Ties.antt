@@ -18,10 +18,14 @@ use Rattle.linked_dropping.specs.Meets.{DiscardMeets, CloseMeets}
 use Rattle.linked_restarts.specs.Contracts.{CommitMeets, RollbackMeets, SwitchMeets, ResetMeets, ReadyMeets}
 use Rattle.linked_restoring.specs.Restore.{RestoreMeets}
 use Rattle.linked_sending.specs.Meaning.{ProduceMeets}
+use Rattle.packets.specs.Filling.{FilledWith}
+use Rattle.packets.specs.declared.packet.Packet.{Packet}
+use Rattle.packets.specs.declared.packet.PacketFilled.{PacketFilled}
+use Rattle.linked_packets.specs.Meaning.{FillMeets}
 use Rattle.linked_streams.specs.Questions as asked
 use Rattle.linked_streams.specs.Settings.{SetPriorityMeets, SetThresholdMeets}
-use Rattle.queue_runs.specs.Calls.{add, produce, discard, close, ready-ids, commit, rollback, reset, set-threshold, set-priority, set-interleaving, restore, ask-priority, ask-amount, ask-threshold, ask-total, ask-empty, ask-has-data, ask-streams-ready, ask-readiness, shown, called, sent, readied, number, flag, count, truth}
-use Rattle.queue_runs.specs.Run.{state, stepped, step, stores, sends, loud, quiet, readies}
+use Rattle.queue_runs.specs.Calls.{add, produce, fill, discard, close, ready-ids, commit, rollback, reset, set-threshold, set-priority, set-interleaving, restore, ask-priority, ask-amount, ask-threshold, ask-total, ask-empty, ask-has-data, ask-streams-ready, ask-readiness, shown, called, sent, filled, readied, number, flag, count, truth}
+use Rattle.queue_runs.specs.Run.{state, stepped, step, stores, sends, fills, loud, quiet, readies}
 
 module _ (ws st : List ℕ) where
   pub add-tied : (time : ℕ) (m : Message) (bs : List ℕ) (r : answer.Call) (ws′ st′ : List ℕ) → AddMeets ws st time m bs r ws′ st′
@@ -33,6 +37,11 @@ module _ (ws st : List ℕ) where
       → step (produce es bs time size) (state ws st) ≡ stepped (shown (sent r) es′ bs′) (state ws′ st)
   unfolding step
   produce-tied es bs time size r ws′ es′ bs′ h = ap (λ (x : ProducedWith). sends x st) (sym (h .words))
+
+  pub fill-tied : (es bs : List ℕ) (time : ℕ) (p : Packet) (r : PacketFilled) (ws′ es′ bs′ : List ℕ) → FillMeets ws st es bs time p r ws′ es′ bs′
+      → step (fill es bs time p) (state ws st) ≡ stepped (shown (filled r) es′ bs′) (state ws′ st)
+  unfolding step
+  fill-tied es bs time p r ws′ es′ bs′ h = ap (λ (x : FilledWith). fills x st) (sym (h .words))
 
   pub discard-tied : (es : List ℕ) (id k : ℕ) (r : answer.Call) (ws′ es′ : List ℕ) → DiscardMeets ws es ws′ es′ id k r
       → step (discard es id k) (state ws st) ≡ stepped (shown (called r) es′ []) (state ws′ st)

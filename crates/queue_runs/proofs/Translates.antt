@@ -1,9 +1,9 @@
 -- For every call of the model there is a call with the same step, or it is refused whatever the queue. Assumes nothing.
 use mathlib.Core.Path.{_≡_, refl, sym, ap, ap₂, subst, _∙_}
-use mathlib.Core.Bool.{true, false, not}
+use mathlib.Core.Bool.{Bool, true, false, not}
 use mathlib.Core.List.{List, []}
 use mathlib.Core.Option.{Option, none, some, Option·getD}
-use Prim.Native.Nat.{ℕ, _^_, _≤_, _<_, zero, suc}
+use Prim.Native.Nat.{ℕ, _+_, _^_, _≤_, _<_, zero, suc}
 use native.Mathlib.Omega.{arith}
 use borrow.Author.Tests.{lt-ltb, le-ltb, eq-eqb, ne-eqb}
 use lib.Dec.{T, eqb, ltb}
@@ -19,6 +19,10 @@ use Rattle.queue_model.specs.Run as run
 use Rattle.queue_model.specs.Refusals.{first-refusal, refused-or, checked, max-time}
 use Rattle.queue_model.specs.Add as add
 use Rattle.queue_model.specs.Produce as produce
+use Rattle.queue_model.specs.Fill as fill
+use Rattle.queue_model.specs.Fill.{Filling, one-more, and-on, asked, fill-on, filling, filled-with}
+use Rattle.queue_model.specs.Answers.{fragment-in}
+use Rattle.queue_model.specs.Chunks.{chunk-length}
 use Rattle.queue_model.specs.Discard as discard
 use Rattle.queue_model.specs.Close as close
 use Rattle.queue_model.specs.Settings as settings
@@ -32,6 +36,8 @@ use Rattle.queue_messages.specs.declared.message.MaxRetransmissions.{MaxRetrans
 use Rattle.queue_messages.specs.declared.message.MaxRetransmissions.the-variants as retr
 use Rattle.queue_messages.specs.declared.message.Message.{Message}
 use Rattle.linked_adding.specs.Message.{messageOf, retransmissionsOf, lifetimeOf}
+use Rattle.packets.specs.declared.packet.Packet.{Packet}
+use Rattle.packets.specs.Filling.{packetOf}
 use Rattle.queue_runs.specs.Calls as calls
 use Rattle.queue_runs.specs.Calls.{Call, callOf, areWords, Words, Typed}
 use Rattle.queue_runs.proofs.Tells.{Long}
@@ -87,6 +93,14 @@ message-back m = λ i. record {
   payload = m .payload;
 }
 
+-- The packet with these fields.
+packetBack : plain.Packet → Packet
+packetBack p = record { limit = p .limit; «source_port» = p .source-port; «destination_port» = p .destination-port; «verification_tag» = p .verification-tag; tsn = p .tsn }
+
+packet-back : (p : plain.Packet) → packetOf (packetBack p) ≡ p
+unfolding packetBack
+packet-back p = refl
+
 -- ------------------------------------------------------------------ checks
 
 -- A store of another length.
@@ -127,10 +141,43 @@ enough = le-ltb (placesIn places) 2305 (let e = places-long in omega arith)
 
 -- ------------------------------------------------------------------ steps that do not see how many places more there are
 
+-- A filling sees it in its calls alone.
+and-on-same : (n : ℕ) (s : plain.Step) (more less : plain.Fragment → Queue → Filling) → ((f : plain.Fragment) (r : Queue) → more f r ≡ less f r) → (x : Option plain.Fragment) → and-on n s more x ≡ and-on n s less x
+unfolding and-on
+and-on-same n s more less h none = refl
+and-on-same n s more less h (some f) = ap (one-more n s f) (h f (s .next))
+
+call-places : (store p r buffer now size : ℕ) → ltb p 2305 ≡ ltb r 2305 → (q : Queue) → produce.produce store p buffer now size q ≡ produce.produce store r buffer now size q
+unfolding produce.produce
+call-places store p r buffer now size e q = rw e
+
+fill-on-places : (idata : Bool) (store p r now limit : ℕ) → ltb p 2305 ≡ ltb r 2305 → (turns used : ℕ) (q : Queue) → fill-on idata store p now limit turns used q ≡ fill-on idata store r now limit turns used q
+unfolding fill-on asked
+fill-on-places idata store p r now limit e zero used q = refl
+fill-on-places idata store p r now limit e (suc turns) used q = go (λ f x. fill-on-places idata store p r now limit e turns (used + chunk-length idata (length (f .bytes))) x) (fill.size-asked idata limit used q)
+  where
+    more : ℕ → plain.Fragment → Queue → Filling
+    more places f x = fill-on idata store places now limit turns (used + chunk-length idata (length (f .bytes))) x
+
+    go : ((f : plain.Fragment) (x : Queue) → more p f x ≡ more r f x) → (m : ℕ) → asked store p now q (more p) m ≡ asked store r now q (more r) m
+    go h zero = refl
+    go h (suc n) =
+        ap (λ (s : plain.Step). and-on (suc n) s (more p) (fragment-in (s .outcome .answer))) (call-places store p r (suc n) now (suc n) e q)
+        ∙ and-on-same (suc n) (produce.produce store r (suc n) now (suc n) q) (more p) (more r) h (fragment-in ((produce.produce store r (suc n) now (suc n) q) .outcome .answer))
+
+filling-places : (store p r now limit : ℕ) → ltb p 2305 ≡ ltb r 2305 → (q : Queue) → filling store p now limit q ≡ filling store r now limit q
+unfolding filling
+filling-places store p r now limit e q = fill-on-places (q .interleaving) store p r now limit e limit fill.common-header-length q
+
 module _ (q : Queue) where
   produce-places : (store p r buffer now size : ℕ) → ltb p 2305 ≡ ltb r 2305 → run.step (run.produce store p buffer now size) q ≡ run.step (run.produce store r buffer now size) q
   unfolding run.step produce.produce
   produce-places store p r buffer now size e = rw e
+
+  fill-places : (store p r buffer now : ℕ) (k : plain.Packet) → ltb p 2305 ≡ ltb r 2305 → run.step (run.fill store p buffer now k) q ≡ run.step (run.fill store r buffer now k) q
+  unfolding run.step fill.fill
+  fill-places store p r buffer now k e =
+      rw e (ap (λ (f : Filling). checked (fill.fill-checks store r buffer now (k .limit) q) q (filled-with k q f (f .fragments) (f .refusal))) (filling-places store p r now (k .limit) e q))
 
   discard-places : (p r s k : ℕ) → ltb p 2305 ≡ ltb r 2305 → run.step (run.discard p s k) q ≡ run.step (run.discard r s k) q
   unfolding run.step discard.discard
@@ -148,6 +195,27 @@ module _ (q : Queue) where
   produce-few : (store len p buffer now size : ℕ) → store ≡ len → q .options .store-length ≡ len → p < 2305 → run.step (run.produce store p buffer now size) q ≡ refuse q 3
   unfolding run.step produce.produce checked first-refusal refused-or
   produce-few store len p buffer now size h e f = rw (same-store store len q h e, lt-ltb p 2305 f)
+
+  fill-outside : (store p buffer now : ℕ) (k : plain.Packet) → k .limit < 36 → run.step (run.fill store p buffer now k) q ≡ refuse q 20
+  unfolding run.step fill.fill checked first-refusal refused-or
+  fill-outside store p buffer now k h = rw (lt-ltb (k .limit) 36 h)
+
+  fill-above : (store p buffer now : ℕ) (k : plain.Packet) → 36 ≤ k .limit → 65535 < k .limit → run.step (run.fill store p buffer now k) q ≡ refuse q 20
+  unfolding run.step fill.fill checked first-refusal refused-or
+  fill-above store p buffer now k g h = rw (le-ltb (k .limit) 36 g, lt-ltb 65535 (k .limit) h)
+
+  module _ (store p buffer now : ℕ) (k : plain.Packet) (g : 36 ≤ k .limit) (h : k .limit ≤ 65535) where
+    fill-short : buffer < k .limit → run.step (run.fill store p buffer now k) q ≡ refuse q 21
+    unfolding run.step fill.fill checked first-refusal refused-or
+    fill-short f = rw (le-ltb (k .limit) 36 g, le-ltb 65535 (k .limit) h, lt-ltb buffer (k .limit) f)
+
+    fill-other : (len : ℕ) → k .limit ≤ buffer → (store ≡ len → ⊥) → q .options .store-length ≡ len → run.step (run.fill store p buffer now k) q ≡ refuse q 2
+    unfolding run.step fill.fill checked first-refusal refused-or
+    fill-other len f n e = rw (le-ltb (k .limit) 36 g, le-ltb 65535 (k .limit) h, le-ltb buffer (k .limit) f, other-store store len q n e)
+
+    fill-few : (len : ℕ) → k .limit ≤ buffer → store ≡ len → q .options .store-length ≡ len → p < 2305 → run.step (run.fill store p buffer now k) q ≡ refuse q 3
+    unfolding run.step fill.fill checked first-refusal refused-or
+    fill-few len f n e l = rw (le-ltb (k .limit) 36 g, le-ltb 65535 (k .limit) h, le-ltb buffer (k .limit) f, same-store store len q n e, lt-ltb p 2305 l)
 
   discard-few : (p s k : ℕ) → p < 2305 → run.step (run.discard p s k) q ≡ refuse q 3
   unfolding run.step discard.discard checked first-refusal refused-or
@@ -212,6 +280,22 @@ translate len (run.produce store p buffer now size) t = by-index store len
     stands-for (calls.produce places bs now size) (places-lent, ((subst (λ (n : ℕ). n < 2 ^ 64) (sym lb) (t .1 .1 .0), zero-bytes buffer), t .1 .1 .1)) (omega arith)
     (λ q. ap₂ (λ (n k : ℕ). run.step (run.produce n (placesIn places) k now size) q) (sym e) lb ∙ produce-places q store (placesIn places) p buffer now size (enough ∙ sym (le-ltb p 2305 f)))))
     (λ e. left-out 2 (λ q h. produce-other q store len p buffer now size e h))
+translate len (run.fill store p buffer now k) t = by-lt (k .limit) 36
+    (λ a. left-out 20 (λ q h. fill-outside q store p buffer now k a))
+    (λ a. by-lt 65535 (k .limit)
+    (λ b. left-out 20 (λ q h. fill-above q store p buffer now k a b))
+    (λ b. by-lt buffer (k .limit)
+    (λ c. left-out 21 (λ q h. fill-short q store p buffer now k a b c))
+    (λ c. by-index store len
+    (λ e. by-lt p 2305
+    (λ f. left-out 3 (λ q h. fill-few q store p buffer now k a b len c e h f))
+    (λ f.
+    let lp = places-long in
+    let bs : List ℕ = replicate buffer 0 in
+    let lb : length bs ≡ buffer = length-replicate {A = ℕ} buffer 0 in
+    stands-for (calls.fill places bs now (packetBack k)) (places-lent, ((subst (λ (n : ℕ). n < 2 ^ 64) (sym lb) (t .1 .1 .0), zero-bytes buffer), (t .1 .1 .1 .0, subst demands.PacketTyped (sym (packet-back k)) (t .1 .1 .1 .1)))) (omega arith)
+    (λ q. (λ i. run.step (run.fill (sym e i) (placesIn places) (lb i) now (packet-back k i)) q) ∙ fill-places q store (placesIn places) p buffer now k (enough ∙ sym (le-ltb p 2305 f)))))
+    (λ e. left-out 2 (λ q h. fill-other q store p buffer now k a b len c e h)))))
 translate len (run.discard p s k) t = by-lt p 2305
     (λ f. left-out 3 (λ q h. discard-few q p s k f))
     (λ f. let lp = places-long in stands-for (calls.discard places s k) (places-lent, t .1) (omega arith) (λ q. discard-places q (placesIn places) p s k (enough ∙ sym (le-ltb p 2305 f))))

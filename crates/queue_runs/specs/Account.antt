@@ -10,13 +10,15 @@ use Rattle.queue_model.specs.Streams.{stream-at, waiting}
 use Rattle.queue_model.specs.Close.{closing-bytes}
 use Rattle.queue_model.specs.Reset.{put-back}
 use Rattle.queue_model.specs.Reader.{read-image}
-use Rattle.queue_model.specs.Account.{Account, no-bytes, both, for-stream, passed, head-bytes, image-left}
+use Rattle.queue_model.specs.Account.{Account, no-bytes, both, for-stream, passed, head-bytes, image-left, fill-account}
+use Rattle.queue_model.specs.Fill.{filling}
+use Rattle.queue_streams.specs.Events.{placesIn}
 use Rattle.queue_questions.specs.Questions.{amountOf, totalOf}
 use Rattle.queue_streams.specs.declared.answers.Number.{Number}
 use Rattle.queue_streams.specs.declared.answers.Number.the-variants as number-answer
 use Rattle.queue_sending.specs.declared.data.Produced.{Produced}
 use Rattle.queue_sending.specs.declared.data.Produced.the-variants as produced
-use Rattle.queue_runs.specs.Calls.{Call, add, produce, discard, close, ready-ids, commit, rollback, reset, set-threshold, set-priority, set-interleaving, restore, ask-priority, ask-amount, ask-threshold, ask-total, ask-empty, ask-has-data, ask-streams-ready, ask-readiness, Answer, called, sent, readied, number, flag, count, truth}
+use Rattle.queue_runs.specs.Calls.{Call, add, produce, fill, discard, close, ready-ids, commit, rollback, reset, set-threshold, set-priority, set-interleaving, restore, ask-priority, ask-amount, ask-threshold, ask-total, ask-empty, ask-has-data, ask-streams-ready, ask-readiness, Answer, called, sent, filled, readied, number, flag, count, truth}
 use Rattle.queue_runs.specs.Run.{State, step, after}
 use Rattle.queue_runs.specs.Meaning.{AllTyped, queueOf}
 use Rattle.queue_runs.specs.Refusals.{refusal}
@@ -24,7 +26,7 @@ use Rattle.queue_runs.specs.Creation.{Arguments, newState, Creates}
 
 -- ------------------------------------------------------------------ one call
 
--- The bytes of stream k that an answer hands out.
+-- The bytes of stream k that an answer hands out; those of a filling are counted call by call.
 abbrev pub handedSent : ℕ → Produced → ℕ
 handedSent k (produced.Nothing n) = 0
 handedSent k (produced.Fragment n d) = for-stream k (key-id (d .«data» .«stream_key») .0) (d .«data» .length)
@@ -33,6 +35,7 @@ handedSent k (produced.Refused n) = 0
 abbrev pub handed : ℕ → Answer → ℕ
 handed k (called a) = 0
 handed k (sent a) = handedSent k a
+handed k (filled a) = 0
 handed k (readied r) = 0
 handed k (number a) = 0
 handed k (flag a) = 0
@@ -45,11 +48,14 @@ unlessRefused a n = if refusal a then 0 else n
 
 -- What one call moves in stream k. As in the model's `account`, but the answers are the code's own; the messages that wait are those of the queue that words and store stand for.
 unfoldable pub account : ℕ → Call → State → Account
-unfolding for-stream passed head-bytes closing-bytes image-left read-image find put-back
+unfolding for-stream passed fill-account filling head-bytes closing-bytes image-left read-image find put-back
 account k (add time m payload) s = record { accepted = unlessRefused (step (add time m payload) s .shows .answer) (for-stream k (m .«stream_id» .0) (length payload)); handed-out = 0; dropped-unsent = 0; put-back-whole = 0; left-to-send = 0 }
 account k (produce es bs time size) s =
     let a = step (produce es bs time size) s .shows .answer in
     record { accepted = 0; handed-out = handed k a; dropped-unsent = unlessRefused a (passed k (suc (waiting (queueOf s .streams))) time (queueOf s)); put-back-whole = 0; left-to-send = 0 }
+account k (fill es bs time p) s =
+    if refusal (step (fill es bs time p) s .shows .answer) then no-bytes
+    else fill-account k (length (s .store)) (placesIn es) time ((filling (length (s .store)) (placesIn es) time (p .limit) (queueOf s)) .sizes) (queueOf s)
 account k (discard es id m) s = record { accepted = 0; handed-out = 0; dropped-unsent = unlessRefused (step (discard es id m) s .shows .answer) (for-stream k id (head-bytes m ((stream-at (queueOf s) id) .items))); put-back-whole = 0; left-to-send = 0 }
 account k (close es id) s = record { accepted = 0; handed-out = 0; dropped-unsent = unlessRefused (step (close es id) s .shows .answer) (for-stream k id (closing-bytes ((stream-at (queueOf s) id) .pause-state) ((stream-at (queueOf s) id) .items))); put-back-whole = 0; left-to-send = 0 }
 account k ready-ids s = no-bytes

@@ -1,12 +1,13 @@
 -- The calls on a queue other than saving, with their arguments, and what they show. Assumes nothing.
 use Prim.Native.Nat.{ℕ, _<_, _^_}
+use mathlib.Core.Path.{_≡_}
 use mathlib.Core.Bool.{Bool, true, _&&_}
 use mathlib.Core.List.{List, [], _∷_}
 use lib.Dec.{T, ltb}
 use lib.ListN.{length}
 use lib.Pow.{areBytes}
 use Rattle.queue_model.specs.Run as run
-use Rattle.queue_model.specs.Demands.{MessageTyped}
+use Rattle.queue_model.specs.Demands.{MessageTyped, PacketTyped}
 use Rattle.queue_streams.specs.Events.{placesIn}
 use Rattle.queue_streams.specs.declared.answers.Call as answer
 use Rattle.queue_streams.specs.declared.answers.Flag.{Flag}
@@ -14,12 +15,16 @@ use Rattle.queue_streams.specs.declared.answers.Number.{Number}
 use Rattle.queue_messages.specs.declared.message.Message.{Message}
 use Rattle.queue_restarts.specs.declared.ready.ReadyStreams.{ReadyStreams}
 use Rattle.queue_sending.specs.declared.data.Produced.{Produced}
+use Rattle.packets.specs.declared.packet.Packet.{Packet}
+use Rattle.packets.specs.declared.packet.PacketFilled.{PacketFilled}
+use Rattle.packets.specs.Filling.{packetOf}
 use Rattle.linked_adding.specs.Message.{messageOf}
 
 -- "Payloads and images in a list are given with it. A listed call's arguments include the event list and the fragment buffer as lent".
 pub data Call : Type 0 where
   add : (time : ℕ) (m : Message) (payload : List ℕ) → Call
   produce : (events buffer : List ℕ) (time size : ℕ) → Call
+  fill : (events packet : List ℕ) (time : ℕ) → Packet → Call
   discard : (events : List ℕ) (id message-id : ℕ) → Call
   close : (events : List ℕ) (id : ℕ) → Call
   ready-ids commit rollback reset : Call
@@ -34,6 +39,7 @@ pub data Call : Type 0 where
 abbrev pub callOf : ℕ → Call → run.Call
 callOf len (add time m payload) = run.add len time (messageOf m payload)
 callOf len (produce es bs time size) = run.produce len (placesIn es) (length bs) time size
+callOf len (fill es bs time p) = run.fill len (placesIn es) (length bs) time (packetOf p)
 callOf len (discard es id k) = run.discard (placesIn es) id k
 callOf len (close es id) = run.close (placesIn es) id
 callOf len ready-ids = run.ready-ids
@@ -68,6 +74,7 @@ Bytes bs = (length bs < 2 ^ 64) × T (areBytes bs)
 abbrev pub Typed : Call → Type 0
 Typed (add time m payload) = (time < 2 ^ 64) × (MessageTyped (messageOf m payload) × (length payload < 2 ^ 64))
 Typed (produce es bs time size) = Words es × (Bytes bs × ((time < 2 ^ 64) × (size < 2 ^ 64)))
+Typed (fill es bs time p) = Words es × (Bytes bs × ((time < 2 ^ 64) × PacketTyped (packetOf p)))
 Typed (discard es id k) = Words es × ((id < 2 ^ 16) × (k < 2 ^ 32))
 Typed (close es id) = Words es × (id < 2 ^ 16)
 Typed ready-ids = Unit {0}
@@ -91,13 +98,18 @@ Typed ask-readiness = Unit {0}
 pub data Answer : Type 0 where
   called : answer.Call → Answer
   sent : Produced → Answer
+  filled : PacketFilled → Answer
   readied : ReadyStreams → Answer
   number : Number → Answer
   flag : Flag → Answer
   count : ℕ → Answer
   truth : Bool → Answer
 
--- What a call shows: its answer, "the same event list and fragment buffer whole"; [] where none is lent.
+-- A call that shows its fragment by itself: a filling shows a packet.
+abbrev pub NotFilling : Call → Type 0
+NotFilling c = (es bs : List ℕ) (time : ℕ) (p : Packet) → c ≡ fill es bs time p → ⊥
+
+-- What a call shows: its answer, "the same event list and fragment buffer whole"; [] where none is lent. "Demand 3 then covers this call and its packet buffer" (document 02, 5/13).
 pub record Shown : Type 0 where
   pub answer : Answer
   pub events : List ℕ

@@ -19,7 +19,7 @@ use Rattle.queue_model.specs.FairTurns.{Open}
 use Rattle.queue_questions.specs.Questions.{totalOf}
 use Rattle.queue_sending.specs.declared.data.Produced.{Produced}
 use Rattle.queue_sending.specs.declared.data.Produced.the-variants as produced
-use Rattle.queue_runs.specs.Calls.{Call, produce, discard, close, ready-ids, reset, Typed, Answer, called, sent, readied, number, flag, count, truth, Shown}
+use Rattle.queue_runs.specs.Calls.{NotFilling, Call, produce, discard, close, ready-ids, reset, Typed, Answer, called, sent, filled, readied, number, flag, count, truth, Shown}
 use Rattle.queue_runs.specs.Run.{State, step, run, after}
 use Rattle.queue_runs.specs.Meaning.{queueOf, AllTyped}
 use Rattle.queue_runs.specs.Creation.{Arguments}
@@ -32,6 +32,7 @@ use Rattle.queue_runs.specs.Demand3.{Reached}
 abbrev pub idsIn : Answer → List ℕ
 idsIn (called a) = []
 idsIn (sent a) = []
+idsIn (filled a) = []
 idsIn (readied r) = take (r .count) (r .ids)
 idsIn (number a) = []
 idsIn (flag a) = []
@@ -63,6 +64,7 @@ partSent k (produced.Refused n) bs = []
 abbrev pub partIn : ℕ → Answer → List ℕ → List Part
 partIn k (called a) bs = []
 partIn k (sent a) bs = partSent k a bs
+partIn k (filled a) bs = []
 partIn k (readied r) bs = []
 partIn k (number a) bs = []
 partIn k (flag a) bs = []
@@ -118,10 +120,14 @@ CourseOf k (some i) s cs = Course k i s cs
 
 -- ------------------------------------------------------------------ the claim
 
--- Any calls but a whole-queue reset, which "opens all streams". (Restoring is refused on a queue that knows a stream.)
+-- Any calls but a whole-queue reset, which "opens all streams". (Restoring is refused on a queue that knows a stream.) A filling stands in the list by the calls for the next fragment that it is made of
+-- (document 02, 5/13).
+abbrev pub NotReset : Call → Type 0
+NotReset c = (c ≡ reset → ⊥) × NotFilling c
+
 abbrev pub NoReset : List Call → Type 0
 NoReset [] = Unit {0}
-NoReset (c ∷ cs) = (c ≡ reset → ⊥) × NoReset cs
+NoReset (c ∷ cs) = NotReset c × NoReset cs
 
 -- Next fragments alone, none of them refused.
 pub data Asks (s : State) : Call → Type 0 where

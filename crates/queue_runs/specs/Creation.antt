@@ -18,7 +18,9 @@ use Rattle.queue_sending.specs.declared.data.Produced.{Produced}
 use Rattle.queue_sending.specs.declared.data.Produced.the-variants as produced
 use Rattle.queue_messages.specs.Create.{create}
 use Rattle.linked_adding.specs.Create.{optionsFor}
-use Rattle.queue_runs.specs.Calls.{Answer, called, sent, readied, number, flag, count, truth, Shown}
+use Rattle.packets.specs.declared.packet.PacketFilled.{PacketFilled}
+use Rattle.packets.specs.declared.packet.PacketFilled.the-variants as packet
+use Rattle.queue_runs.specs.Calls.{Answer, called, sent, filled, readied, number, flag, count, truth, Shown}
 use Rattle.queue_runs.specs.Run.{State, state}
 
 -- ------------------------------------------------------------------ creation
@@ -64,6 +66,10 @@ sixteenSent (produced.Nothing k) = false
 sixteenSent (produced.Fragment k d) = false
 sixteenSent (produced.Refused n) = eqb n 16
 
+abbrev sixteenFilled : PacketFilled → Bool
+sixteenFilled (packet.Filled k bytes chunks) = false
+sixteenFilled (packet.Refused n) = eqb n 16
+
 abbrev sixteenNumber : Number → Bool
 sixteenNumber (number-answer.Value n) = false
 sixteenNumber (number-answer.Refused n) = eqb n 16
@@ -76,6 +82,7 @@ sixteenFlag (flag-answer.Refused n) = eqb n 16
 abbrev pub sixteen : Answer → Bool
 sixteen (called c) = sixteenCall c
 sixteen (sent p) = sixteenSent p
+sixteen (filled p) = sixteenFilled p
 sixteen (readied r) = sixteenCall (r .answer)
 sixteen (number n) = sixteenNumber n
 sixteen (flag f) = sixteenFlag f

@@ -14,7 +14,8 @@ use Rattle.queue_state.specs.Promise as promise
 use Rattle.linked_streams.specs.Questions.{flagOf}
 use Rattle.linked_restarts.specs.Ids.{readyOf}
 use Rattle.linked_sending.specs.Meaning.{producedOf, bufferOf}
-use Rattle.queue_runs.specs.Calls.{Call, add, produce, discard, close, ready-ids, commit, rollback, reset, set-threshold, set-priority, set-interleaving, restore, ask-priority, ask-amount, ask-threshold, ask-total, ask-empty, ask-has-data, ask-streams-ready, ask-readiness, callOf, Typed, Shown, shown, called, sent, readied, number, flag, count, truth}
+use Rattle.linked_packets.specs.Meaning.{filledOf}
+use Rattle.queue_runs.specs.Calls.{Call, add, produce, fill, discard, close, ready-ids, commit, rollback, reset, set-threshold, set-priority, set-interleaving, restore, ask-priority, ask-amount, ask-threshold, ask-total, ask-empty, ask-has-data, ask-streams-ready, ask-readiness, callOf, Typed, Shown, shown, called, sent, filled, readied, number, flag, count, truth}
 use Rattle.queue_runs.specs.Run as runs
 use Rattle.queue_runs.specs.Run.{State}
 
@@ -39,6 +40,7 @@ countOf (plain.flag b) = 0
 countOf (plain.ids l) = 0
 countOf (plain.fragment f) = 0
 countOf plain.nothing-waits = 0
+countOf (plain.filled bs n) = 0
 
 abbrev pub truthOf : plain.Answer → Bool
 truthOf (plain.refused n) = false
@@ -48,8 +50,9 @@ truthOf (plain.flag b) = b
 truthOf (plain.ids l) = false
 truthOf (plain.fragment f) = false
 truthOf plain.nothing-waits = false
+truthOf (plain.filled bs n) = false
 
--- Calls without lent lists, with a lent list of events, and the next fragment.
+-- Calls without lent lists, with a lent list of events, the next fragment, and filling a packet.
 abbrev pub quietOf : Outcome → Shown
 quietOf o = shown (called (promise.callOf (o .answer) (length (o .events)))) [] []
 
@@ -59,10 +62,14 @@ loudOf es o = shown (called (promise.callOf (o .answer) (length (o .events)))) (
 abbrev pub sentOf : List ℕ → List ℕ → Outcome → Shown
 sentOf es bs o = shown (sent (producedOf (o .answer) (length (o .events)))) (written es 0 (o .events)) (bufferOf (o .answer) bs)
 
+abbrev pub packedOf : List ℕ → List ℕ → Outcome → Shown
+packedOf es bs o = shown (filled (filledOf (o .answer) (length (o .events)))) (written es 0 (o .events)) (bufferOf (o .answer) bs)
+
 -- What a call shows where the model's shows o: the model's answer, its events in order and its fragment's bytes, written to the lists as lent.
 abbrev pub shownOf : Call → Outcome → Shown
 shownOf (add time m payload) o = quietOf o
 shownOf (produce es bs time size) o = sentOf es bs o
+shownOf (fill es bs time p) o = packedOf es bs o
 shownOf (discard es id k) o = loudOf es o
 shownOf (close es id) o = loudOf es o
 shownOf ready-ids o = shown (readied (readyOf (o .answer))) [] []

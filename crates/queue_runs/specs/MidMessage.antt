@@ -16,38 +16,39 @@ use Rattle.queue_model.specs.Waiting.{is-waiting}
 use Rattle.queue_model.specs.MidMessage.{AtMostOne}
 use Rattle.queue_sending.specs.declared.data.DataToSend.{DataToSend}
 use Rattle.queue_sending.specs.declared.data.Produced.the-variants as produced
-use Rattle.queue_runs.specs.Calls.{Call, add, produce, discard, close, ready-ids, commit, rollback, reset, set-threshold, set-priority, set-interleaving, restore, ask-priority, ask-amount, ask-threshold, ask-total, ask-empty, ask-has-data, ask-streams-ready, ask-readiness, Typed, sent}
+use Rattle.queue_runs.specs.Calls.{Call, add, produce, fill, discard, close, ready-ids, commit, rollback, reset, set-threshold, set-priority, set-interleaving, restore, ask-priority, ask-amount, ask-threshold, ask-total, ask-empty, ask-has-data, ask-streams-ready, ask-readiness, Typed, sent}
 use Rattle.queue_runs.specs.Run.{State, step}
 use Rattle.queue_runs.specs.Meaning.{queueOf}
 use Rattle.queue_runs.specs.Creation.{Arguments, newState, Creates}
 use Rattle.queue_runs.specs.Refusals.{refusal}
 
--- A call that does not switch interleaving on; what it restores is such (a refused restoring restores nothing).
-abbrev pub Uninterleaved : (Option Handover → Type 0) → Call → State → Type 0
-Uninterleaved P (add time m payload) s = Unit {0}
-Uninterleaved P (produce es bs time size) s = Unit {0}
-Uninterleaved P (discard es id k) s = Unit {0}
-Uninterleaved P (close es id) s = Unit {0}
-Uninterleaved P ready-ids s = Unit {0}
-Uninterleaved P commit s = Unit {0}
-Uninterleaved P rollback s = Unit {0}
-Uninterleaved P reset s = Unit {0}
-Uninterleaved P (set-threshold es id t) s = Unit {0}
-Uninterleaved P (set-priority id p) s = Unit {0}
-Uninterleaved P (set-interleaving b) s = b ≡ false
-Uninterleaved P (restore time image) s = refusal (step (restore time image) s .shows .answer) ≡ false → P (read-image image)
-Uninterleaved P (ask-priority id) s = Unit {0}
-Uninterleaved P (ask-amount id) s = Unit {0}
-Uninterleaved P (ask-threshold id) s = Unit {0}
-Uninterleaved P ask-total s = Unit {0}
-Uninterleaved P ask-empty s = Unit {0}
-Uninterleaved P ask-has-data s = Unit {0}
-Uninterleaved P ask-streams-ready s = Unit {0}
-Uninterleaved P ask-readiness s = Unit {0}
+-- A call that does not switch interleaving on; what it restores is such (a refused restoring restores nothing), and fillings are let in or not.
+abbrev pub Uninterleaved : Type 0 → (Option Handover → Type 0) → Call → State → Type 0
+Uninterleaved F P (add time m payload) s = Unit {0}
+Uninterleaved F P (produce es bs time size) s = Unit {0}
+Uninterleaved F P (fill es bs time p) s = F
+Uninterleaved F P (discard es id k) s = Unit {0}
+Uninterleaved F P (close es id) s = Unit {0}
+Uninterleaved F P ready-ids s = Unit {0}
+Uninterleaved F P commit s = Unit {0}
+Uninterleaved F P rollback s = Unit {0}
+Uninterleaved F P reset s = Unit {0}
+Uninterleaved F P (set-threshold es id t) s = Unit {0}
+Uninterleaved F P (set-priority id p) s = Unit {0}
+Uninterleaved F P (set-interleaving b) s = b ≡ false
+Uninterleaved F P (restore time image) s = refusal (step (restore time image) s .shows .answer) ≡ false → P (read-image image)
+Uninterleaved F P (ask-priority id) s = Unit {0}
+Uninterleaved F P (ask-amount id) s = Unit {0}
+Uninterleaved F P (ask-threshold id) s = Unit {0}
+Uninterleaved F P ask-total s = Unit {0}
+Uninterleaved F P ask-empty s = Unit {0}
+Uninterleaved F P ask-has-data s = Unit {0}
+Uninterleaved F P ask-streams-ready s = Unit {0}
+Uninterleaved F P ask-readiness s = Unit {0}
 
 -- It restores no image with more than one half-sent message.
 abbrev pub Uninterrupted : Call → State → Type 0
-Uninterrupted c s = Uninterleaved AtMostOne c s
+Uninterrupted c s = Uninterleaved (Unit {0}) AtMostOne c s
 
 -- "a queue that never had interleaving, and was new or restored from an image with at most one half-sent message".
 pub data NeverInterleaved (a : Arguments) (len : ℕ) : State → Type 0 where

@@ -1,15 +1,16 @@
 -- The numbers with which each call can be refused, on any words at all. Assumes nothing.
 use Prim.Native.Nat.{ℕ}
 use mathlib.Core.Path.{_≡_}
-use mathlib.Core.Bool.{Bool, true, false}
+use mathlib.Core.Bool.{Bool, true, false, not, _||_}
 use mathlib.Core.List.{List, [], _∷_}
-use lib.Dec.{eqb}
+use lib.Dec.{eqb, ltb}
 use lib.ListN.{length}
 use Rattle.queue_words.specs.Flags.{pick}
 use Rattle.queue_words.specs.Header.{optionsAt}
 use Rattle.queue_streams.specs.Answers.{callNumber, numberNumber, flagNumber}
 use Rattle.queue_sending.specs.Data.{producedNumber}
-use Rattle.queue_runs.specs.Calls.{Call, add, produce, discard, close, ready-ids, commit, rollback, reset, set-threshold, set-priority, set-interleaving, restore, ask-priority, ask-amount, ask-threshold, ask-total, ask-empty, ask-has-data, ask-streams-ready, ask-readiness, Answer, called, sent, readied, number, flag, count, truth}
+use Rattle.packets.specs.Filling.{filledNumber}
+use Rattle.queue_runs.specs.Calls.{Call, add, produce, fill, discard, close, ready-ids, commit, rollback, reset, set-threshold, set-priority, set-interleaving, restore, ask-priority, ask-amount, ask-threshold, ask-total, ask-empty, ask-has-data, ask-streams-ready, ask-readiness, Answer, called, sent, filled, readied, number, flag, count, truth}
 use Rattle.queue_runs.specs.Run.{State, step}
 use Rattle.queue_runs.specs.Refusals.{refusal}
 
@@ -19,6 +20,7 @@ use Rattle.queue_runs.specs.Refusals.{refusal}
 abbrev pub refusalNumber : Answer → ℕ
 refusalNumber (called a) = callNumber a
 refusalNumber (sent a) = producedNumber a
+refusalNumber (filled a) = filledNumber a
 refusalNumber (readied r) = callNumber (r .answer)
 refusalNumber (number a) = numberNumber a
 refusalNumber (flag a) = flagNumber a
@@ -27,10 +29,11 @@ refusalNumber (truth b) = 0
 
 -- ------------------------------------------------------------------ the numbers of a call
 
--- Document 01's list, for each call: the refusals that can apply to it.
+-- Document 01's list, for each call: the refusals that can apply to it; of a filling document 02's 20 and 21 first.
 abbrev pub listed : Call → List ℕ
 listed (add time m payload) = 2 ∷ 4 ∷ 5 ∷ 6 ∷ 7 ∷ 8 ∷ 16 ∷ []
 listed (produce es bs time size) = 2 ∷ 3 ∷ 4 ∷ 9 ∷ 10 ∷ 16 ∷ []
+listed (fill es bs time p) = 20 ∷ 21 ∷ 2 ∷ 3 ∷ 4 ∷ 16 ∷ []
 listed (discard es id k) = 3 ∷ 16 ∷ []
 listed (close es id) = 3 ∷ 6 ∷ 16 ∷ []
 listed ready-ids = 16 ∷ []
@@ -61,10 +64,11 @@ RefusalsListed = (c : Call) (s : State) → refusal (step c s .shows .answer) �
 
 -- ------------------------------------------------------------------ a store of another length
 
--- Whether a call is lent the store.
+-- Whether a call is lent the store; of a filling, where neither 20 nor 21 applies, which come before.
 abbrev pub takesStore : Call → Bool
 takesStore (add time m payload) = true
 takesStore (produce es bs time size) = true
+takesStore (fill es bs time p) = not (ltb (p .limit) 36 || (ltb 65535 (p .limit) || ltb (length bs) (p .limit)))
 takesStore (discard es id k) = false
 takesStore (close es id) = false
 takesStore ready-ids = false

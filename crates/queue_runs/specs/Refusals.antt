@@ -11,7 +11,9 @@ use Rattle.queue_streams.specs.declared.answers.Number.{Number}
 use Rattle.queue_streams.specs.declared.answers.Number.the-variants as numbers
 use Rattle.queue_sending.specs.declared.data.Produced.{Produced}
 use Rattle.queue_sending.specs.declared.data.Produced.the-variants as produced
-use Rattle.queue_runs.specs.Calls.{Call, add, produce, discard, close, ready-ids, commit, rollback, reset, set-threshold, set-priority, set-interleaving, restore, ask-priority, ask-amount, ask-threshold, ask-total, ask-empty, ask-has-data, ask-streams-ready, ask-readiness, Answer, called, sent, readied, number, flag, count, truth}
+use Rattle.packets.specs.declared.packet.PacketFilled.{PacketFilled}
+use Rattle.packets.specs.declared.packet.PacketFilled.the-variants as packet
+use Rattle.queue_runs.specs.Calls.{Call, add, produce, fill, discard, close, ready-ids, commit, rollback, reset, set-threshold, set-priority, set-interleaving, restore, ask-priority, ask-amount, ask-threshold, ask-total, ask-empty, ask-has-data, ask-streams-ready, ask-readiness, Answer, called, sent, filled, readied, number, flag, count, truth}
 use Rattle.queue_runs.specs.Run.{State, step}
 
 -- Whether an answer is a refusal.
@@ -24,6 +26,10 @@ sentRefused (produced.Nothing k) = false
 sentRefused (produced.Fragment k d) = false
 sentRefused (produced.Refused n) = true
 
+abbrev pub fillRefused : PacketFilled → Bool
+fillRefused (packet.Filled k bytes chunks) = false
+fillRefused (packet.Refused n) = true
+
 abbrev pub numberRefused : Number → Bool
 numberRefused (numbers.Value n) = false
 numberRefused (numbers.Refused n) = true
@@ -35,6 +41,7 @@ flagRefused (flags.Refused n) = true
 abbrev pub refusal : Answer → Bool
 refusal (called a) = callRefused a
 refusal (sent a) = sentRefused a
+refusal (filled a) = fillRefused a
 refusal (readied r) = callRefused (r .answer)
 refusal (number a) = numberRefused a
 refusal (flag a) = flagRefused a
@@ -45,6 +52,7 @@ refusal (truth b) = false
 abbrev pub eventsOf : Call → List ℕ
 eventsOf (add time m payload) = []
 eventsOf (produce es bs time size) = es
+eventsOf (fill es bs time p) = es
 eventsOf (discard es id k) = es
 eventsOf (close es id) = es
 eventsOf ready-ids = []
@@ -67,6 +75,7 @@ eventsOf ask-readiness = []
 abbrev pub bufferOf : Call → List ℕ
 bufferOf (add time m payload) = []
 bufferOf (produce es bs time size) = bs
+bufferOf (fill es bs time p) = bs
 bufferOf (discard es id k) = []
 bufferOf (close es id) = []
 bufferOf ready-ids = []
@@ -86,7 +95,7 @@ bufferOf ask-has-data = []
 bufferOf ask-streams-ready = []
 bufferOf ask-readiness = []
 
--- A refused call leaves the queue, the event list and the fragment buffer as they were.
+-- A refused call leaves the queue, the event list and the fragment or packet buffer as they were.
 pub record Unchanged (c : Call) (s : State) : Type 0 where
   pub queue : step c s .next ≡ s
   pub events : step c s .shows .events ≡ eventsOf c

@@ -9,7 +9,7 @@ use Rattle.queue_words.specs.Flags.{pick}
 use Rattle.queue_words.specs.declared.header.RestartRule.the-variants.{Strict}
 use Rattle.queue_streams.specs.declared.answers.Call.the-variants as call
 use Rattle.queue_sending.specs.declared.data.DataToSend.{DataToSend}
-use Rattle.queue_runs.specs.Calls.{Call, reset, restore, called, Shown}
+use Rattle.queue_runs.specs.Calls.{Call, NotFilling, reset, restore, called, Shown}
 use Rattle.queue_runs.specs.Fragments.{dataIn}
 use Rattle.queue_runs.specs.Run.{State, step, run}
 use Rattle.queue_runs.specs.Meaning.{AllTyped}
@@ -43,9 +43,10 @@ FirstAfresh (d ∷ ds) = Afresh d
 
 -- ------------------------------------------------------------------ the claim
 
--- Any calls, but no accepted restoring, which gives streams the counters and the half-sent messages of an image. (It is refused on a queue that knows a stream.)
+-- Any calls, but no accepted restoring, which gives streams the counters and the half-sent messages of an image. (It is refused on a queue that knows a stream.) A filling stands in the list by the
+-- calls for the next fragment that it is made of (document 02, 5/13).
 abbrev pub NotRestored : Call → State → Type 0
-NotRestored c s = (time : ℕ) (image : List ℕ) → c ≡ restore time image → refusal (step c s .shows .answer) ≡ false → ⊥
+NotRestored c s = ((time : ℕ) (image : List ℕ) → c ≡ restore time image → refusal (step c s .shows .answer) ≡ false → ⊥) × NotFilling c
 
 abbrev pub NoneRestored : List Call → State → Type 0
 NoneRestored [] s = Unit {0}

@@ -12,8 +12,9 @@ use Rattle.queue_restarts.specs.Ready as readying
 use Rattle.queue_restarts.specs.Reset.{resetQueue}
 use Rattle.queue_sending.specs.Data.{ProducedWith}
 use Rattle.queue_sending.specs.Produce.{produceNext}
+use Rattle.packets.specs.Filling.{FilledWith, fillPacket}
 use Rattle.handover.specs.Restore as restoring
-use Rattle.queue_runs.specs.Calls.{Call, add, produce, discard, close, ready-ids, commit, rollback, reset, set-threshold, set-priority, set-interleaving, restore, ask-priority, ask-amount, ask-threshold, ask-total, ask-empty, ask-has-data, ask-streams-ready, ask-readiness, Shown, shown, called, sent, readied, number, flag, count, truth}
+use Rattle.queue_runs.specs.Calls.{Call, add, produce, fill, discard, close, ready-ids, commit, rollback, reset, set-threshold, set-priority, set-interleaving, restore, ask-priority, ask-amount, ask-threshold, ask-total, ask-empty, ask-has-data, ask-streams-ready, ask-readiness, Shown, shown, called, sent, filled, readied, number, flag, count, truth}
 
 -- A queue: its words and its store.
 pub record State : Type 0 where
@@ -41,6 +42,9 @@ loud r st = stepped (shown (called (r .answer)) (r .events) []) (state (r .next)
 abbrev pub sends : ProducedWith → List ℕ → Step
 sends r st = stepped (shown (sent (r .answer)) (r .events) (r .buffer)) (state (r .words) st)
 
+abbrev pub fills : FilledWith → List ℕ → Step
+fills r st = stepped (shown (filled (r .answer)) (r .events) (r .packet)) (state (r .words) st)
+
 abbrev pub stores : adding.Added → Step
 stores r = stepped (shown (called (r .answer)) [] []) (state (r .words) (r .store))
 
@@ -51,6 +55,7 @@ readies r st = stepped (shown (readied (r .answer)) [] []) (state (r .next) st)
 unfoldable pub step : Call → State → Step
 step (add time m payload) s = stores (adding.add (s .words) (s .store) time m payload)
 step (produce es bs time size) s = sends (produceNext (s .words) (s .store) es bs time size) (s .store)
+step (fill es bs time p) s = fills (fillPacket (s .words) (s .store) es bs time p) (s .store)
 step (discard es id k) s = loud (discarding.discard (s .words) es id k) (s .store)
 step (close es id) s = loud (closing.close (s .words) es id) (s .store)
 step ready-ids s = readies (readying.ready (s .words)) (s .store)
