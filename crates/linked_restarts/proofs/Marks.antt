@@ -6,6 +6,8 @@ use Prim.Native.Nat.{ℕ, zero, suc, _+_, _≤_, _<_}
 use native.Mathlib.Omega.{arith}
 use borrow.Author.Tests.{le-ltb}
 use lib.Dec.{eqb}
+use lib.ListN.{take}
+use lib.Seq.{take-at}
 use Rattle.queue_words.specs.Flags.{pick}
 use Rattle.queue_words.specs.Header.{optionsAt, totalsAt}
 use Rattle.queue_words.specs.Known.{idAt}
@@ -18,12 +20,17 @@ use Rattle.queue_model.specs.Types as plain
 use Rattle.queue_model.specs.Types.{Stream, Scheduler, Queue, ids, resetting, with-pause, with-state}
 use Rattle.queue_model.specs.Run as run
 use Rattle.queue_model.specs.Reset.{is-paused, paused-ids, paused-to-resetting, ready-ids}
+use Rattle.queue_model.specs.Ascending.{Ascending}
+use Rattle.queue_model.specs.Calls
+use Rattle.queue_model.proofs.Ready.{paused-ascending}
 use Rattle.stream_scheduler.specs.Link.{modelScheduler}
 use Rattle.queue_streams.specs.declared.answers.Call.the-variants.{Accepted}
-use Rattle.queue_restarts.specs.Ready.{placesFit, allPlacesFit, withState, marked, markedAll, collected, readied, ready}
+use Rattle.queue_restarts.specs.Ready.{placesFit, allPlacesFit, withState, marked, markedAll, collected, readied, ready, countOf, readyCount}
+use Rattle.queue_restarts.specs.declared.ready.ReadyStreams.{ReadyStreams}
 use Rattle.queue_state.specs.Chains.{each}
 use Rattle.queue_state.specs.Model.{itemIn, pauseOf, streamOf, rowAt, streamIn, streamsIn, model, optionsOf}
 use Rattle.queue_state.specs.Good.{Shape, Good}
+use Rattle.queue_state.specs.Promise.{shown, numberOf}
 use Rattle.queue_state.proofs.Frames.{stream-is, row-below}
 use Rattle.queue_state.proofs.Singles.{model-is}
 use Rattle.queue_state.proofs.Rooms.{AllKnown, all-known}
@@ -152,6 +159,10 @@ module _ (ws st : List ℕ) (g : Good ws st) where
   unfolding ready
   accepted = rw places-fit
 
+  -- "in ascending order": the ids are the first `count` of the array.
+  taken : take (collected ws (totalsAt ws .known) .count) (collected ws (totalsAt ws .known) .ids) ≡ paused-ids ((model ws st) .streams)
+  taken = ap (λ (x : ReadyStreams). take (x .count) (x .ids)) (collected-is ws st (g .shape)) ∙ take-at (paused-ids (streamsIn ws st)) _ _ refl ∙ model-ids
+
   pub ready-link : Readies ws st ((ready ws) .answer) ((ready ws) .next) st
   ready-link =
       let e = ap (λ x. x .outcome .answer) (ready-is (model ws st)) ∙ ready-answer (model ws st) in
@@ -159,4 +170,12 @@ module _ (ws st : List ℕ) (g : Good ws st) where
         good = good-after run.ready-ids ws st done-words tt g (swept .shape) (swept .options) marked-model;
         next = marked-model;
         answer = collected-is ws st (g .shape) ∙ ap (idsOf (Accepted 0)) model-ids ∙ sym (ap readyOf e);
+        ascending = subst Ascending (sym taken) (paused-ascending ((model ws st) .streams) (g .well .rising));
       })
+
+  -- How many ids are ready.
+  pub count-link : readyCount ws ≡ numberOf (shown run.ask-ready-count ws st .answer)
+  unfolding readyCount run.step Calls.ready-count
+  count-link =
+      let e = ap (λ x. x .outcome .answer) (ready-is (model ws st)) ∙ ready-answer (model ws st) in
+      ap (λ (r : ReadyStreams). countOf (r .answer) (r .count)) (ready-link .answer ∙ ap readyOf e)

@@ -2,9 +2,10 @@
 use Prim.Native.Nat.{ℕ, _-_}
 use mathlib.Core.Path.{_≡_}
 use mathlib.Core.List.{List, [], _++_}
-use lib.ListN.{length, replicate}
+use lib.ListN.{length, replicate, take}
 use Rattle.queue_model.specs.Types.{Answer, refused, done, number, flag, ids, fragment, nothing-waits, filled}
 use Rattle.queue_model.specs.Run as run
+use Rattle.queue_model.specs.Ascending.{Ascending}
 use Rattle.queue_streams.specs.declared.answers.Call.{Call}
 use Rattle.queue_streams.specs.declared.answers.Call.the-variants.{Accepted, Refused}
 use Rattle.queue_restarts.specs.declared.ready.ReadyStreams.{ReadyStreams}
@@ -27,8 +28,9 @@ readyOf (fragment f) = idsOf (Accepted 0) []
 readyOf nothing-waits = idsOf (Accepted 0) []
 readyOf (filled bs n) = idsOf (Accepted 0) []
 
--- The call is the model's: good words, which stand for the model's next queue, and the model's ids.
+-- The call is the model's: good words, which stand for the model's next queue, and the model's ids, "in ascending order".
 pub record Readies (ws st : List ℕ) (r : ReadyStreams) (ws′ st′ : List ℕ) : Type 0 where
   pub good : Good ws′ st′
   pub next : model ws′ st′ ≡ (run.step run.ready-ids (model ws st)) .next
   pub answer : r ≡ readyOf (shown run.ready-ids ws st .answer)
+  pub ascending : Ascending (take (r .count) (r .ids))

@@ -1,8 +1,9 @@
 // Restarting streams and switching interleaving with both promises: what the calls leave on the words, for every input, and that
 // on the words of a queue this is the model's step.
-ghost use Rattle.linked_restarts.specs.Contracts.{ReadyMeets, CommitMeets, RollbackMeets, SwitchMeets, ResetMeets};
+ghost use Rattle.linked_restarts.specs.Contracts.{ReadyMeets, CountMeets, CommitMeets, RollbackMeets, SwitchMeets, ResetMeets};
 use queue_restarts::ReadyStreams;
 use queue_streams::Call;
+use queue_streams::Number;
 use queue_words::QUEUE_WORDS;
 
 // "Ready ids, at most 256, come by value with their count in ascending order [..] and become resetting."
@@ -10,6 +11,13 @@ pub fn get_streams_ready_to_reset(queue: &mut [u64; QUEUE_WORDS]) -> ReadyStream
     ensures { λ r. ⌜ ReadyMeets (now (queue .entry)) r (now (queue .exit)) ⌝ }
 {
     queue_restarts::get_streams_ready_to_reset(queue)
+}
+
+// How many ids are ready: a question, which does not take them.
+pub fn count_streams_ready_to_reset(queue: &[u64; QUEUE_WORDS]) -> Number
+    ensures { λ r. ⌜ CountMeets (now (queue .entry)) r ⌝ }
+{
+    queue_restarts::count_streams_ready_to_reset(queue)
 }
 
 // "commit sets the three counters to 0 and opens".

@@ -9,4 +9,4 @@ unfoldable pub use Rattle.queue_model.specs.Discard.{discard}
 unfoldable pub use Rattle.queue_model.specs.Close.{close}
 unfoldable pub use Rattle.queue_model.specs.Reset.{ready-ids, commit, rollback, reset}
 unfoldable pub use Rattle.queue_model.specs.Settings.{set-threshold, set-priority, set-interleaving}
-unfoldable pub use Rattle.queue_model.specs.Questions.{priority-of, amount-of, threshold-of, is-empty, has-data, streams-ready, readiness}
+unfoldable pub use Rattle.queue_model.specs.Questions.{priority-of, amount-of, threshold-of, is-empty, has-data, streams-ready, ready-count, readiness}

@@ -12,7 +12,7 @@ use Rattle.queue_model.specs.Add.{expiry, new-item}
 use Rattle.queue_model.specs.Produce.{give-numbers}
 use Rattle.queue_model.specs.Questions.{readiness}
 use Rattle.queue_model.specs.Image.{bit, ms-left-at, write-image}
-use Rattle.queue_model.specs.Run.{Call, add, produce, discard, close, ready-ids, commit, rollback, reset, set-threshold, set-priority, set-interleaving, restore, ask-priority, ask-amount, ask-threshold, ask-total, ask-empty, ask-has-data, ask-streams-ready, run, after}
+use Rattle.queue_model.specs.Run.{Call, add, produce, discard, close, ready-ids, commit, rollback, reset, set-threshold, set-priority, set-interleaving, restore, ask-priority, ask-amount, ask-threshold, ask-total, ask-empty, ask-has-data, ask-streams-ready, ask-ready-count, run, after}
 
 -- A queue with payload limit 1,000 and stream thresholds 0; the default priority, the total's threshold, handover with waiting data and the strict rule of a restart as given.
 created : ℕ → ℕ → Bool → Bool → Queue
@@ -242,6 +242,9 @@ facts =
     ∷ (shows (ask-empty ∷ put 5 10 0 none ∷ ask-empty ∷ []) gives (1 ∷ 0 ∷ []))
     ∷ (shows (ask-has-data ∷ close 2305 5 ∷ put 5 10 0 none ∷ ask-has-data ∷ put 3 10 0 none ∷ ask-has-data ∷ []) gives (0 ∷ 0 ∷ 1 ∷ []))
     ∷ (shows (ask-streams-ready ∷ close 2305 5 ∷ ask-streams-ready ∷ ready-ids ∷ ask-streams-ready ∷ []) gives (0 ∷ 1 ∷ 5 ∷ 0 ∷ []))
+    -- How many are ready: asked twice they stay, taken they are gone; one that was closed and is half-sent is not paused yet.
+    ∷ (shows (ask-ready-count ∷ close 2305 5 ∷ close 2305 3 ∷ ask-ready-count ∷ ask-ready-count ∷ ready-ids ∷ ask-ready-count ∷ []) gives (0 ∷ 2 ∷ 2 ∷ 3 ∷ 5 ∷ 0 ∷ []))
+    ∷ (shows (put 5 10 0 none ∷ get 0 6 ∷ close 2305 5 ∷ ask-ready-count ∷ get 0 4 ∷ ask-ready-count ∷ []) gives (5 ∷ 6 ∷ 1 ∷ 0 ∷ 0 ∷ 0 ∷ 0 ∷ 0 ∷ 5 ∷ 4 ∷ 0 ∷ 1 ∷ 0 ∷ 0 ∷ 1 ∷ 1 ∷ []))
     ∷ (shows (put 5 10 0 none ∷ put 3 20 0 none ∷ set-threshold 2305 5 4 ∷ ask-amount 5 ∷ ask-total ∷ ask-threshold 5 ∷ ask-threshold 3 ∷ ask-priority 3 ∷ []) gives (10 ∷ 30 ∷ 4 ∷ 0 ∷ 256 ∷ []))
     -- "Readiness is 2 if handover with waiting data is off and the total is above 0, else 0."
     ∷ ((ready-with [] ∷ ready-with (put 5 10 0 none ∷ []) ∷ []) gives (0 ∷ 2 ∷ []))

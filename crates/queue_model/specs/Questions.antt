@@ -2,12 +2,13 @@
 use Prim.Native.Nat.{ℕ}
 use mathlib.Core.Bool.{Bool, not, _&&_}
 use lib.Dec.{eqb, ltb}
+use lib.ListN.{length}
 use Rattle.queue_model.specs.Logic.{if_then_else_, is-some, any}
 use Rattle.queue_model.specs.Table.{find}
 use Rattle.queue_model.specs.Types.{Queue}
 use Rattle.queue_model.specs.Scheduler.{peek}
 use Rattle.queue_model.specs.Streams.{stream-at}
-use Rattle.queue_model.specs.Reset.{is-paused}
+use Rattle.queue_model.specs.Reset.{is-paused, paused-ids}
 
 -- "A call of its own answers the priority last set or restored, the default where there is none, and changes nothing." (Rust: get_priority)
 unfoldable pub priority-of : Queue → ℕ → ℕ
@@ -37,6 +38,11 @@ has-data q = is-some (peek (q .scheduler))
 unfoldable pub streams-ready : Queue → Bool
 unfolding any is-paused
 streams-ready q = any is-paused (q .streams)
+
+-- How many streams are paused: as many as the "ready stream ids" of a request (document 02, 9/13), which is judged by its length before they are taken.
+unfoldable pub ready-count : Queue → ℕ
+unfolding paused-ids
+ready-count q = length (paused-ids (q .streams))
 
 -- "Readiness is 2 if handover with waiting data is off and the total is above 0, else 0." (Rust: get_handover_readiness)
 unfoldable pub readiness : Queue → ℕ

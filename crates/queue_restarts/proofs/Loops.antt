@@ -16,8 +16,10 @@ use Rattle.queue_words.specs.Known.{knownAt}
 use Rattle.queue_words.specs.declared.header.Totals.{Totals}
 use Rattle.queue_words.specs.declared.known.Known.{Known}
 use Rattle.queue_streams.specs.Answers.{isAccepted}
-use Rattle.queue_streams.specs.declared.answers.Call.the-variants.{Accepted}
-use Rattle.queue_restarts.specs.Ready.{placesFit, allPlacesFit, isPaused, oneMore, collected, refusedReady, collectedOr16, marked, markedAll, readied, ready}
+use Rattle.queue_streams.specs.declared.answers.Call.{Call}
+use Rattle.queue_streams.specs.declared.answers.Call.the-variants.{Accepted, Refused}
+use Rattle.queue_streams.specs.declared.answers.Number.the-variants as number
+use Rattle.queue_restarts.specs.Ready.{placesFit, allPlacesFit, isPaused, oneMore, collected, refusedReady, collectedOr16, marked, markedAll, readied, ready, countOf, readyCount}
 use Rattle.queue_restarts.specs.Reset.{sumKnown, sumAll, resetAt, resetAll}
 use Rattle.queue_restarts.specs.declared.ready.ReadyStreams.{ReadyStreams}
 use Rattle.queue_restarts.specs.declared.whole.Sum.{Sum}
@@ -151,6 +153,29 @@ module _ (ws : List ℕ) (t : Totals) (et : t ≡ totalsAt ws) where
     pub ready-not : a ≡ false → readied r ws ≡ ready ws
     unfolding ready allPlacesFit collectedOr16
     ready-not e = rw (er, ← et, le-ltb _ _ g, fits false e)
+
+-- ------------------------------------------------------------------ the question for their count
+
+module _ (ws : List ℕ) (t : Totals) (et : t ≡ totalsAt ws) where
+  pub count-many : 256 < t .known → number.Refused 16 ≡ readyCount ws
+  unfolding readyCount ready allPlacesFit
+  count-many g = rw (← et, lt-ltb _ _ g)
+
+  module _ (g : t .known ≤ 256) (r : ReadyStreams) (er : r ≡ collectedOr16 ws (t .known)) where
+    count-told : countOf (r .answer) (r .count) ≡ readyCount ws
+    unfolding readyCount ready allPlacesFit collectedOr16
+    count-told = rw (er, ← et, le-ltb _ _ g) (by (placesFit ws 0 (t .known)))
+      where
+        by : (b : Bool) → countOf (pick b (collected ws (t .known)) refusedReady .answer) (pick b (collected ws (t .known)) refusedReady .count)
+            ≡ countOf (pick b (readied (collected ws (t .known)) (markedAll ws (t .known))) (readied refusedReady ws) .answer .answer) (pick b (readied (collected ws (t .known)) (markedAll ws (t .known))) (readied refusedReady ws) .answer .count)
+        by true = refl
+        by false = refl
+
+    pub count-value : (k : ℕ) → r .answer ≡ Accepted k → number.Value (r .count) ≡ readyCount ws
+    count-value k e = sym (ap (λ (x : Call). countOf x (r .count)) e) ∙ count-told
+
+    pub count-refused : (n : ℕ) → r .answer ≡ Refused n → number.Refused n ≡ readyCount ws
+    count-refused n e = sym (ap (λ (x : Call). countOf x (r .count)) e) ∙ count-told
 
 -- ------------------------------------------------------------------ the whole-queue reset
 

@@ -10,7 +10,10 @@ use Rattle.queue_words.specs.Known.{knownAt}
 use Rattle.queue_words.specs.Streams.{streamAt, putStream}
 use Rattle.queue_words.specs.declared.streams.OutgoingStream.{OutgoingStream}
 use Rattle.queue_streams.specs.Answers.{callNumber}
+use Rattle.queue_streams.specs.declared.answers.Call.{Call}
 use Rattle.queue_streams.specs.declared.answers.Call.the-variants.{Accepted, Refused}
+use Rattle.queue_streams.specs.declared.answers.Number.{Number}
+use Rattle.queue_streams.specs.declared.answers.Number.the-variants as number
 use Rattle.queue_restarts.specs.declared.ready.ReadyStreams.{ReadyStreams}
 
 -- 16: "a place kept in the state lies outside its table": whether those of m known streams from position i on lie in theirs.
@@ -85,3 +88,11 @@ readyNumber a = callNumber (a .answer)
 
 abbrev pub readyList : ReadyStreams → List ℕ
 readyList a = take (a .count) (a .ids)
+
+-- How many ids are ready: the count that the call for them would give, or its refusal.
+abbrev pub countOf : Call → ℕ → Number
+countOf (Accepted k) n = number.Value n
+countOf (Refused m) n = number.Refused m
+
+unfoldable pub readyCount : List ℕ → Number
+readyCount ws = countOf (ready ws .answer .answer) (ready ws .answer .count)

@@ -1,8 +1,9 @@
 // The ids that are ready to be reset.
 ghost use mathlib.Core.Path.{_≡_};
 ghost use Prim.Native.Nat.{_≤_};
-ghost use Rattle.queue_restarts.specs.Ready.{refusedReady, isPaused, collectedOr16, marked, markedAll, readied, ready};
+ghost use Rattle.queue_restarts.specs.Ready.{refusedReady, isPaused, collectedOr16, marked, markedAll, readied, ready, readyCount};
 use queue_streams::answers::Call;
+use queue_streams::answers::Number;
 use queue_streams::answers::is_accepted;
 use queue_words::QUEUE_WORDS;
 use queue_words::header::load_totals;
@@ -106,4 +107,20 @@ pub fn get_streams_ready_to_reset(queue: &mut [u64; QUEUE_WORDS]) -> ReadyStream
         mark_all(queue, t.known as usize);
     }
     r
+}
+
+// How many ids are ready. They are not taken: the question changes nothing, and gives 16 exactly where ready ids do.
+pub fn count_streams_ready_to_reset(queue: &[u64; QUEUE_WORDS]) -> Number
+    ensures { λ r. ⌜ r ≡ readyCount (now (queue .entry)) ⌝ }
+{
+    let t = load_totals(queue);
+    if t.known > 256 {
+        return Number::Refused(16);
+    }
+    let r = collect(queue, t.known as usize);
+    let answer = r.answer;
+    match answer {
+        Call::Accepted(_) => Number::Value(r.count as u64),
+        Call::Refused(n) => Number::Refused(n),
+    }
 }

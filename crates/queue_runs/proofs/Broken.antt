@@ -25,7 +25,7 @@ use Rattle.payload_store.specs.Dropping.{dropCode}
 use Rattle.payload_store.specs.Putting.{putCode}
 use Rattle.payload_store.specs.Reading.{readCode}
 use Rattle.queue_questions.specs.Questions.{priorityOf, amountOf, thresholdOf, streamOrNew, readyOf}
-use Rattle.queue_streams.specs.Answers.{callNumber}
+use Rattle.queue_streams.specs.Answers.{callNumber, numberNumber}
 use Rattle.queue_streams.specs.Events.{eventWords}
 use Rattle.queue_streams.specs.Known.{lookUp, newStream}
 use Rattle.queue_streams.specs.Restart.{reopen, setInterleaving, alike}
@@ -129,6 +129,10 @@ ready-16 : (ws : List ℕ) → Unplaced ws → callNumber (readying.ready ws .an
 unfolding readying.ready
 ready-16 ws p = rw (not-all-fit ws p)
 
+count-16 : (ws : List ℕ) → Unplaced ws → numberNumber (readying.readyCount ws) ≡ 16
+unfolding readying.readyCount readying.ready
+count-16 ws p = rw (not-all-fit ws p)
+
 reopen-16 : (z : Bool) (ws : List ℕ) → Unplaced ws → callNumber (reopen z ws .answer) ≡ 16
 unfolding reopen
 reopen-16 z ws p = rw (no-room ws false p)
@@ -145,6 +149,7 @@ pub unplaced-is-sixteen : UnplacedIsSixteen
 unfolding step
 unplaced-is-sixteen s p = record {
   by-ready-ids = ready-16 (s .words) p;
+  by-ask-count = count-16 (s .words) p;
   by-commit = reopen-16 true (s .words) p;
   by-rollback = reopen-16 false (s .words) p;
   by-reset = reset-16 (s .words) p;

@@ -53,7 +53,7 @@ restore-is : (store now : ℕ) (i : List ℕ) (q : Queue) → run.step (run.rest
 unfolding run.step
 restore-is store now i q = refl
 
-restores : (time : ℕ) (i : List ℕ) (s : State) → Good s → Accepts time i s → demands.Restores time i (queueOf s) (queueOf (restored time i s))
+pub restores : (time : ℕ) (i : List ℕ) (s : State) → Good s → Accepts time i s → demands.Restores time i (queueOf s) (queueOf (restored time i s))
 restores time i s g h =
     let k = step-link (restore time i) s g (h .typed) in
     let len : ℕ = length (s .store) in

@@ -82,6 +82,7 @@ Form run.ask-total o = Number o
 Form run.ask-empty o = Flag o
 Form run.ask-has-data o = Flag o
 Form run.ask-streams-ready o = Flag o
+Form run.ask-ready-count o = Number o
 Form run.ask-readiness o = Number o
 
 -- ------------------------------------------------------------------ checks
@@ -217,4 +218,5 @@ form-of run.ask-total q = number-told _
 form-of run.ask-empty q = flag-told _
 form-of run.ask-has-data q = flag-told _
 form-of run.ask-streams-ready q = flag-told _
+form-of run.ask-ready-count q = number-told _
 form-of run.ask-readiness q = number-told _

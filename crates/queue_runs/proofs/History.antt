@@ -74,6 +74,7 @@ refusal-shown len calls.ask-total o f = count-refusal o f
 refusal-shown len calls.ask-empty o f = truth-refusal o f
 refusal-shown len calls.ask-has-data o f = flag-refusal o f
 refusal-shown len calls.ask-streams-ready o f = flag-refusal o f
+refusal-shown len calls.ask-ready-count o f = number-refusal o f
 refusal-shown len calls.ask-readiness o f = count-refusal o f
 
 -- ------------------------------------------------------------------ the fragment

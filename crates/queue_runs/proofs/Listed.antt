@@ -62,7 +62,7 @@ use Rattle.queue_sending.specs.declared.data.Produced.the-variants as produced
 use Rattle.image_rules.specs.Code.{rulesKept, amountsFit, imageCode}
 use Rattle.image_rules.specs.Trailers.{trailerIn}
 use Rattle.handover.specs.Restore as restoring
-use Rattle.queue_runs.specs.Calls.{add, produce, fill, discard, close, ready-ids, commit, rollback, reset, set-threshold, set-priority, set-interleaving, restore, ask-priority, ask-amount, ask-threshold, ask-total, ask-empty, ask-has-data, ask-streams-ready, ask-readiness}
+use Rattle.queue_runs.specs.Calls.{add, produce, fill, discard, close, ready-ids, commit, rollback, reset, set-threshold, set-priority, set-interleaving, restore, ask-priority, ask-amount, ask-threshold, ask-total, ask-empty, ask-has-data, ask-streams-ready, ask-ready-count, ask-readiness}
 use Rattle.queue_runs.specs.Run.{step}
 use Rattle.queue_runs.specs.Refusals.{callRefused, sentRefused, fillRefused, numberRefused, flagRefused}
 use Rattle.queue_streams.specs.Answers.{callNumber, numberNumber, flagNumber}
@@ -428,6 +428,16 @@ streams-listed : (ws : List ℕ) → Tells (readyOf ws)
 unfolding readyOf
 streams-listed ws = tells-pick (ltb 256 (knownCount ws)) _ _ tells-refused (among-listed ws 0 (knownCount ws))
 
+-- The number of ready ids is refused exactly where they are.
+count-listed : (ws : List ℕ) → Asks (readying.readyCount ws)
+unfolding Asks Readies readying.readyCount
+count-listed ws = go (readying.ready ws .answer .answer) (ready-listed ws)
+  where
+    go : (a : Call) → (callRefused a ≡ true → among (callNumber a) (16 ∷ []) ≡ true)
+        → numberRefused (readying.countOf a (readying.ready ws .answer .count)) ≡ true → among (numberNumber (readying.countOf a (readying.ready ws .answer .count))) (16 ∷ []) ≡ true
+    go (call.Accepted k) f e = not-refused e
+    go (call.Refused n) f e = f e
+
 priority-asked : (ws : List ℕ) (id : ℕ) → Asks (priorityOf ws id)
 unfolding priorityOf
 priority-asked ws id = asked-listed _ (streamOrNew ws id)
@@ -675,4 +685,5 @@ refusals-listed ask-total s e = not-refused e
 refusals-listed ask-empty s e = not-refused e
 refusals-listed ask-has-data s e = data-asked (s .words) e
 refusals-listed ask-streams-ready s e = streams-listed (s .words) e
+refusals-listed ask-ready-count s e = count-listed (s .words) e
 refusals-listed ask-readiness s e = not-refused e

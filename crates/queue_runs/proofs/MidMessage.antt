@@ -26,7 +26,7 @@ use Rattle.queue_sending.specs.declared.data.Produced.the-variants as produced
 use Rattle.queue_state.specs.Promise as promise
 use Rattle.queue_state.proofs.Singles.{model-schedules}
 use Rattle.linked_sending.specs.Meaning.{dataOf}
-use Rattle.queue_runs.specs.Calls.{Call, add, produce, fill, discard, close, ready-ids, commit, rollback, reset, set-threshold, set-priority, set-interleaving, restore, ask-priority, ask-amount, ask-threshold, ask-total, ask-empty, ask-has-data, ask-streams-ready, ask-readiness, callOf, Typed, Shown, called, sent}
+use Rattle.queue_runs.specs.Calls.{Call, add, produce, fill, discard, close, ready-ids, commit, rollback, reset, set-threshold, set-priority, set-interleaving, restore, ask-priority, ask-amount, ask-threshold, ask-total, ask-empty, ask-has-data, ask-streams-ready, ask-ready-count, ask-readiness, callOf, Typed, Shown, called, sent}
 use Rattle.queue_runs.specs.Run.{State, step}
 use Rattle.queue_runs.specs.Meaning.{queueOf, Good, sentOf}
 use Rattle.queue_runs.specs.Creation.{Arguments, optionsWith, newState}
@@ -72,6 +72,7 @@ uninterleaved F P ask-total s g t u = u
 uninterleaved F P ask-empty s g t u = u
 uninterleaved F P ask-has-data s g t u = u
 uninterleaved F P ask-streams-ready s g t u = u
+uninterleaved F P ask-ready-count s g t u = u
 uninterleaved F P ask-readiness s g t u = u
 
 never-stands : {a : Arguments} {len : ℕ} {s : State} → NeverInterleaved a len s → Stands (optionsWith a len) len s

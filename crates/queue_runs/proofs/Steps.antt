@@ -22,7 +22,7 @@ use Rattle.linked_streams.proofs.Asks.{priority-asked, amount-asked, threshold-
 use Rattle.linked_adding.proofs.Adds.{add-link}
 use Rattle.linked_dropping.proofs.Discards.{discard-link}
 use Rattle.linked_dropping.proofs.Closes.{close-link}
-use Rattle.linked_restarts.proofs.Marks.{ready-link}
+use Rattle.linked_restarts.proofs.Marks.{ready-link, count-link}
 use Rattle.linked_restarts.proofs.Reopens.{commit-link, rollback-link}
 use Rattle.linked_restarts.proofs.Switches.{switch-link}
 use Rattle.linked_restarts.proofs.WholeQueue.{reset-link}
@@ -34,7 +34,7 @@ use Rattle.linked_packets.specs.Meaning.{Fills}
 use Rattle.linked_packets.proofs.Fills.{fill-link}
 use Rattle.handover.specs.Restore as restoring
 use Rattle.linked_restoring.proofs.Restores.{restore-link}
-use Rattle.queue_runs.specs.Calls.{Call, add, produce, fill, discard, close, ready-ids, commit, rollback, reset, set-threshold, set-priority, set-interleaving, restore, ask-priority, ask-amount, ask-threshold, ask-total, ask-empty, ask-has-data, ask-streams-ready, ask-readiness, callOf, Typed, shown, called, sent, filled, readied, number, flag, count, truth}
+use Rattle.queue_runs.specs.Calls.{Call, add, produce, fill, discard, close, ready-ids, commit, rollback, reset, set-threshold, set-priority, set-interleaving, restore, ask-priority, ask-amount, ask-threshold, ask-total, ask-empty, ask-has-data, ask-streams-ready, ask-ready-count, ask-readiness, callOf, Typed, shown, called, sent, filled, readied, number, flag, count, truth}
 use Rattle.queue_runs.specs.Run.{State, Step, step, quiet, loud, sends, fills, stores}
 use Rattle.queue_runs.specs.Meaning.{queueOf, Good, quietOf, loudOf, shownOf}
 
@@ -69,6 +69,7 @@ typed-call len ask-total h t = t
 typed-call len ask-empty h t = t
 typed-call len ask-has-data h t = t
 typed-call len ask-streams-ready h t = t
+typed-call len ask-ready-count h t = t
 typed-call len ask-readiness h t = t
 
 -- The model's step of a call on a state.
@@ -140,6 +141,7 @@ step-told ask-total s g t = record { good = g; next-is = unfold run.step in refl
 step-told ask-empty s g t = record { good = g; next-is = unfold run.step in refl; shows-are = unfold run.step in ap (λ a. shown (truth a) [] []) (empty-asked (s .words) (s .store)) }
 step-told ask-has-data s g t = record { good = g; next-is = unfold run.step in refl; shows-are = ap (λ a. shown (flag a) [] []) (data-asked (s .words) (s .store) g) }
 step-told ask-streams-ready s g t = record { good = g; next-is = unfold run.step in refl; shows-are = ap (λ a. shown (flag a) [] []) (ready-asked (s .words) (s .store) g) }
+step-told ask-ready-count s g t = record { good = g; next-is = unfold run.step in refl; shows-are = ap (λ a. shown (number a) [] []) (count-link (s .words) (s .store) g) }
 step-told ask-readiness s g t = record { good = g; next-is = unfold run.step in refl; shows-are = unfold run.step in ap (λ a. shown (count a) [] []) (readiness-asked (s .words) (s .store)) }
 
 pub step-link : (c : Call) (s : State) → Good s → Typed c → Stepped c s

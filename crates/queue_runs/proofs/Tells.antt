@@ -237,6 +237,7 @@ Long calls.ask-total = Unit {0}
 Long calls.ask-empty = Unit {0}
 Long calls.ask-has-data = Unit {0}
 Long calls.ask-streams-ready = Unit {0}
+Long calls.ask-ready-count = Unit {0}
 Long calls.ask-readiness = Unit {0}
 
 -- What two queues' calls show is the same only where the model's calls show the same.
@@ -261,4 +262,5 @@ shows-tell len calls.ask-total o p h f a b e = let x = answers e in let z : coun
 shows-tell len calls.ask-empty o p h f a b e = let x = answers e in let z : truthOf (o .answer) ≡ truthOf (p .answer) = cc in truth-tell o p a b z
 shows-tell len calls.ask-has-data o p h f a b e = let x = answers e in let z : flagOf (o .answer) ≡ flagOf (p .answer) = cc in flag-tell o p a b z
 shows-tell len calls.ask-streams-ready o p h f a b e = let x = answers e in let z : flagOf (o .answer) ≡ flagOf (p .answer) = cc in flag-tell o p a b z
+shows-tell len calls.ask-ready-count o p h f a b e = let x = answers e in let z : promise.numberOf (o .answer) ≡ promise.numberOf (p .answer) = cc in number-tell o p a b z
 shows-tell len calls.ask-readiness o p h f a b e = let x = answers e in let z : countOf (o .answer) ≡ countOf (p .answer) = cc in count-tell o p a b z

@@ -15,7 +15,7 @@ use Rattle.queue_sending.specs.Data.{ProducedWith}
 use Rattle.queue_sending.specs.declared.data.Produced.{Produced}
 use Rattle.linked_adding.specs.Add.{AddMeets}
 use Rattle.linked_dropping.specs.Meets.{DiscardMeets, CloseMeets}
-use Rattle.linked_restarts.specs.Contracts.{CommitMeets, RollbackMeets, SwitchMeets, ResetMeets, ReadyMeets}
+use Rattle.linked_restarts.specs.Contracts.{CommitMeets, RollbackMeets, SwitchMeets, ResetMeets, ReadyMeets, CountMeets}
 use Rattle.linked_restoring.specs.Restore.{RestoreMeets}
 use Rattle.linked_sending.specs.Meaning.{ProduceMeets}
 use Rattle.packets.specs.Filling.{FilledWith}
@@ -24,7 +24,7 @@ use Rattle.packets.specs.declared.packet.PacketFilled.{PacketFilled}
 use Rattle.linked_packets.specs.Meaning.{FillMeets}
 use Rattle.linked_streams.specs.Questions as asked
 use Rattle.linked_streams.specs.Settings.{SetPriorityMeets, SetThresholdMeets}
-use Rattle.queue_runs.specs.Calls.{add, produce, fill, discard, close, ready-ids, commit, rollback, reset, set-threshold, set-priority, set-interleaving, restore, ask-priority, ask-amount, ask-threshold, ask-total, ask-empty, ask-has-data, ask-streams-ready, ask-readiness, shown, called, sent, filled, readied, number, flag, count, truth}
+use Rattle.queue_runs.specs.Calls.{add, produce, fill, discard, close, ready-ids, commit, rollback, reset, set-threshold, set-priority, set-interleaving, restore, ask-priority, ask-amount, ask-threshold, ask-total, ask-empty, ask-has-data, ask-streams-ready, ask-ready-count, ask-readiness, shown, called, sent, filled, readied, number, flag, count, truth}
 use Rattle.queue_runs.specs.Run.{state, stepped, step, stores, sends, fills, loud, quiet, readies}
 
 module _ (ws st : List ℕ) where
@@ -115,6 +115,10 @@ module _ (ws st : List ℕ) where
   pub asked-ready-tied : (r : Flag) → asked.ReadyMeets ws r → step ask-streams-ready (state ws st) ≡ stepped (shown (flag r) [] []) (state ws st)
   unfolding step
   asked-ready-tied r h = ap (λ x. stepped (shown (flag x) [] []) (state ws st)) (sym (h .words))
+
+  pub asked-count-tied : (r : Number) → CountMeets ws r → step ask-ready-count (state ws st) ≡ stepped (shown (number r) [] []) (state ws st)
+  unfolding step
+  asked-count-tied r h = ap (λ x. stepped (shown (number x) [] []) (state ws st)) (sym (h .words))
 
   pub asked-readiness-tied : (r : ℕ) → asked.ReadinessMeets ws r → step ask-readiness (state ws st) ≡ stepped (shown (count r) [] []) (state ws st)
   unfolding step

@@ -323,4 +323,5 @@ translate len run.ask-total t = same len calls.ask-total run.ask-total t tt refl
 translate len run.ask-empty t = same len calls.ask-empty run.ask-empty t tt refl
 translate len run.ask-has-data t = same len calls.ask-has-data run.ask-has-data t tt refl
 translate len run.ask-streams-ready t = same len calls.ask-streams-ready run.ask-streams-ready t tt refl
+translate len run.ask-ready-count t = same len calls.ask-ready-count run.ask-ready-count t tt refl
 translate len run.ask-readiness t = same len calls.ask-readiness run.ask-readiness t tt refl

@@ -31,7 +31,7 @@ use Rattle.queue_sending.specs.Choice.{lookAhead}
 use Rattle.queue_sending.specs.Fragment.{leastOf}
 use Rattle.queue_sending.specs.Produce.{produceCode}
 use Rattle.queue_sending.specs.declared.choice.Look.the-variants as look
-use Rattle.queue_runs.specs.Calls.{Call, add, produce, discard, close, ready-ids, commit, rollback, reset, set-threshold, set-priority, set-interleaving, ask-priority, ask-amount, ask-threshold, ask-streams-ready}
+use Rattle.queue_runs.specs.Calls.{Call, add, produce, discard, close, ready-ids, commit, rollback, reset, set-threshold, set-priority, set-interleaving, ask-priority, ask-amount, ask-threshold, ask-streams-ready, ask-ready-count}
 use Rattle.queue_runs.specs.Numbers.{refusalNumber}
 use Rattle.queue_runs.specs.Run.{State, step}
 
@@ -53,6 +53,7 @@ Unplaced ws = Misplaced ws ⊎ (256 < knownCount ws)
 -- The calls that go through all known streams.
 pub record UnplacedGets (s : State) : Type 0 where
   pub by-ready-ids : IsSixteen ready-ids s
+  pub by-ask-count : IsSixteen ask-ready-count s
   pub by-commit : IsSixteen commit s
   pub by-rollback : IsSixteen rollback s
   pub by-reset : IsSixteen reset s

@@ -33,7 +33,7 @@ pub data Call : Type 0 where
   set-interleaving : Bool → Call
   restore : (time : ℕ) (image : List ℕ) → Call
   ask-priority ask-amount ask-threshold : (id : ℕ) → Call
-  ask-total ask-empty ask-has-data ask-streams-ready ask-readiness : Call
+  ask-total ask-empty ask-has-data ask-streams-ready ask-ready-count ask-readiness : Call
 
 -- The model's call, on a queue whose store has this length.
 abbrev pub callOf : ℕ → Call → run.Call
@@ -57,6 +57,7 @@ callOf len ask-total = run.ask-total
 callOf len ask-empty = run.ask-empty
 callOf len ask-has-data = run.ask-has-data
 callOf len ask-streams-ready = run.ask-streams-ready
+callOf len ask-ready-count = run.ask-ready-count
 callOf len ask-readiness = run.ask-readiness
 
 -- A lent list of words or of bytes: shorter than 2^64, each of its width.
@@ -92,6 +93,7 @@ Typed ask-total = Unit {0}
 Typed ask-empty = Unit {0}
 Typed ask-has-data = Unit {0}
 Typed ask-streams-ready = Unit {0}
+Typed ask-ready-count = Unit {0}
 Typed ask-readiness = Unit {0}
 
 -- What a call answers.

@@ -14,7 +14,7 @@ use Rattle.queue_sending.specs.Data.{ProducedWith}
 use Rattle.queue_sending.specs.Produce.{produceNext}
 use Rattle.packets.specs.Filling.{FilledWith, fillPacket}
 use Rattle.handover.specs.Restore as restoring
-use Rattle.queue_runs.specs.Calls.{Call, add, produce, fill, discard, close, ready-ids, commit, rollback, reset, set-threshold, set-priority, set-interleaving, restore, ask-priority, ask-amount, ask-threshold, ask-total, ask-empty, ask-has-data, ask-streams-ready, ask-readiness, Shown, shown, called, sent, filled, readied, number, flag, count, truth}
+use Rattle.queue_runs.specs.Calls.{Call, add, produce, fill, discard, close, ready-ids, commit, rollback, reset, set-threshold, set-priority, set-interleaving, restore, ask-priority, ask-amount, ask-threshold, ask-total, ask-empty, ask-has-data, ask-streams-ready, ask-ready-count, ask-readiness, Shown, shown, called, sent, filled, readied, number, flag, count, truth}
 
 -- A queue: its words and its store.
 pub record State : Type 0 where
@@ -73,6 +73,7 @@ step ask-total s = stepped (shown (count (totalOf (s .words))) [] []) s
 step ask-empty s = stepped (shown (truth (emptyOf (s .words))) [] []) s
 step ask-has-data s = stepped (shown (flag (dataOf (s .words))) [] []) s
 step ask-streams-ready s = stepped (shown (flag (readyOf (s .words))) [] []) s
+step ask-ready-count s = stepped (shown (number (readying.readyCount (s .words))) [] []) s
 step ask-readiness s = stepped (shown (count (readinessOf (s .words))) [] []) s
 
 -- What a list of calls shows, call by call: "each call gets its queue and store as the last one left them".

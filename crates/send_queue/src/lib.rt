@@ -39,6 +39,7 @@ pub use chunks::ChunkWritten;
 pub use chunks::read_chunk;
 pub use chunks::write_chunk;
 // The questions.
+pub use linked_restarts::count_streams_ready_to_reset;
 pub use linked_streams::buffered_amount;
 pub use linked_streams::buffered_amount_low_threshold;
 pub use linked_streams::get_handover_readiness;
