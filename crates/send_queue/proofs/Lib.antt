@@ -1,0 +1,2 @@
+-- Laws of the published contracts. Assumes nothing.
+pub mod Restarts
