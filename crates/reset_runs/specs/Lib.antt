@@ -1,0 +1,3 @@
+-- Lists of calls on a queue and its stream reset handler, made of the definitions that the contracts cite, and request 9/13 of them. Assumes nothing.
+pub mod Uses
+pub mod Request9
