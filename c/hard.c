@@ -53,6 +53,7 @@ struct lent {
     uint64_t *queue, *events, *out;
     uint8_t *store, *buffer, *image;
     uint16_t *ids;
+    uint32_t *handler;
 };
 
 static struct lent now, was;
@@ -74,6 +75,7 @@ static struct lent lend(void) {
     l.buffer = block(BUFFER);
     l.image = block(IMAGE);
     l.ids = block(DSQ_MAX_STREAMS * sizeof(uint16_t));
+    l.handler = block(DSQ_HANDLER_NUMBERS * sizeof(uint32_t));
     return l;
 }
 
@@ -85,12 +87,13 @@ static void keep(void) {
     memcpy(was.buffer, now.buffer, BUFFER);
     memcpy(was.image, now.image, IMAGE);
     memcpy(was.ids, now.ids, DSQ_MAX_STREAMS * sizeof(uint16_t));
+    memcpy(was.handler, now.handler, DSQ_HANDLER_NUMBERS * sizeof(uint32_t));
 }
 
 static int changed(void) {
     return memcmp(was.queue, now.queue, QUEUE_BYTES) || memcmp(was.events, now.events, EVENT_BYTES) || memcmp(was.out, now.out, DSQ_OUT_WORDS * sizeof(uint64_t))
         || memcmp(was.store, now.store, STORE) || memcmp(was.buffer, now.buffer, BUFFER) || memcmp(was.image, now.image, IMAGE)
-        || memcmp(was.ids, now.ids, DSQ_MAX_STREAMS * sizeof(uint16_t));
+        || memcmp(was.ids, now.ids, DSQ_MAX_STREAMS * sizeof(uint16_t)) || memcmp(was.handler, now.handler, DSQ_HANDLER_NUMBERS * sizeof(uint32_t));
 }
 
 /* A store of this length, at the end of its block: what is read or written past it is not the queue's. */
@@ -182,7 +185,7 @@ static uint8_t create(void) {
     return r;
 }
 
-enum kind { ADD, PRODUCE, DISCARD, CLOSE, READY, COMMIT, ROLLBACK, RESET, SWITCH, PRIORITY, THRESHOLD, ASK_PRIORITY, ASK_AMOUNT, ASK_THRESHOLD, ASK_DATA, ASK_READY, ASK_PLAIN, SAVE, RESTORE, CREATE, KINDS };
+enum kind { ADD, PRODUCE, DISCARD, CLOSE, READY, COMMIT, ROLLBACK, RESET, SWITCH, PRIORITY, THRESHOLD, ASK_PRIORITY, ASK_AMOUNT, ASK_THRESHOLD, ASK_DATA, ASK_READY, ASK_COUNT, REQUEST, RESPONSE, RESET_THROUGH, ASK_PLAIN, SAVE, RESTORE, CREATE, KINDS };
 
 #define N(k) (UINT32_C(1) << (k))
 
@@ -204,11 +207,38 @@ static const uint32_t listed[KINDS] = {
     [ASK_THRESHOLD] = N(16),
     [ASK_DATA] = N(16),
     [ASK_READY] = N(16),
+    [ASK_COUNT] = N(16),
+    [REQUEST] = N(25) | N(16) | N(26),
+    [RESPONSE] = N(27) | N(16),
+    [RESET_THROUGH] = N(16),
     [ASK_PLAIN] = 0,
     [SAVE] = N(2) | N(4) | N(11) | N(16),
     [RESTORE] = N(2) | N(4) | N(12) | N(13) | N(14) | N(15),
     [CREATE] = N(1) | N(2),
 };
+
+/* A request into an output that ends where its block ends, mostly long enough. */
+static uint8_t request(void) {
+    size_t length = below(4) ? 64 : (size_t)below(64);
+    if (below(4) == 0)
+        now.handler[below(DSQ_HANDLER_NUMBERS)] = (uint32_t)odd_number();
+    keep();
+    return dsq_make_reset_request(now.queue, now.handler, now.buffer + (BUFFER - length), length, now.out, (uint32_t)next(), (uint32_t)next());
+}
+
+/* A response, mostly to the request underway, some of its bytes changed or cut off; or bytes at random. */
+static uint8_t response(void) {
+    size_t length = below(8) ? 16 : (size_t)below(24), i;
+    uint8_t right[16] = {130, 0, 0, 16, 0, 16, 0, 12, 0}, *bytes = block(length), r;
+    for (i = 0; i < 4; i++)
+        right[8 + i] = (uint8_t)(now.handler[DSQ_HANDLER_NUMBER] >> (24 - 8 * i));
+    right[15] = (uint8_t)below(9);
+    for (i = 0; i < length; i++)
+        bytes[i] = i < 16 && below(64) ? right[i] : (uint8_t)next();
+    r = dsq_handle_reset_response(now.queue, now.handler, bytes, length, now.out);
+    free(bytes);
+    return r;
+}
 
 static uint8_t ask_plain(void) {
     if (dsq_is_empty(now.queue) != (dsq_total_buffered_amount(now.queue) == 0))
@@ -235,6 +265,10 @@ static uint8_t call(enum kind k) {
     case ASK_THRESHOLD: return dsq_buffered_amount_low_threshold(now.queue, now.out, a_stream());
     case ASK_DATA: return dsq_has_data_to_send(now.queue, now.out);
     case ASK_READY: return dsq_has_streams_ready_to_be_reset(now.queue, now.out);
+    case ASK_COUNT: return dsq_count_streams_ready_to_reset(now.queue, now.out);
+    case REQUEST: return request();
+    case RESPONSE: return response();
+    case RESET_THROUGH: return dsq_reset_through_handler(now.queue, now.handler);
     case ASK_PLAIN: return ask_plain();
     case SAVE: return save();
     case RESTORE: return restore();
@@ -297,7 +331,7 @@ static uint8_t past_expired(void) {
 }
 
 int main(int argc, char **argv) {
-    long wanted = argc > 1 ? atol(argv[1]) : 1000000, n, calls, left = 0, on_damaged = 0, images = 0, accepted = 0, refused[17] = {0};
+    long wanted = argc > 1 ? atol(argv[1]) : 1000000, n, calls, left = 0, on_damaged = 0, images = 0, accepted = 0, refused[32] = {0};
     uint64_t *good = block(QUEUE_BYTES);
     size_t good_length = STORE;
     int good_damaged = 0;
@@ -334,7 +368,7 @@ int main(int argc, char **argv) {
         else if (damaged)
             on_damaged++;
         r = call(k);
-        if (r != 0 && (r > 16 || !(listed[k] >> r & 1))) {
+        if (r != 0 && (r > 31 || !(listed[k] >> r & 1))) {
             printf("hard: call %ld of kind %d answers %u, which is not listed\n", calls, (int)k, r);
             return 1;
         }
@@ -352,8 +386,9 @@ int main(int argc, char **argv) {
             refused[r]++;
     }
     printf("hard: %ld calls, %ld of them on damaged words, %ld with an image; %ld accepted; refused", calls, on_damaged, images, accepted);
-    for (n = 1; n <= 16; n++)
-        printf(" %ld:%ld", n, refused[n]);
+    for (n = 1; n < 32; n++)
+        if (n <= 16 || refused[n])
+            printf(" %ld:%ld", n, refused[n]);
     printf("; every answer is listed, a refused call changed nothing\n");
     for (n = calls = accepted = 0; calls < wanted / 400; calls++) {
         uint8_t r = past_expired();

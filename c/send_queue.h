@@ -51,6 +51,9 @@ extern "C" {
 /* The longest payload that is written into a chunk, of either kind. */
 #define DSQ_MAX_CHUNK_PAYLOAD 65515
 
+/* The longest reset request: 20 bytes and 256 stream ids. */
+#define DSQ_MAX_RESET_REQUEST 532
+
 /* So many bytes hold every chunk with a payload of this length: the longer header, and at most 3 bytes of padding. */
 #define DSQ_MAX_CHUNK(payload_length) ((size_t)23 + (payload_length))
 
@@ -99,6 +102,12 @@ enum dsq_refusal {
     DSQ_CHUNK_OUTPUT_SHORT = 18,
     /* The bytes read are not one DATA or I-DATA chunk with payload and padding. */
     DSQ_CHUNK_WRONG = 19,
+    /* A reset request is wanted while one is underway. */
+    DSQ_REQUEST_UNDERWAY = 25,
+    /* The output is shorter than the reset request. */
+    DSQ_REQUEST_OUTPUT_SHORT = 26,
+    /* The bytes received are not one RE-CONFIG chunk with a response. */
+    DSQ_RESPONSE_WRONG = 27,
     /* The wanted order is empty, has more than 32 ids or names one twice, or a size is outside 1 to 262,144, or ids and sizes differ in
      * count. */
     DSQ_ORDER_WRONG = 28,
@@ -163,6 +172,22 @@ enum dsq_chunk {
     DSQ_CHUNK_TSN = 1,        /* 32 bits */
     DSQ_CHUNK_PAYLOAD_AT = 2, /* where the payload begins in the bytes read; DSQ_OUT_LENGTH tells its length */
     DSQ_CHUNK_WORDS = 3
+};
+
+/* The numbers of a stream reset handler, 32 bits each; any three are one. */
+enum dsq_handler {
+    DSQ_HANDLER_NEXT = 0,     /* the number of the next request */
+    DSQ_HANDLER_UNDERWAY = 1, /* a flag: whether a request is underway */
+    DSQ_HANDLER_NUMBER = 2,   /* its number, where one is */
+    DSQ_HANDLER_NUMBERS = 3
+};
+
+/* What VALUE tells of a response. */
+enum dsq_response {
+    DSQ_RESPONSE_IGNORED = 0,    /* it answers another request, or none is underway: nothing has changed */
+    DSQ_RESPONSE_COMMITTED = 1,  /* the peer has reset the streams: they are open, with their counters at 0 */
+    DSQ_RESPONSE_ROLLED_BACK = 2, /* it has not: they are open and count on */
+    DSQ_RESPONSE_WAITING = 3     /* it is at it: the request goes on waiting */
 };
 
 /* What dsq_get_handover_readiness tells. */
@@ -263,6 +288,29 @@ uint8_t dsq_write_chunk(uint8_t *output, size_t output_length, const uint8_t *pa
  * chunk-array. (19) */
 uint8_t dsq_read_chunk(const uint8_t *bytes, size_t bytes_length, uint64_t out[DSQ_OUT_WORDS], uint64_t chunk[DSQ_CHUNK_WORDS]);
 
+/* ---------------------------------------------------------------- reset requests to the peer (RFC 6525)
+ *
+ * A stream reset handler makes the requests for a queue and takes the peer's responses. Start it on a new or restored queue; from then on
+ * call dsq_get_streams_ready_to_reset, dsq_commit_reset_streams, dsq_rollback_reset_streams and dsq_reset for that queue no more, but
+ * these functions: then exactly the streams of the request underway are resetting, none without one. */
+
+/* The handler without a request underway; its first request gets this number. */
+uint8_t dsq_start_reset_handler(uint32_t handler[DSQ_HANDLER_NUMBERS], uint32_t number);
+
+/* Writes a request for all streams that are ready to be reset to the output's start: a RE-CONFIG chunk, with its padding, that names them
+ * in ascending order; they are resetting from then on. The rest of the output stays. response_number and last_tsn are the association's.
+ * Tells VALUE, the bytes written; 0 if no stream is ready, and then nothing has changed. (25, 16, 26) */
+uint8_t dsq_make_reset_request(uint64_t queue[DSQ_QUEUE_WORDS], uint32_t handler[DSQ_HANDLER_NUMBERS], uint8_t *output,
+                               size_t output_length, uint64_t out[DSQ_OUT_WORDS], uint32_t response_number, uint32_t last_tsn);
+
+/* Takes the RE-CONFIG chunk that the bytes are, with the peer's response to a request: result 0 or 1 commits the reset, 2 to 5 roll it
+ * back, 6 keeps the request waiting. Tells VALUE, of enum dsq_response. (27, 16) */
+uint8_t dsq_handle_reset_response(uint64_t queue[DSQ_QUEUE_WORDS], uint32_t handler[DSQ_HANDLER_NUMBERS], const uint8_t *bytes,
+                                  size_t bytes_length, uint64_t out[DSQ_OUT_WORDS]);
+
+/* dsq_reset, which ends the request underway; the numbers go on. (16) */
+uint8_t dsq_reset_through_handler(uint64_t queue[DSQ_QUEUE_WORDS], uint32_t handler[DSQ_HANDLER_NUMBERS]);
+
 /* ---------------------------------------------------------------- questions; they change nothing */
 
 /* VALUE: a stream's priority, the default where none was set. (16) */
@@ -279,6 +327,9 @@ uint8_t dsq_has_data_to_send(const uint64_t queue[DSQ_QUEUE_WORDS], uint64_t out
 
 /* VALUE: 1 if a stream is ready to be reset, else 0. (16) */
 uint8_t dsq_has_streams_ready_to_be_reset(const uint64_t queue[DSQ_QUEUE_WORDS], uint64_t out[DSQ_OUT_WORDS]);
+
+/* VALUE: how many streams are ready to be reset; they are not taken. (16) */
+uint8_t dsq_count_streams_ready_to_reset(const uint64_t queue[DSQ_QUEUE_WORDS], uint64_t out[DSQ_OUT_WORDS]);
 
 /* The answer itself, never a refusal: the bytes that wait in all; */
 uint64_t dsq_total_buffered_amount(const uint64_t queue[DSQ_QUEUE_WORDS]);

@@ -251,6 +251,7 @@ static uint64_t has_data(struct host *h)
 
 static uint64_t has_ready(struct host *h)
 {
+    CHECK(dsq_count_streams_ready_to_reset(h->queue, h->out) == DSQ_ACCEPTED);
     CHECK(dsq_has_streams_ready_to_be_reset(h->queue, h->out) == DSQ_ACCEPTED);
     return h->out[DSQ_OUT_VALUE];
 }
@@ -1205,6 +1206,7 @@ static void broken_words(void)
     REFUSED(h, DSQ_WORDS_BROKEN, dsq_buffered_amount_low_threshold(h->queue, h->out, 1));
     REFUSED(h, DSQ_WORDS_BROKEN, dsq_has_data_to_send(h->queue, h->out));
     REFUSED(h, DSQ_WORDS_BROKEN, dsq_has_streams_ready_to_be_reset(h->queue, h->out));
+    REFUSED(h, DSQ_WORDS_BROKEN, dsq_count_streams_ready_to_reset(h->queue, h->out));
     REFUSED(h, DSQ_WORDS_BROKEN, save(h));
     REFUSED(h, DSQ_QUEUE_USED, restore(h, h->image, 20));
     CHECK(dsq_is_empty(h->queue) == 0);
@@ -1233,7 +1235,8 @@ static uint8_t some_call(struct host *h, unsigned which)
     case 13: return dsq_buffered_amount_low_threshold(h->queue, h->out, stream);
     case 14: return dsq_has_data_to_send(h->queue, h->out);
     case 15: return dsq_has_streams_ready_to_be_reset(h->queue, h->out);
-    case 16: return save(h);
+    case 16: return dsq_count_streams_ready_to_reset(h->queue, h->out);
+    case 17: return save(h);
     default: return restore(h, h->image, 20 + (size_t)(any() % 50));
     }
 }
@@ -1250,7 +1253,7 @@ static void damaged_words(void)
             (void)some_call(h, (unsigned)(any() % 6));
         for (i = 0; i < 1 + round % 5; i++)
             h->queue[6 + any() % (i % 2 ? DSQ_QUEUE_WORDS - 6 : 600)] = any() % 2 ? any() : any() % 2000;
-        for (i = 0; i < 18; i++) {
+        for (i = 0; i < 19; i++) {
             uint8_t r;
             remember(h);
             r = some_call(h, i);
@@ -1431,6 +1434,151 @@ static void chunk_refusals(void)
     no_read(bytes, 20);
 }
 
+/* ---------------------------------------------------------------- reset requests to the peer */
+
+/* A queue on which these streams are closed, and its handler. */
+struct closer {
+    struct host *host;
+    uint32_t *handler;
+    uint8_t *output;
+    size_t output_length;
+};
+
+static struct closer closer(uint32_t number, const uint16_t *ids, size_t count, size_t output_length)
+{
+    struct closer c;
+    size_t i;
+    c.host = new_queue(SMALL_STORE);
+    c.handler = allocate(DSQ_HANDLER_NUMBERS * sizeof *c.handler, 0x77);
+    c.output = allocate(output_length, 165);
+    c.output_length = output_length;
+    CHECK(dsq_start_reset_handler(c.handler, number) == DSQ_ACCEPTED);
+    CHECK(c.handler[DSQ_HANDLER_NEXT] == number && c.handler[DSQ_HANDLER_UNDERWAY] == 0);
+    for (i = 0; i < count; i++)
+        CHECK(dsq_prepare_reset_stream(c.host->queue, c.host->events, c.host->events_length, c.host->out, ids[i]) == DSQ_ACCEPTED);
+    return c;
+}
+
+static void close_closer(struct closer c)
+{
+    give_back(c.host);
+    free(c.handler);
+    free(c.output);
+}
+
+static uint8_t ask(struct closer c)
+{
+    return dsq_make_reset_request(c.host->queue, c.handler, c.output, c.output_length, c.host->out, 9, 0x01020304);
+}
+
+/* The response to a request, with any flags. */
+static uint8_t answer(struct closer c, uint32_t number, uint32_t result)
+{
+    uint8_t *bytes = allocate(16, 0), r;
+    int i;
+    bytes[0] = 130;
+    bytes[1] = 255;
+    bytes[3] = 16;
+    bytes[5] = 16;
+    bytes[7] = 12;
+    for (i = 0; i < 4; i++) {
+        bytes[8 + i] = (uint8_t)(number >> (24 - 8 * i));
+        bytes[12 + i] = (uint8_t)(result >> (24 - 8 * i));
+    }
+    r = dsq_handle_reset_response(c.host->queue, c.handler, bytes, 16, c.host->out);
+    free(bytes);
+    return r;
+}
+
+/* A call is refused with this number and changes nothing: no array of the host, no number of the handler, no byte of the output. */
+#define UNASKED(c, number, call)                                                                       \
+    do {                                                                                                \
+        uint32_t kept[DSQ_HANDLER_NUMBERS];                                                             \
+        size_t at;                                                                                      \
+        memcpy(kept, (c).handler, sizeof kept);                                                         \
+        REFUSED((c).host, number, call);                                                                \
+        CHECK(memcmp(kept, (c).handler, sizeof kept) == 0);                                             \
+        for (at = 0; at < (c).output_length && (c).output[at] == 165; at++)                             \
+            ;                                                                                           \
+        CHECK(at == (c).output_length);                                                                 \
+    } while (0)
+
+static uint64_t ready_count(struct closer c)
+{
+    CHECK(dsq_count_streams_ready_to_reset(c.host->queue, c.host->out) == DSQ_ACCEPTED);
+    return c.host->out[DSQ_OUT_VALUE];
+}
+
+static void reset_requests(void)
+{
+    static const uint16_t ids[] = {258, 5, 1};
+    static const uint8_t written[] = {130, 0, 0, 26, 0, 13, 0, 22, 255, 255, 255, 255, 0, 0, 0, 9, 1, 2, 3, 4, 0, 1, 0, 5, 1, 2, 0, 0};
+    static const uint8_t outcomes[] = {1, 1, 2, 2, 2, 2, 3};
+    struct closer c = closer(UINT32_MAX, ids, 3, sizeof written + 3);
+    uint32_t result;
+    CHECK(ready_count(c) == 3);
+    CHECK(ask(c) == DSQ_ACCEPTED && c.host->out[DSQ_OUT_VALUE] == sizeof written);
+    CHECK(memcmp(c.output, written, sizeof written) == 0 && c.output[sizeof written] == 165 && c.output[sizeof written + 2] == 165);
+    CHECK(c.handler[DSQ_HANDLER_NEXT] == 0 && c.handler[DSQ_HANDLER_UNDERWAY] == 1 && c.handler[DSQ_HANDLER_NUMBER] == UINT32_MAX);
+    CHECK(ready_count(c) == 0);
+    memset(c.output, 165, c.output_length);
+    UNASKED(c, DSQ_REQUEST_UNDERWAY, ask(c));
+    /* for another request, then result by result; with none underway it is ignored, and no stream is ready */
+    CHECK(answer(c, 7, 0) == DSQ_ACCEPTED && c.host->out[DSQ_OUT_VALUE] == DSQ_RESPONSE_IGNORED && c.handler[DSQ_HANDLER_UNDERWAY] == 1);
+    CHECK(answer(c, UINT32_MAX, 6) == DSQ_ACCEPTED && c.host->out[DSQ_OUT_VALUE] == DSQ_RESPONSE_WAITING && c.handler[DSQ_HANDLER_UNDERWAY] == 1);
+    UNASKED(c, DSQ_RESPONSE_WRONG, answer(c, UINT32_MAX, 7));
+    CHECK(answer(c, UINT32_MAX, 1) == DSQ_ACCEPTED && c.host->out[DSQ_OUT_VALUE] == DSQ_RESPONSE_COMMITTED && c.handler[DSQ_HANDLER_UNDERWAY] == 0);
+    CHECK(answer(c, UINT32_MAX, 0) == DSQ_ACCEPTED && c.host->out[DSQ_OUT_VALUE] == DSQ_RESPONSE_IGNORED);
+    CHECK(ask(c) == DSQ_ACCEPTED && c.host->out[DSQ_OUT_VALUE] == 0 && c.output[0] == 165);
+    close_closer(c);
+    for (result = 0; result <= 6; result++) {
+        c = closer(3, ids, 1, 24);
+        CHECK(ask(c) == DSQ_ACCEPTED && answer(c, 3, result) == DSQ_ACCEPTED && c.host->out[DSQ_OUT_VALUE] == outcomes[result]);
+        CHECK(c.handler[DSQ_HANDLER_UNDERWAY] == (result == 6));
+        /* the whole-queue reset ends the request; a late response to it is ignored; the numbers go on */
+        CHECK(dsq_reset_through_handler(c.host->queue, c.handler) == DSQ_ACCEPTED && c.handler[DSQ_HANDLER_UNDERWAY] == 0);
+        CHECK(answer(c, 3, 0) == DSQ_ACCEPTED && c.host->out[DSQ_OUT_VALUE] == DSQ_RESPONSE_IGNORED);
+        CHECK(c.handler[DSQ_HANDLER_NEXT] == 4);
+        close_closer(c);
+    }
+}
+
+static void reset_refusals(void)
+{
+    static const uint16_t ids[] = {1};
+    struct closer c = closer(3, ids, 1, 23);
+    uint8_t bytes[20] = {130, 0, 0, 16, 0, 16, 0, 12, 0, 0, 0, 3, 0, 0, 0, 6};
+    size_t n;
+    /* 26 counts the padding and takes no stream; any other number is as good a flag as 1: 25 comes first */
+    UNASKED(c, DSQ_REQUEST_OUTPUT_SHORT, ask(c));
+    CHECK(ready_count(c) == 1);
+    c.handler[DSQ_HANDLER_UNDERWAY] = UINT32_MAX;
+    UNASKED(c, DSQ_REQUEST_UNDERWAY, ask(c));
+    c.handler[DSQ_HANDLER_UNDERWAY] = 0;
+    /* 27: cut, longer, another type, length or parameter, a result above 6 */
+    for (n = 0; n <= 20; n++)
+        if (n != 16)
+            UNASKED(c, DSQ_RESPONSE_WRONG, dsq_handle_reset_response(c.host->queue, c.handler, bytes, n, c.host->out));
+    for (n = 0; n < 16; n++) {
+        bytes[n] ^= 1;
+        if (n == 1 || (n >= 8 && n < 12))
+            CHECK(dsq_handle_reset_response(c.host->queue, c.handler, bytes, 16, c.host->out) == DSQ_ACCEPTED && c.host->out[DSQ_OUT_VALUE] == 0);
+        else
+            UNASKED(c, DSQ_RESPONSE_WRONG, dsq_handle_reset_response(c.host->queue, c.handler, bytes, 16, c.host->out));
+        bytes[n] ^= 1;
+    }
+    /* 16 of the queue's own calls is passed on, and the handler stays: the known streams (words 32 to 543) have places outside their table */
+    for (n = 32; n < 544; n++)
+        c.host->queue[n] = UINT64_MAX;
+    UNASKED(c, DSQ_WORDS_BROKEN, ask(c));
+    UNASKED(c, DSQ_WORDS_BROKEN, dsq_reset_through_handler(c.host->queue, c.handler));
+    c.handler[DSQ_HANDLER_UNDERWAY] = 1;
+    c.handler[DSQ_HANDLER_NUMBER] = 3;
+    UNASKED(c, DSQ_WORDS_BROKEN, answer(c, 3, 0));
+    UNASKED(c, DSQ_WORDS_BROKEN, answer(c, 3, 2));
+    close_closer(c);
+}
+
 int main(void)
 {
     layout();
@@ -1446,6 +1594,8 @@ int main(void)
     planning_refusals();
     chunks();
     chunk_refusals();
+    reset_requests();
+    reset_refusals();
     broken_words();
     damaged_words();
     if (failed) {

@@ -2,4 +2,5 @@
 pub mod Numbers
 pub mod Chunks
 pub mod Given
+pub mod Handler
 pub mod Layout

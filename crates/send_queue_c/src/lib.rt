@@ -7,6 +7,7 @@ pub mod messages;
 pub mod numbers;
 pub mod planning;
 pub mod questions;
+pub mod resets;
 pub mod sending;
 pub mod streams;
 pub mod wire;

@@ -1,6 +1,7 @@
 // The questions: "the calls that only ask".
 ghost use mathlib.Core.Path.{_≡_};
 ghost use Rattle.queue_questions.specs.Questions.{priorityOf, amountOf, thresholdOf, totalOf, emptyOf, dataOf, readyOf, readinessOf};
+ghost use Rattle.queue_restarts.specs.Ready.{readyCount};
 ghost use Rattle.queue_words.specs.Flags.{bit};
 ghost use Rattle.send_queue_c.specs.Given.{GivesNumber, GivesFlag};
 use crate::numbers::OUT_WORDS;
@@ -9,6 +10,7 @@ use crate::numbers::tell_number;
 use send_queue::QUEUE_WORDS;
 use send_queue::buffered_amount;
 use send_queue::buffered_amount_low_threshold;
+use send_queue::count_streams_ready_to_reset;
 use send_queue::get_handover_readiness;
 use send_queue::get_priority;
 use send_queue::has_data_to_send;
@@ -85,6 +87,17 @@ pub extern "C" fn dsq_has_streams_ready_to_be_reset(
 {
     let a = has_streams_ready_to_be_reset(queue);
     tell_flag(out, a)
+}
+
+#[no_mangle]
+pub extern "C" fn dsq_count_streams_ready_to_reset(
+    queue: &[u64; QUEUE_WORDS],
+    out: &mut [u64; OUT_WORDS],
+) -> u8
+    ensures { λ r. ⌜ GivesNumber (readyCount (now (queue .entry))) (now (out .entry)) r (now (out .exit)) ⌝ }
+{
+    let a = count_streams_ready_to_reset(queue);
+    tell_number(out, a)
 }
 
 #[no_mangle]
