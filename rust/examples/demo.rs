@@ -2,7 +2,7 @@
 //!
 //! First the heads get their first packets in a wanted order, a closed head whose half-sent profile runs out of time is ready at once, a
 //! queue without interleaving is carried to a second host in the middle of a profile, and a head restarts in the middle of one. Then comes the job: the heads' backlogs run low and
-//! are topped up, a head's job is closed in the middle of a profile, and half-way the queue is carried to a second host as an image. Every
+//! are topped up, a head's job is closed in the middle of a profile and its stream reset by a request that the head answers, and half-way the queue is carried to a second host as an image. Every
 //! fragment goes over the wire as a chunk, and the heads read chunks. At the end every profile is compared byte for byte with what was queued.
 
 use desqariy::*;
@@ -38,6 +38,8 @@ fn number(stream: u16, place: u64) -> u64 {
 #[derive(Default)]
 struct Receiver {
     next: Tsn,
+    /// How often the reset request underway has come.
+    asked: u32,
     open: BTreeMap<(StreamKey, u32), (Fsn, Vec<u8>)>,
     whole: Vec<(StreamId, Vec<u8>)>,
 }
@@ -50,6 +52,19 @@ impl Receiver {
         }
         self.next = chunk.tsn.add_to(1);
         self.take(&chunk.fragment)
+    }
+
+    /// Answers a reset request (RFC 6525): first that it is at it (6), when it is asked again that it has reset the streams (1).
+    fn answer(&mut self, request: &[u8]) -> Outcome<[u8; 16]> {
+        let (head, ids) = request.split_at_checked(20).ok_or("no reset request")?;
+        let last = u32::from_be_bytes([head[16], head[17], head[18], head[19]]);
+        if head[..6] != [130, 0, 0, 22, 0, 13] || Tsn(last).add_to(1) != self.next || ids != [0, CLOSED.0 as u8, 0, 0] {
+            return Err("another reset request than for the closed head".into());
+        }
+        self.asked += 1;
+        let mut response = [130, 0, 0, 16, 0, 16, 0, 12, 0, 0, 0, 0, 0, 0, 0, if self.asked == 1 { 6 } else { 1 }];
+        response[8..12].copy_from_slice(&head[8..12]);
+        Ok(response)
     }
 
     fn take(&mut self, d: &DataToSend) -> Outcome<()> {
@@ -74,6 +89,7 @@ impl Receiver {
 /// The feeder: a queue, the link to the heads, and what became of the profiles.
 struct Feeder {
     queue: SendQueue,
+    resets: StreamResetHandler,
     link: Receiver,
     now: SocketTime,
     fragments: u64,
@@ -122,6 +138,24 @@ impl Feeder {
             }
         }
         Ok(packets)
+    }
+
+    /// Asks the other end to reset the closed head's stream, and takes its responses: it is at it, then it has done so.
+    fn close(&mut self) -> Outcome<()> {
+        let mut output = [0; MAX_RESET_REQUEST];
+        let last = Tsn(self.tsn.0.wrapping_sub(1));
+        let n =
+            self.resets.make_stream_reset_request(&mut self.queue, &mut output, 0, last)?.ok_or("no head is ready")?;
+        println!("  it is sent; a reset request of {n} bytes goes out");
+        for wanted in [ResponseOutcome::StillWaiting, ResponseOutcome::Committed] {
+            let response = self.link.answer(&output[..n])?;
+            let outcome = self.resets.handle_response(&mut self.queue, &response)?;
+            println!("  the head's response, {} bytes: {outcome:?}", response.len());
+            if outcome != wanted {
+                return Err("the head answered otherwise".into());
+            }
+        }
+        Ok(())
     }
 
     /// Tells what the last call reported.
@@ -273,6 +307,7 @@ fn main() -> Outcome<()> {
     println!("first host: profiles for eight heads, interleaved; head 1 has double weight; the mark is {MARK} bytes");
     let mut feeder = Feeder {
         queue: new_queue()?,
+        resets: StreamResetHandler::new(u32::MAX),
         link: Receiver::default(),
         now: SocketTime::zero(),
         fragments: 0,
@@ -307,9 +342,7 @@ fn main() -> Outcome<()> {
     while !feeder.queue.has_streams_ready_to_be_reset() {
         feeder.send(1)?;
     }
-    let ready = feeder.queue.get_streams_ready_to_reset();
-    println!("  it is sent; ready to be reset: {ready:?}");
-    feeder.queue.commit_reset_streams();
+    feeder.close()?;
 
     let image = feeder.queue.save(feeder.now)?;
     println!(
@@ -326,6 +359,7 @@ fn main() -> Outcome<()> {
     }
     println!("second host: restored, {} bytes to be sent; its own image is the same", second.total_buffered_amount());
     feeder.queue = second;
+    feeder.resets = StreamResetHandler::new(0);
     feeder.now = clock;
     // Head 5 counts from 0 again; a new job for it.
     feeder.add(new, None)?;

@@ -12,6 +12,7 @@ use crate::fragment::Data;
 use crate::ids::Tsn;
 use crate::limits::CHUNK_WORDS;
 use crate::limits::EVENT_WORDS;
+use crate::limits::HANDLER_NUMBERS;
 use crate::limits::MAX_PLANNED;
 use crate::limits::MAX_STREAMS;
 use crate::limits::OUT_WORDS;
@@ -29,6 +30,8 @@ pub(crate) type Out = [u64; OUT_WORDS];
 pub(crate) type ReadyIds = [u16; MAX_STREAMS];
 /// Room for the priorities of a wanted order.
 pub(crate) type Priorities = [u16; MAX_PLANNED];
+/// A stream reset handler: 0 its next request number, 1 whether a request is underway, 2 that one's number.
+pub(crate) type HandlerNumbers = [u32; HANDLER_NUMBERS];
 /// What goes with a chunk read: 0 its kind, 1 its TSN, 2 where its payload begins.
 pub(crate) type ChunkWords = [u64; CHUNK_WORDS];
 
@@ -129,11 +132,30 @@ mod c {
         pub fn dsq_commit_reset_streams(queue: *mut u64) -> u8;
         pub fn dsq_rollback_reset_streams(queue: *mut u64) -> u8;
         pub fn dsq_reset(queue: *mut u64) -> u8;
+        pub fn dsq_start_reset_handler(handler: *mut u32, number: u32) -> u8;
+        pub fn dsq_make_reset_request(
+            queue: *mut u64,
+            handler: *mut u32,
+            output: *mut u8,
+            output_length: usize,
+            out: *mut u64,
+            response_number: u32,
+            last_tsn: u32,
+        ) -> u8;
+        pub fn dsq_handle_reset_response(
+            queue: *mut u64,
+            handler: *mut u32,
+            bytes: *const u8,
+            bytes_length: usize,
+            out: *mut u64,
+        ) -> u8;
+        pub fn dsq_reset_through_handler(queue: *mut u64, handler: *mut u32) -> u8;
         pub fn dsq_get_priority(queue: *const u64, out: *mut u64, stream_id: u16) -> u8;
         pub fn dsq_buffered_amount(queue: *const u64, out: *mut u64, stream_id: u16) -> u8;
         pub fn dsq_buffered_amount_low_threshold(queue: *const u64, out: *mut u64, stream_id: u16) -> u8;
         pub fn dsq_has_data_to_send(queue: *const u64, out: *mut u64) -> u8;
         pub fn dsq_has_streams_ready_to_be_reset(queue: *const u64, out: *mut u64) -> u8;
+        pub fn dsq_count_streams_ready_to_reset(queue: *const u64, out: *mut u64) -> u8;
         pub fn dsq_total_buffered_amount(queue: *const u64) -> u64;
         pub fn dsq_is_empty(queue: *const u64) -> u8;
         pub fn dsq_get_handover_readiness(queue: *const u64) -> u64;
@@ -358,6 +380,56 @@ pub(crate) fn reset(queue: &mut Words) -> u8 {
     unsafe { c::dsq_reset(queue.as_mut_ptr()) }
 }
 
+pub(crate) fn start_reset_handler(handler: &mut HandlerNumbers, number: u32) -> u8 {
+    // SAFETY: handler is a reference of its length.
+    unsafe { c::dsq_start_reset_handler(handler.as_mut_ptr(), number) }
+}
+
+pub(crate) fn make_reset_request(
+    queue: &mut Words,
+    handler: &mut HandlerNumbers,
+    output: &mut [u8],
+    out: &mut Out,
+    response_number: u32,
+    last_tsn: u32,
+) -> u8 {
+    // SAFETY: all four are references, the output's length is its own.
+    unsafe {
+        c::dsq_make_reset_request(
+            queue.as_mut_ptr(),
+            handler.as_mut_ptr(),
+            output.as_mut_ptr(),
+            output.len(),
+            out.as_mut_ptr(),
+            response_number,
+            last_tsn,
+        )
+    }
+}
+
+pub(crate) fn handle_reset_response(
+    queue: &mut Words,
+    handler: &mut HandlerNumbers,
+    bytes: &[u8],
+    out: &mut Out,
+) -> u8 {
+    // SAFETY: all four are references, the bytes' length is their own and they are only read.
+    unsafe {
+        c::dsq_handle_reset_response(
+            queue.as_mut_ptr(),
+            handler.as_mut_ptr(),
+            bytes.as_ptr(),
+            bytes.len(),
+            out.as_mut_ptr(),
+        )
+    }
+}
+
+pub(crate) fn reset_through_handler(queue: &mut Words, handler: &mut HandlerNumbers) -> u8 {
+    // SAFETY: both are references.
+    unsafe { c::dsq_reset_through_handler(queue.as_mut_ptr(), handler.as_mut_ptr()) }
+}
+
 pub(crate) fn get_priority(queue: &Words, out: &mut Out, stream_id: u16) -> u8 {
     // SAFETY: both are references; a question reads the queue only.
     unsafe { c::dsq_get_priority(queue.as_ptr(), out.as_mut_ptr(), stream_id) }
@@ -381,6 +453,11 @@ pub(crate) fn has_data_to_send(queue: &Words, out: &mut Out) -> u8 {
 pub(crate) fn has_streams_ready_to_be_reset(queue: &Words, out: &mut Out) -> u8 {
     // SAFETY: both are references; a question reads the queue only.
     unsafe { c::dsq_has_streams_ready_to_be_reset(queue.as_ptr(), out.as_mut_ptr()) }
+}
+
+pub(crate) fn count_streams_ready_to_reset(queue: &Words, out: &mut Out) -> u8 {
+    // SAFETY: both are references; a question reads the queue only.
+    unsafe { c::dsq_count_streams_ready_to_reset(queue.as_ptr(), out.as_mut_ptr()) }
 }
 
 pub(crate) fn total_buffered_amount(queue: &Words) -> u64 {

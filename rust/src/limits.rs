@@ -16,6 +16,8 @@ pub const MAX_TIME: u64 = 4_611_686_018_427_387_903;
 pub const MAX_PLANNED: usize = 32;
 /// The longest payload that is written into a chunk ([`write_chunk`](crate::write_chunk)).
 pub const MAX_CHUNK_PAYLOAD: usize = 65_515;
+/// The longest reset request, padding included ([`StreamResetHandler`](crate::StreamResetHandler)).
+pub const MAX_RESET_REQUEST: usize = 20 + 2 * MAX_STREAMS;
 
 /// The layout of words, events and arguments that this crate is written for.
 pub(crate) const LAYOUT: u64 = 4;
@@ -31,5 +33,7 @@ pub(crate) const EVENT_WORDS: usize = MAX_EVENTS * PLACE_WORDS;
 pub(crate) const OUT_WORDS: usize = 16;
 /// Places of what goes with a chunk read.
 pub(crate) const CHUNK_WORDS: usize = 3;
+/// Numbers of a stream reset handler.
+pub(crate) const HANDLER_NUMBERS: usize = 3;
 /// An image's bytes beside its payloads, at most: records of all streams and messages, and the trailer.
 pub(crate) const MAX_IMAGE_RECORDS: usize = 14 * MAX_STREAMS + 44 * MAX_MESSAGES + 20;

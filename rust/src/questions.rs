@@ -51,6 +51,11 @@ impl SendQueue {
         told(|out| ffi::has_streams_ready_to_be_reset(&self.words, out)) != 0
     }
 
+    /// How many streams [`get_streams_ready_to_reset`](SendQueue::get_streams_ready_to_reset) would name. They are not taken.
+    pub fn count_streams_ready_to_reset(&self) -> usize {
+        told(|out| ffi::count_streams_ready_to_reset(&self.words, out)) as usize
+    }
+
     /// Whether the queue may be carried to another host.
     pub fn get_handover_readiness(&self) -> HandoverReadiness {
         HandoverReadiness(ffi::get_handover_readiness(&self.words) as u32)

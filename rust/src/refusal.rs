@@ -48,6 +48,12 @@ pub enum Refusal {
     ChunkOutputShort = 18,
     /// The bytes read are not one DATA or I-DATA chunk with payload and padding.
     ChunkWrong = 19,
+    /// A reset request is wanted while one is underway.
+    RequestUnderway = 25,
+    /// The output is shorter than the reset request.
+    RequestOutputShort = 26,
+    /// The bytes received are not one RE-CONFIG chunk with a response.
+    ResponseWrong = 27,
     /// The wanted order is empty, has more than 32 ids or names one twice, or a size is outside 1 to 262,144, or ids and sizes differ in
     /// count.
     OrderWrong = 28,
@@ -56,7 +62,7 @@ pub enum Refusal {
 }
 
 impl Refusal {
-    const ALL: [Self; 21] = [
+    const ALL: [Self; 24] = [
         Self::PayloadLimitWrong,
         Self::StoreWrong,
         Self::EventListShort,
@@ -76,11 +82,14 @@ impl Refusal {
         Self::ChunkPayloadWrong,
         Self::ChunkOutputShort,
         Self::ChunkWrong,
+        Self::RequestUnderway,
+        Self::RequestOutputShort,
+        Self::ResponseWrong,
         Self::OrderWrong,
         Self::OrderImpossible,
     ];
 
-    /// Its number: 1 to 19, 28 or 29.
+    /// Its number: 1 to 19, or 25 to 29.
     pub fn number(self) -> u8 {
         self as u8
     }
@@ -123,6 +132,9 @@ impl fmt::Display for Refusal {
             Self::ChunkPayloadWrong => "the payload to write into a chunk is empty or above 65,515 bytes",
             Self::ChunkOutputShort => "the output is shorter than the padded chunk",
             Self::ChunkWrong => "the bytes read are not one DATA or I-DATA chunk with payload and padding",
+            Self::RequestUnderway => "a reset request is wanted while one is underway",
+            Self::RequestOutputShort => "the output is shorter than the reset request",
+            Self::ResponseWrong => "the bytes received are not one RE-CONFIG chunk with a response",
             Self::OrderWrong => {
                 "the wanted order is empty, has more than 32 ids or names one twice, or a size is outside 1 to 262,144, or ids and \
                  sizes differ in count"

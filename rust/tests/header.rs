@@ -99,7 +99,7 @@ fn of_parameter(name: &str, kind: &str, list: &mut Vec<String>) {
 
 fn of_source() -> Functions {
     let mut functions = Functions::new();
-    for file in ["images", "layout", "messages", "planning", "questions", "sending", "streams", "wire"] {
+    for file in ["images", "layout", "messages", "planning", "questions", "resets", "sending", "streams", "wire"] {
         for part in text(&format!("../crates/send_queue_c/src/{file}.rt")).split("pub extern \"C\" fn ").skip(1) {
             let (name, rest) = part.split_once('(').unwrap();
             let (parameters, rest) = rest.split_once(") -> ").unwrap();
@@ -140,6 +140,7 @@ fn the_lengths_and_places_are_the_proved_ones() {
     let layout = text("../crates/send_queue_c/src/layout.rt");
     let wire = text("../crates/send_queue_c/src/wire.rt");
     let writing = text("../crates/chunks/src/writing.rt");
+    let resets = text("../crates/send_queue_c/src/resets.rt");
     let kinds = text("src/chunk.rs");
     for (define, source, constant) in [
         ("#define DSQ_LAYOUT", &layout, "const LAYOUT: u64"),
@@ -163,6 +164,15 @@ fn the_lengths_and_places_are_the_proved_ones() {
         ("DSQ_CHUNK_PAYLOAD_AT =", &wire, "const PAYLOAD_AT: usize"),
         ("#define DSQ_MAX_CHUNK_PAYLOAD", &writing, "const MAX_WRITTEN: usize"),
         ("#define DSQ_MAX_CHUNK_PAYLOAD", &limits, "const MAX_CHUNK_PAYLOAD: usize"),
+        ("DSQ_HANDLER_NUMBERS =", &resets, "const HANDLER_NUMBERS: usize"),
+        ("DSQ_HANDLER_NUMBERS =", &limits, "const HANDLER_NUMBERS: usize"),
+        ("DSQ_HANDLER_NEXT =", &resets, "const NEXT_NUMBER: usize"),
+        ("DSQ_HANDLER_UNDERWAY =", &resets, "const IS_UNDERWAY: usize"),
+        ("DSQ_HANDLER_NUMBER =", &resets, "const UNDERWAY_NUMBER: usize"),
+        ("DSQ_RESPONSE_IGNORED =", &resets, "const IGNORED: u64"),
+        ("DSQ_RESPONSE_COMMITTED =", &resets, "const COMMITTED: u64"),
+        ("DSQ_RESPONSE_ROLLED_BACK =", &resets, "const ROLLED_BACK: u64"),
+        ("DSQ_RESPONSE_WAITING =", &resets, "const STILL_WAITING: u64"),
         ("DSQ_CHUNK_DATA =", &kinds, "Data ="),
         ("DSQ_CHUNK_I_DATA =", &kinds, "IData ="),
         ("#define DSQ_MAX_STREAMS", &limits, "const MAX_STREAMS: usize"),
@@ -185,7 +195,7 @@ fn the_lengths_and_places_are_the_proved_ones() {
 
 /// The layout, and a sum over what the header declares. Whoever changes a declaration decides whether a host compiled before would be wrong
 /// with it. Then the layout moves, here and in the header, limits.rs and send_queue_c. What is only added has a new sum and no new layout.
-const LAYOUT: (u64, u32) = (4, 2_044_506_992);
+const LAYOUT: (u64, u32) = (4, 3_248_408_036);
 
 #[test]
 fn the_layout_goes_with_what_the_header_declares() {

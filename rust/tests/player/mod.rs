@@ -15,7 +15,7 @@ use std::fmt::Write;
 use std::time::Duration;
 
 /// The calls that report nothing, so that the list is empty after them.
-const SILENT: &str = "ygkbriow";
+const SILENT: &str = "ygkbriowQZ";
 /// What a buffer is filled with, so that a byte written past its place is seen.
 const FILL: u8 = 0xa5;
 
@@ -42,6 +42,7 @@ pub struct Player {
     creation: Option<Creation>,
     interleaving: bool,
     queue: Option<SendQueue>,
+    resets: Option<StreamResetHandler>,
     lent: Lent,
     image: Vec<u8>,
     buffer: Vec<u8>,
@@ -103,6 +104,7 @@ impl Player {
             creation: None,
             interleaving: false,
             queue: None,
+            resets: None,
             lent: Lent { events: 0, fragment: 0, image: 0, store: 0 },
             image: Vec::new(),
             buffer: vec![FILL; MAX_PAYLOAD],
@@ -147,6 +149,9 @@ impl Player {
         if let Some(bytes) = text.strip_prefix("R ") {
             return wire::read(bytes);
         }
+        if let Some(bytes) = text.strip_prefix("A ") {
+            return self.response(&wire::given(bytes));
+        }
         let mut line = Line::new(text);
         let (letter, by_rule) = (line.letter, self.answered_by_rule);
         let answer = match letter {
@@ -163,7 +168,9 @@ impl Player {
                 format!("y {}\n", number(&answer))
             }
             "g" => {
+                let asked = self.queue().count_streams_ready_to_reset();
                 let ids = self.queue().get_streams_ready_to_reset();
+                assert_eq!(asked, ids.len());
                 let names: String = ids.iter().map(|id| format!(" {id}")).collect();
                 format!("g 0 {}{names}\n", ids.len())
             }
@@ -187,6 +194,16 @@ impl Player {
             }
             "P" => plan(line),
             "W" => wire::write(line),
+            "S" => {
+                self.resets = Some(StreamResetHandler::new(line.take()));
+                "S 0\n".into()
+            }
+            "Q" => self.request(line),
+            "Z" => {
+                let resets = self.resets.as_mut().expect("there is a start");
+                resets.reset(self.queue.as_mut().expect("there is a queue"));
+                "Z 0\n".into()
+            }
             "q" => self.questions(StreamId(line.take())),
             "s" => self.save(SocketTime(line.take())),
             "h" => self.show(line),
@@ -205,6 +222,7 @@ impl Player {
                 let mut queue = self.creation.as_ref().unwrap().queue().unwrap();
                 queue.enable_message_interleaving(self.interleaving);
                 self.queue = Some(queue);
+                self.resets = None;
                 self.restore("o", SocketTime(line.take()))
             }
             "w" => self.restore("w", SocketTime(line.take())),
@@ -231,6 +249,7 @@ impl Player {
         let store = creation.options.max_send_buffer_size;
         self.lent = Lent { events: 2_305, fragment: MAX_PAYLOAD as u64, image: 2_100_000, store };
         self.interleaving = false;
+        self.resets = None;
         let answer = creation.queue();
         self.creation = Some(creation);
         let number = number(&answer);
@@ -339,6 +358,29 @@ impl Player {
             u8::from(q.has_data_to_send()),
             q.get_handover_readiness().0,
         )
+    }
+
+    fn request(&mut self, mut line: Line) -> String {
+        let mut output = vec![FILL; line.take()];
+        let resets = self.resets.as_mut().expect("there is a start");
+        let before = resets.clone();
+        let queue = self.queue.as_mut().expect("there is a queue");
+        match resets.make_stream_reset_request(queue, &mut output, line.take(), Tsn(line.take())) {
+            Err(refusal) => {
+                assert_eq!(*resets, before, "a refused call changes nothing");
+                assert!(output.iter().all(|b| *b == FILL), "a refused call writes nothing");
+                format!("Q {}\n", refusal.number())
+            }
+            Ok(written) => format!("Q 0 {}\n", wire::written(&output, written.unwrap_or(0))),
+        }
+    }
+
+    fn response(&mut self, bytes: &[u8]) -> String {
+        let resets = self.resets.as_mut().expect("there is a start");
+        match resets.handle_response(self.queue.as_mut().expect("there is a queue"), bytes) {
+            Err(refusal) => format!("A {}\n", refusal.number()),
+            Ok(outcome) => format!("A 0 {}\n", outcome as u8),
+        }
     }
 
     fn save(&mut self, now: SocketTime) -> String {

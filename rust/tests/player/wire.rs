@@ -32,16 +32,19 @@ pub fn write(mut line: Line) -> String {
             assert!(output.iter().all(|b| *b == FILL), "a refusal writes nothing");
             format!("W {}\n", refusal.number())
         }
-        Ok(n) => {
-            let hex: String = output[..n].iter().map(|b| format!("{b:02x}")).collect();
-            let shown = if n <= SHOWN { format!(" {hex}") } else { String::new() };
-            format!("W 0 {n} {}{shown}\n", sum(&output))
-        }
+        Ok(n) => format!("W 0 {}\n", written(&output, n)),
     }
 }
 
+/// So many bytes written, the sum over the whole output, and what was written if it is short.
+pub fn written(output: &[u8], n: usize) -> String {
+    let hex: String = output[..n].iter().map(|b| format!("{b:02x}")).collect();
+    let shown = if (1..=SHOWN).contains(&n) { format!(" {hex}") } else { String::new() };
+    format!("{n} {}{shown}", sum(output))
+}
+
 /// Parts joined by `+`: digits, or so many bytes of a pattern; `-` is no bytes.
-fn given(text: &str) -> Vec<u8> {
+pub fn given(text: &str) -> Vec<u8> {
     let digits = |part: &str| -> Vec<u8> {
         (0..part.len()).step_by(2).map(|i| u8::from_str_radix(&part[i..i + 2], 16).expect("two digits")).collect()
     };
