@@ -64,6 +64,12 @@ pub equals : run (receive 100 (some (data-chunk 11 5 false true true 0 (1 ∷ []
 unfolding run new-receiver
 equals = refl
 
+-- Of two that wait with SSN 1 the earlier completed is ready once SSN 0 is there; the other waits until the number comes round.
+pub equals-wait : run (receive 100 (some (data-chunk 12 5 false true true 1 (1 ∷ []))) ∷ receive 100 (some (data-chunk 11 5 false true true 1 (2 ∷ []))) ∷ receive 100 (some (data-chunk 10 5 false true true 0 (3 ∷ []))) ∷ fetch 100 9 ∷ fetch 100 9 ∷ fetch 100 9 ∷ []) (new-receiver DATA 100 10)
+    ≡ accepted ∷ accepted ∷ accepted ∷ fetched (message-of 5 false (3 ∷ [])) ∷ fetched (message-of 5 false (1 ∷ [])) ∷ none-ready ∷ []
+unfolding run new-receiver
+equals-wait = refl
+
 -- ------------------------------------------------------------------ I-DATA
 
 -- Two messages interleaved on streams 1 and 2; a fragment with a new TSN whose stream, order mark, MID and FSN are held is a repeat.
