@@ -73,7 +73,7 @@ fn choose_row(queue: &[u64; QUEUE_WORDS], cursor: u64, best: usize, i: usize) ->
 }
 
 // n bytes from `from` on go down to `to`, the lowest first: the two parts may overlap.
-fn move_down(store: &mut [u8], from: usize, to: usize, n: usize)
+pub fn move_down(store: &mut [u8], from: usize, to: usize, n: usize)
     requires { ⌜ (from + n ≤ length (now store)) × (to ≤ from) ⌝ }
     ensures { λ _. ⌜ now (store .exit) ≡ moved (now (store .entry)) from to n ⌝ }
 {
@@ -217,7 +217,7 @@ pub fn put_code(queue: &[u64; QUEUE_WORDS], len: u64, i: usize, n: u64) -> u8
 }
 
 // src as the store's bytes from `at` on.
-fn write_part(store: &mut [u8], at: usize, src: &[u8])
+pub fn write_part(store: &mut [u8], at: usize, src: &[u8])
     requires { ⌜ at + length (now src) ≤ length (now store) ⌝ }
     ensures { λ _. ⌜ now (store .exit) ≡ written (now (store .entry)) at (now (src .entry)) ⌝ }
 {
