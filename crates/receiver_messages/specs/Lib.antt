@@ -1,0 +1,4 @@
+-- The definitions that the contracts cite: keys, walks over a message, readiness. Assumes nothing.
+pub mod Keys
+pub mod Walks
+pub mod Readiness
