@@ -15,6 +15,7 @@ mod dropping;
 mod expired;
 mod images;
 mod planning;
+mod resets;
 mod sending;
 mod sides;
 mod stack;
@@ -32,6 +33,7 @@ fn main() {
     sending::growth();
     planning::planning();
     wire::chunks();
+    resets::resets();
     expired::passing();
     depth::depth();
     steady::steady();

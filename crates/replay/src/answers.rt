@@ -7,12 +7,17 @@ use crate::lent::lent_produce;
 use crate::lent::plain_call;
 use crate::marks::clear_store;
 use crate::output::put_answer;
+use crate::output::put_broken;
 use crate::output::put_byte;
 use crate::output::put_number;
 use crate::output::put_text;
 use crate::payload::sum_of;
 use crate::plan::answer_plan;
 use crate::ranges::NEW_WITH_RULE;
+use crate::resets::answer_request;
+use crate::resets::answer_reset;
+use crate::resets::answer_response;
+use crate::resets::answer_start;
 use crate::settle::events_of;
 use crate::settle::refusal_number;
 use crate::settle::refusal_of;
@@ -41,6 +46,7 @@ use crate::state::LENT_STORE;
 use crate::state::LETTER;
 use crate::state::PAYLOAD;
 use crate::state::QUEUES;
+use crate::state::STARTED;
 use crate::state::STATE;
 use crate::state::STORE;
 use crate::state::bit;
@@ -59,6 +65,7 @@ use send_queue::QUEUE_WORDS;
 use send_queue::ReadyStreams;
 use send_queue::buffered_amount;
 use send_queue::buffered_amount_low_threshold;
+use send_queue::count_streams_ready_to_reset;
 use send_queue::get_handover_readiness;
 use send_queue::get_priority;
 use send_queue::get_streams_ready_to_reset;
@@ -74,6 +81,7 @@ fn begin(state: &mut [u64; STATE]) {
     state[LENT_IMAGE] = 2100000;
     state[LENT_STORE] = state[1];
     state[CHOICE] = 0;
+    state[STARTED] = 0;
 }
 
 // "The seventh number may be missing, which means 0": its place then has another line's.
@@ -305,16 +313,31 @@ fn put_ready(output: &mut [u8; BUFFER], state: &mut [u64; STATE], r: ReadyStream
     put_answer(output, state, b'g', refusal);
 }
 
+// No line asks how many ids are ready: the question is asked before they are taken, and compared.
+fn settle_count(asked: Number, count: u64, output: &mut [u8; BUFFER], state: &mut [u64; STATE]) {
+    match asked {
+        Number::Value(n) => {
+            if n != count {
+                put_broken(output, state, b"another number of ready ids");
+            }
+        }
+        Number::Refused(_) => put_broken(output, state, b"no number of ready ids"),
+    }
+}
+
 fn answer_ready(
     queue: &mut [u64; QUEUE_WORDS],
     kept: &mut [u64; QUEUE_WORDS],
     output: &mut [u8; BUFFER],
     state: &mut [u64; STATE],
 ) {
+    let asked = count_streams_ready_to_reset(&*queue);
     let r = get_streams_ready_to_reset(queue);
     let c = r.answer;
+    let count = r.count as u64;
     let refusal = refusal_of(c);
     put_ready(output, state, r, refusal);
+    settle_count(asked, count, output, state);
     settle_no_events(events_of(c), output, state);
     settle_words(&*queue, kept, refusal, output, state);
 }
@@ -376,6 +399,10 @@ pub(crate) fn answer(
         b'P' => answer_plan(output, state),
         b'W' => answer_write(payload, output, state),
         b'R' => answer_read(&*payload, output, state),
+        b'S' => answer_start(output, state),
+        b'Q' => answer_request(queue, kept, output, state),
+        b'A' => answer_response(queue, kept, &*payload, output, state),
+        b'Z' => answer_reset(queue, kept, output, state),
         _ => answer_changeover(queue, kept, store, kept_store, image, output, state),
     }
 }

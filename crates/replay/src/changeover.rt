@@ -29,6 +29,7 @@ use crate::state::IMAGE;
 use crate::state::IMAGE_LENGTH;
 use crate::state::LENT_IMAGE;
 use crate::state::LETTER;
+use crate::state::STARTED;
 use crate::state::STATE;
 use crate::state::STORE;
 use crate::state::low8;
@@ -113,6 +114,7 @@ fn put_alike(
     state: &mut [u64; STATE],
 ) {
     let n = state[CREATED_STORE] as usize;
+    state[STARTED] = 0;
     clear_store(store, n);
     clear_store(kept_store, n);
     let created = lent_create(queue, &*store, &*state);

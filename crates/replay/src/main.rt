@@ -12,6 +12,7 @@ mod parse;
 mod payload;
 mod plan;
 mod ranges;
+mod resets;
 mod settle;
 mod state;
 mod wire;
@@ -26,6 +27,7 @@ use marks::mark_events;
 use output::flush;
 use output::put_broken;
 use parse::parse;
+use ranges::has_handler;
 use ranges::is_call;
 use send_queue::QUEUE_WORDS;
 use state::BUFFER;
@@ -67,7 +69,7 @@ fn count_line(state: &mut [u64; STATE]) {
     }
 }
 
-// The bytes of a line `R` go to the payload.
+// The bytes of a line `R` or `A` go to the payload.
 fn is_line(
     line: &[u8; LINE_BYTES],
     n: usize,
@@ -80,9 +82,25 @@ fn is_line(
     if line[0] == b'R' {
         return parse_bytes(line, n, payload, state);
     }
+    if line[0] == b'A' {
+        return is_response(line, n, payload, state);
+    }
     let parsed = parse(line, n, state);
     if parsed {
         return is_call(&*state);
+    }
+    false
+}
+
+fn is_response(
+    line: &[u8; LINE_BYTES],
+    n: usize,
+    payload: &mut [u8; PAYLOAD],
+    state: &mut [u64; STATE],
+) -> bool {
+    let parsed = parse_bytes(line, n, payload, state);
+    if parsed {
+        return has_handler(&*state, b'A');
     }
     false
 }

@@ -4,6 +4,7 @@ use crate::state::COUNT;
 use crate::state::LETTER;
 use crate::state::MOST_PLACES;
 use crate::state::QUEUES;
+use crate::state::STARTED;
 use crate::state::STATE;
 use crate::state::low8;
 
@@ -28,9 +29,10 @@ const MOST_NUMBERS: u64 = 13;
 
 fn count_of(letter: u8) -> u64 {
     match letter {
-        b'g' | b'k' | b'b' | b'r' => 0,
-        b'c' | b'i' | b'q' | b's' | b'o' | b'w' | b'l' => 1,
+        b'g' | b'k' | b'b' | b'r' | b'Z' => 0,
+        b'c' | b'i' | b'q' | b's' | b'o' | b'w' | b'l' | b'S' => 1,
         b'p' | b'd' | b't' | b'y' | b'h' | b'x' => 2,
+        b'Q' => 3,
         b'v' => 4,
         b'n' => NEW,
         b'a' => 11,
@@ -77,6 +79,13 @@ fn most_write(k: usize) -> u64 {
     }
 }
 
+fn most_request(k: usize) -> u64 {
+    match k {
+        0 => 70000,
+        _ => BITS32,
+    }
+}
+
 fn most_discard(k: usize) -> u64 {
     match k {
         0 => BITS16,
@@ -104,6 +113,8 @@ fn most(letter: u8, k: usize) -> u64 {
         b'v' => most_lent(k),
         b'a' => most_add(k),
         b'W' => most_write(k),
+        b'Q' => most_request(k),
+        b'S' => BITS32,
         b'd' => most_discard(k),
         b't' => most_threshold(k),
         b'c' | b'q' | b'y' => BITS16,
@@ -127,6 +138,14 @@ fn has_queue(state: &[u64; STATE], letter: u8) -> bool {
         return true;
     }
     needs_no_queue(letter)
+}
+
+// A line of the stream reset handler wants its start.
+pub fn has_handler(state: &[u64; STATE], letter: u8) -> bool {
+    match letter {
+        b'Q' | b'A' | b'Z' => state[STARTED] == 1,
+        _ => true,
+    }
 }
 
 fn numbers_fit(state: &[u64; STATE], letter: u8, count: usize) -> bool {
@@ -163,7 +182,10 @@ fn is_short_call(state: &[u64; STATE], letter: u8) -> bool {
     }
     let fit = numbers_fit(state, letter, count as usize);
     if fit {
-        return has_queue(state, letter);
+        let queued = has_queue(state, letter);
+        if queued {
+            return has_handler(state, letter);
+        }
     }
     false
 }

@@ -12,6 +12,8 @@
 //     142           the length of the current image
 //     143 to 149    the numbers of the line that created the queue; the last, the rule of a restart, is 0 where the line has none
 //     150           the interleaving choice, 0 or 1
+//     151           1 if there is a stream reset handler
+//     152 to 154    its next number, 1 if a request is underway, and that one's number
 use send_queue::PLACE_WORDS;
 
 pub const STATE: usize = 160;
@@ -57,6 +59,14 @@ pub const CREATED_HANDOVER: usize = 148;
 pub const CREATED_RULE: usize = 149;
 
 pub const CHOICE: usize = 150;
+
+pub const STARTED: usize = 151;
+
+pub const NEXT_NUMBER: usize = 152;
+
+pub const IS_UNDERWAY: usize = 153;
+
+pub const UNDERWAY_NUMBER: usize = 154;
 
 // The most places of the event list that a trace can lend.
 pub const MOST_PLACES: usize = 4096;

@@ -33,12 +33,12 @@ use send_queue::read_chunk;
 use send_queue::write_chunk;
 
 // The longest output that a trace can lend. "Before the call every byte of it is 165."
-const OUTPUT: usize = 70000;
+pub const OUTPUT: usize = 70000;
 
-const BEFORE: u8 = 165;
+pub const BEFORE: u8 = 165;
 
 // So many bytes written are shown.
-const SHOWN: usize = 128;
+pub const SHOWN: usize = 128;
 
 fn kind_of(number: u64) -> ChunkKind {
     if number == 0 {
@@ -98,7 +98,7 @@ fn lent_write(chunk: &mut [u8], payload: &mut [u8], state: &[u64; STATE]) -> Chu
 }
 
 // Whether all bytes from a place on are as before the call.
-fn as_before(chunk: &[u8], from: usize) -> bool {
+pub fn as_before(chunk: &[u8], from: usize) -> bool {
     let mut i = from;
     while i < chunk.len() {
         if chunk[i] != BEFORE {
