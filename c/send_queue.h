@@ -102,6 +102,10 @@ enum dsq_refusal {
     DSQ_CHUNK_OUTPUT_SHORT = 18,
     /* The bytes read are not one DATA or I-DATA chunk with payload and padding. */
     DSQ_CHUNK_WRONG = 19,
+    /* The packet limit is outside 36 to 65,535. */
+    DSQ_PACKET_LIMIT_WRONG = 20,
+    /* The packet buffer is shorter than the packet limit. */
+    DSQ_PACKET_BUFFER_SHORT = 21,
     /* A reset request is wanted while one is underway. */
     DSQ_REQUEST_UNDERWAY = 25,
     /* The output is shorter than the reset request. */
@@ -117,10 +121,11 @@ enum dsq_refusal {
 
 /* The places of an out-array. An accepted call writes those that are named at it; the others stay. */
 enum dsq_out {
-    DSQ_OUT_VALUE = 0,  /* a question's answer; 1 for a fragment, 0 for none; an image's or a chunk's length; the count of ready ids */
+    DSQ_OUT_VALUE = 0,  /* a question's answer; 1 for a fragment, 0 for none; an image's or a chunk's length; the count of ready ids or of
+                         * a packet's chunks */
     DSQ_OUT_EVENTS = 1, /* how many events the call wrote, from the list's start on */
     /* What goes with a fragment. */
-    DSQ_OUT_LENGTH = 2,               /* its bytes, at the buffer's start */
+    DSQ_OUT_LENGTH = 2,               /* its bytes, at the buffer's start; of a packet, all its bytes */
     DSQ_OUT_MESSAGE_ID = 3,           /* 32 bits: 0 for the first message accepted, then one more for each, modulo 2^32 */
     DSQ_OUT_STREAM_ID = 4,            /* 16 bits */
     DSQ_OUT_UNORDERED = 5,            /* a flag */
@@ -287,6 +292,22 @@ uint8_t dsq_write_chunk(uint8_t *output, size_t output_length, const uint8_t *pa
  * all that goes with a fragment, what the chunk does not carry as 0 (EXPIRES 1, EXPIRES_AT 0); VALUE 1, EVENTS 0; and the places of the
  * chunk-array. (19) */
 uint8_t dsq_read_chunk(const uint8_t *bytes, size_t bytes_length, uint64_t out[DSQ_OUT_WORDS], uint64_t chunk[DSQ_CHUNK_WORDS]);
+
+/* ---------------------------------------------------------------- packets on the wire */
+
+/* The least and the greatest packet limit. */
+#define DSQ_MIN_PACKET_LIMIT 36
+#define DSQ_MAX_PACKET_LIMIT 65535
+
+/* Fills a packet of at most packet_limit bytes, from the buffer's start on: the common header with checksum 0 (RFC 9653), then a chunk for
+ * each fragment, I-DATA while interleaving is on, else DATA, with consecutive TSNs from tsn on. Each chunk is what one dsq_produce gives at
+ * this time, asked for as many bytes as the packet has left for a payload, rounded down to a multiple of 4, at most the payload limit; its
+ * payload goes from the store to its place. The buffer behind the packet stays as it was. Tells VALUE, the number of chunks; EVENTS, of
+ * all those calls together; LENGTH, the packet's bytes. Where nothing waits no packet is written, VALUE and LENGTH are 0, and the buffer
+ * stays; expired messages are dropped and their events written all the same. Stack: as dsq_produce. (20, 21, 2, 3, 4, 16) */
+uint8_t dsq_fill_packet(uint64_t queue[DSQ_QUEUE_WORDS], const uint8_t *store, size_t store_length, uint64_t *events, size_t events_length,
+                        uint8_t *packet, size_t packet_length, uint64_t out[DSQ_OUT_WORDS], uint64_t time, uint64_t packet_limit,
+                        uint16_t source_port, uint16_t destination_port, uint32_t verification_tag, uint32_t tsn);
 
 /* ---------------------------------------------------------------- reset requests to the peer (RFC 6525)
  *

@@ -1434,6 +1434,56 @@ static void chunk_refusals(void)
     no_read(bytes, 20);
 }
 
+/* ---------------------------------------------------------------- packets on the wire */
+
+static uint8_t fill(struct host *h, uint64_t limit)
+{
+    return dsq_fill_packet(h->queue, h->store, h->store_length, h->events, h->events_length, h->buffer, h->buffer_length, h->out, h->time,
+                           limit, 0x0102, 0x0304, 0x05060708, 0xFFFFFFFF);
+}
+
+static void packets(void)
+{
+    static const uint8_t written[] = {1, 2, 3, 4, 5, 6, 7, 8, 0, 0, 0, 0, 0, 3, 0, 19, 255, 255, 255, 255, 0, 5, 0, 0, 0, 0, 0, 53,
+                                      'a', 'b', 'c', 0, 0, 2, 0, 20, 0, 0, 0, 0, 0, 6, 0, 0, 0, 0, 0, 53, 'd', 'e', 'f', 'g'};
+    static const uint8_t bytes[] = {'a', 'b', 'c', 'd', 'e', 'f', 'g', 'h', 'i'};
+    struct host *h = lend(SMALL_STORE, 60, 1);
+    size_t i;
+    CHECK(dsq_create(h->queue, h->store, h->store_length, 1000, 256, 0, 0, 1, 0) == DSQ_ACCEPTED);
+    CHECK(dsq_add(h->queue, h->store, h->store_length, bytes, 3, 0, 5, 53, 0, 0, 0, 0, 0, 0) == DSQ_ACCEPTED);
+    CHECK(dsq_add(h->queue, h->store, h->store_length, bytes + 3, 6, 0, 6, 53, 0, 0, 0, 0, 0, 0) == DSQ_ACCEPTED);
+
+    /* 20, 21, then 2, 3, 4; nothing changes */
+    remember(h);
+    CHECK(fill(h, 35) == DSQ_PACKET_LIMIT_WRONG && as_remembered(h));
+    CHECK(fill(h, 65536) == DSQ_PACKET_LIMIT_WRONG && as_remembered(h));
+    CHECK(fill(h, UINT64_MAX) == DSQ_PACKET_LIMIT_WRONG && as_remembered(h));
+    CHECK(fill(h, 61) == DSQ_PACKET_BUFFER_SHORT && as_remembered(h));
+    h->store_length--;
+    CHECK(fill(h, 60) == DSQ_STORE_WRONG && as_remembered(h));
+    h->store_length++;
+    h->events_length--;
+    CHECK(fill(h, 60) == DSQ_EVENT_LIST_SHORT && as_remembered(h));
+    h->events_length++;
+    h->time = DSQ_MAX_TIME + 1;
+    CHECK(fill(h, 60) == DSQ_TIME_LATE && as_remembered(h));
+    h->time = 0;
+
+    /* two chunks, the second cut to the room left; the TSNs wrap */
+    CHECK(fill(h, 54) == DSQ_ACCEPTED);
+    CHECK(h->out[DSQ_OUT_VALUE] == 2 && h->out[DSQ_OUT_EVENTS] == 1 && h->out[DSQ_OUT_LENGTH] == sizeof written);
+    CHECK(memcmp(h->buffer, written, sizeof written) == 0);
+    for (i = sizeof written; i < h->buffer_length; i++)
+        CHECK(h->buffer[i] == 0xBB);
+
+    /* the rest; then nothing waits: no packet */
+    CHECK(fill(h, 60) == DSQ_ACCEPTED && h->out[DSQ_OUT_VALUE] == 1 && h->out[DSQ_OUT_LENGTH] == 32 && h->out[DSQ_OUT_EVENTS] == 2);
+    remember(h);
+    CHECK(fill(h, 60) == DSQ_ACCEPTED && h->out[DSQ_OUT_VALUE] == 0 && h->out[DSQ_OUT_LENGTH] == 0 && h->out[DSQ_OUT_EVENTS] == 0);
+    CHECK(memcmp(h->buffer, h->all[3].copy, h->buffer_length) == 0);
+    give_back(h);
+}
+
 /* ---------------------------------------------------------------- reset requests to the peer */
 
 /* A queue on which these streams are closed, and its handler. */
@@ -1594,6 +1644,7 @@ int main(void)
     planning_refusals();
     chunks();
     chunk_refusals();
+    packets();
     reset_requests();
     reset_refusals();
     broken_words();

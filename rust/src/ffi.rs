@@ -18,6 +18,7 @@ use crate::limits::MAX_STREAMS;
 use crate::limits::OUT_WORDS;
 use crate::limits::QUEUE_WORDS;
 use crate::options::Options;
+use crate::packet::Packet;
 use std::mem::MaybeUninit;
 
 /// A queue's state.
@@ -126,6 +127,22 @@ mod c {
             ppid: u32,
             first: u8,
             last: u8,
+        ) -> u8;
+        pub fn dsq_fill_packet(
+            queue: *mut u64,
+            store: *const u8,
+            store_length: usize,
+            events: *mut u64,
+            events_length: usize,
+            packet: *mut u8,
+            packet_length: usize,
+            out: *mut u64,
+            time: u64,
+            packet_limit: u64,
+            source_port: u16,
+            destination_port: u16,
+            verification_tag: u32,
+            tsn: u32,
         ) -> u8;
         pub fn dsq_read_chunk(bytes: *const u8, bytes_length: usize, out: *mut u64, chunk: *mut u64) -> u8;
         pub fn dsq_get_streams_ready_to_reset(queue: *mut u64, ids: *mut u16, out: *mut u64) -> u8;
@@ -256,6 +273,36 @@ pub(crate) fn produce(
             out.as_mut_ptr(),
             time,
             size,
+        )
+    }
+}
+
+pub(crate) fn fill_packet(
+    queue: &mut Words,
+    store: &[u8],
+    events: &mut EventWords,
+    buffer: &mut [u8],
+    out: &mut Out,
+    time: u64,
+    packet: &Packet,
+) -> u8 {
+    // SAFETY: all five are references, the lengths are their own.
+    unsafe {
+        c::dsq_fill_packet(
+            queue.as_mut_ptr(),
+            store.as_ptr(),
+            store.len(),
+            events.as_mut_ptr(),
+            events.len(),
+            buffer.as_mut_ptr(),
+            buffer.len(),
+            out.as_mut_ptr(),
+            time,
+            packet.limit as u64,
+            packet.source_port,
+            packet.destination_port,
+            packet.verification_tag,
+            packet.tsn.0,
         )
     }
 }

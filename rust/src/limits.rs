@@ -37,3 +37,7 @@ pub(crate) const CHUNK_WORDS: usize = 3;
 pub(crate) const HANDLER_NUMBERS: usize = 3;
 /// An image's bytes beside its payloads, at most: records of all streams and messages, and the trailer.
 pub(crate) const MAX_IMAGE_RECORDS: usize = 14 * MAX_STREAMS + 44 * MAX_MESSAGES + 20;
+/// The least packet limit.
+pub const MIN_PACKET_LIMIT: usize = 36;
+/// The greatest packet limit.
+pub const MAX_PACKET_LIMIT: usize = 65_535;

@@ -48,6 +48,10 @@ pub enum Refusal {
     ChunkOutputShort = 18,
     /// The bytes read are not one DATA or I-DATA chunk with payload and padding.
     ChunkWrong = 19,
+    /// The packet limit is outside 36 to 65,535.
+    PacketLimitWrong = 20,
+    /// The packet buffer is shorter than the packet limit.
+    PacketBufferShort = 21,
     /// A reset request is wanted while one is underway.
     RequestUnderway = 25,
     /// The output is shorter than the reset request.
@@ -62,7 +66,7 @@ pub enum Refusal {
 }
 
 impl Refusal {
-    const ALL: [Self; 24] = [
+    const ALL: [Self; 26] = [
         Self::PayloadLimitWrong,
         Self::StoreWrong,
         Self::EventListShort,
@@ -82,6 +86,8 @@ impl Refusal {
         Self::ChunkPayloadWrong,
         Self::ChunkOutputShort,
         Self::ChunkWrong,
+        Self::PacketLimitWrong,
+        Self::PacketBufferShort,
         Self::RequestUnderway,
         Self::RequestOutputShort,
         Self::ResponseWrong,
@@ -89,7 +95,7 @@ impl Refusal {
         Self::OrderImpossible,
     ];
 
-    /// Its number: 1 to 19, or 25 to 29.
+    /// Its number: 1 to 21, or 25 to 29.
     pub fn number(self) -> u8 {
         self as u8
     }
@@ -132,6 +138,8 @@ impl fmt::Display for Refusal {
             Self::ChunkPayloadWrong => "the payload to write into a chunk is empty or above 65,515 bytes",
             Self::ChunkOutputShort => "the output is shorter than the padded chunk",
             Self::ChunkWrong => "the bytes read are not one DATA or I-DATA chunk with payload and padding",
+            Self::PacketLimitWrong => "the packet limit is outside 36 to 65,535",
+            Self::PacketBufferShort => "the packet buffer is shorter than the packet limit",
             Self::RequestUnderway => "a reset request is wanted while one is underway",
             Self::RequestOutputShort => "the output is shorter than the reset request",
             Self::ResponseWrong => "the bytes received are not one RE-CONFIG chunk with a response",

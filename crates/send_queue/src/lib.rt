@@ -38,6 +38,10 @@ pub use chunks::ChunkRead;
 pub use chunks::ChunkWritten;
 pub use chunks::read_chunk;
 pub use chunks::write_chunk;
+// Packets on the wire.
+pub use linked_packets::fill_packet;
+pub use packets::Packet;
+pub use packets::PacketFilled;
 // The questions.
 pub use linked_restarts::count_streams_ready_to_reset;
 pub use linked_streams::buffered_amount;

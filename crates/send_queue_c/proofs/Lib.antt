@@ -1,4 +1,5 @@
 -- What the proofs of several functions use. Assumes nothing.
 pub mod Gives
 pub mod Ids
+pub mod Packets
 pub mod Handler

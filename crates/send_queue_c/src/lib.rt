@@ -5,6 +5,7 @@ pub mod images;
 pub mod layout;
 pub mod messages;
 pub mod numbers;
+pub mod packing;
 pub mod planning;
 pub mod questions;
 pub mod resets;

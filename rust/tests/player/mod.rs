@@ -162,6 +162,7 @@ impl Player {
             }
             "a" => self.add(line),
             "p" => self.produce(line),
+            "F" => self.fill(line),
             "d" | "c" | "t" => self.change(line),
             "y" => {
                 let answer = self.queue().set_priority(StreamId(line.take()), line.take());
@@ -324,6 +325,35 @@ impl Player {
         assert!(buffer[..size].iter().all(|b| *b == FILL), "a byte past the fragment was written");
         self.buffer = buffer;
         answer
+    }
+
+    fn fill(&mut self, mut line: Line) -> String {
+        let now = SocketTime(line.take());
+        let limit = line.take::<u64>() as usize;
+        let mut buffer = vec![FILL; line.take()];
+        let packet = Packet {
+            limit,
+            source_port: line.take(),
+            destination_port: line.take(),
+            verification_tag: line.take(),
+            tsn: Tsn(line.take()),
+        };
+        let allowed = (MIN_PACKET_LIMIT..=MAX_PACKET_LIMIT).contains(&limit) && limit <= buffer.len();
+        if allowed && self.other_store() {
+            return self.by_rule("F", Refusal::StoreWrong);
+        }
+        if allowed && self.few_events() {
+            return self.by_rule("F", Refusal::EventListShort);
+        }
+        let answer = self.queue().fill_packet(now, &mut buffer, &packet);
+        let (bytes, chunks) = answer.ok().flatten().map_or((0, 0), |f| (f.bytes, f.chunks));
+        assert!(buffer[bytes..].iter().all(|b| *b == FILL), "a byte past the packet was written");
+        let mut lines = match answer {
+            Err(refusal) => format!("F {}\n", refusal.number()),
+            Ok(_) => format!("F 0 {bytes} {chunks} {}{}\n", sum(&buffer), wire::shown(&buffer[..bytes])),
+        };
+        self.events(&mut lines);
+        lines
     }
 
     fn change(&mut self, mut line: Line) -> String {

@@ -10,6 +10,12 @@ use desqariy::*;
 /// A chunk of at most so many bytes is shown.
 const SHOWN: usize = 128;
 
+/// What was written, where it has 1 to so many bytes.
+pub fn shown(bytes: &[u8]) -> String {
+    let hex: String = bytes.iter().map(|b| format!("{b:02x}")).collect();
+    if (1..=SHOWN).contains(&bytes.len()) { format!(" {hex}") } else { String::new() }
+}
+
 pub fn write(mut line: Line) -> String {
     let kind = if line.flag() { ChunkKind::IData } else { ChunkKind::Data };
     let mut output = vec![FILL; line.take()];
@@ -38,9 +44,7 @@ pub fn write(mut line: Line) -> String {
 
 /// So many bytes written, the sum over the whole output, and what was written if it is short.
 pub fn written(output: &[u8], n: usize) -> String {
-    let hex: String = output[..n].iter().map(|b| format!("{b:02x}")).collect();
-    let shown = if (1..=SHOWN).contains(&n) { format!(" {hex}") } else { String::new() };
-    format!("{n} {}{shown}", sum(output))
+    format!("{n} {}{}", sum(output), shown(&output[..n]))
 }
 
 /// Parts joined by `+`: digits, or so many bytes of a pattern; `-` is no bytes.

@@ -30,9 +30,13 @@ add-size-asked c = omega (arith, (c .before .loop .inv .1 .1 .0), (c .before .be
 
 fill-one-requires : tie.Need-fill-one-requires Inv-loop μ-loop
 fill-one-requires c κs =
-    let size = size-as (c .before .before .before .before .before .before .before .before .before .before .before .args .kind) _ _ _ _ _ (c .before .before .before .before .before .before .before .header-size .ensures) (c .before .before .before .before .size-asked .ensures) in
-    (omega (arith, (c .before .before .before .before .before .before .loop .inv .0), (c .before .before .before .before .before .before .before .before .before .before .before .pre .0)), (field-room (c .before .before .before .before .before .before .before .before .before .before .before .args .kind) _ _ _ _ size (c .before .before .before .if2 .left) (c .before .before .before .before .before .before .before .before .before .before .before .pre .1 .1 .0),
-    omega (arith, size-room (c .before .before .before .before .before .before .before .before .before .before .before .args .kind) _ _ _ _ size (c .before .before .before .if2 .left), (c .before .before .before .before .before .before .loop .inv .1 .0), (c .before .before .before .before .before .before .before .before .before .before .before .pre .1 .1 .1))))
+    let size = size-as (c .before .before .before .before .before .before .before .before .before .before .before .args .kind) _ _ _ _ _ (c .before .before .before .before .before .before .before .header-size .ensures) (c .before .before .before .before .size-asked .ensures) in (
+      omega (arith, (c .before .before .before .before .before .before .loop .inv .0), (c .before .before .before .before .before .before .before .before .before .before .before .pre .0)),
+      (
+        field-room (c .before .before .before .before .before .before .before .before .before .before .before .args .kind) _ _ _ _ size (c .before .before .before .if2 .left) (c .before .before .before .before .before .before .before .before .before .before .before .pre .1 .1 .0),
+        omega (arith, size-room (c .before .before .before .before .before .before .before .before .before .before .before .args .kind) _ _ _ _ size (c .before .before .before .if2 .left), (c .before .before .before .before .before .before .loop .inv .1 .0), (c .before .before .before .before .before .before .before .before .before .before .before .pre .1 .1 .1)),
+      ),
+    )
 
 returns-3 : tie.Need-returns-3 Inv-loop μ-loop
 returns-3 c =
@@ -65,9 +69,19 @@ loop-less c = omega (arith, (c .before .before .before .before .before .before .
 loop-again : tie.Need-loop-again Inv-loop μ-loop
 loop-again c =
     let size = size-as (c .before .before .before .before .before .before .before .before .before .before .before .before .before .before .before .before .before .before .before .before .before .before .args .kind) _ _ _ _ _ (c .before .before .before .before .before .before .before .before .before .before .before .before .before .before .before .before .before .before .header-size .ensures) (c .before .before .before .before .before .before .before .before .before .before .before .before .before .before .before .size-asked .ensures) in
-    let step = step-as (c .before .before .before .before .before .before .before .before .before .before .before .before .before .before .before .before .before .before .before .before .before .before .args .kind) _ _ _ (c .before .before .before .before .before .before .before .before .before .before .before .before .before .before .before .before .before .before .header-size .ensures) (c .before .padded .ensures) in
-    ((c .before .before .before .before .before .before .before .before .before .events .given) ∙ (c .before .before .before .before .before .before .before .before .before .before .before .before .before .before .before .before .before .loop .inv .0), ((c .before .before .before .before .before .before .before .packet .given) ∙ (c .before .before .before .before .before .before .before .before .before .before .before .before .before .before .before .before .before .loop .inv .1 .0), (omega (arith, step, chunk-room (c .before .before .before .before .before .before .before .before .before .before .before .before .before .before .before .before .before .before .before .before .before .before .args .kind) _ _ _ _ _ (size-as (c .before .before .before .before .before .before .before .before .before .before .before .before .before .before .before .before .before .before .before .before .before .before .args .kind) _ _ _ _ _ (c .before .before .before .before .before .before .before .before .before .before .before .before .before .before .before .before .before .before .header-size .ensures) (c .before .before .before .before .before .before .before .before .before .before .before .before .before .before .before .size-asked .ensures)) (c .before .before .before .before .before .before .before .before .before .before .before .before .before .before .if2 .left) (one-within (c .before .before .before .before .before .before .before .before .before .before .before .before .before .before .before .before .before .before .before .before .before .before .args .kind) _ _ _ _ _ _ _ _ _ _ _ _ _ (c .before .before .before .before .before .before .before .before .before .before .fill-one .ensures) _ _ (c .before .before .before .before .made .given .1))), (omega (arith, (c .before .before .before .before .before .before .before .before .before .before .before .before .before .before .before .before .before .loop .inv .1 .1 .1 .0), (c .before .before .before .before .before .before .before .before .before .before .before .before .before .before .before .before .if1 .left)),
-    goes-on (c .before .before .before .before .before .before .before .before .before .before .before .before .before .before .before .before .before .before .before .before .before .before .args .kind) _ _ _ _ _ _ _ _ _ _ _ _ (c .before .before .before .before .before .before .before .before .before .before .before .before .before .before .before .before .if1 .left) _ size (c .before .before .before .before .before .before .before .before .before .before .before .before .before .before .if2 .left) _ _ _ _ (c .before .before .before .before .before .before .before .before .before .before .fill-one .ensures) _ _ _ _ (c .before .before .before .before .made .given .1) step (c .next-tsn .ensures) ∙ (c .before .before .before .before .before .before .before .before .before .before .before .before .before .before .before .before .before .loop .inv .1 .1 .1 .1)))))
+    let step = step-as (c .before .before .before .before .before .before .before .before .before .before .before .before .before .before .before .before .before .before .before .before .before .before .args .kind) _ _ _ (c .before .before .before .before .before .before .before .before .before .before .before .before .before .before .before .before .before .before .header-size .ensures) (c .before .padded .ensures) in (
+      (c .before .before .before .before .before .before .before .before .before .events .given) ∙ (c .before .before .before .before .before .before .before .before .before .before .before .before .before .before .before .before .before .loop .inv .0),
+      (
+        (c .before .before .before .before .before .before .before .packet .given) ∙ (c .before .before .before .before .before .before .before .before .before .before .before .before .before .before .before .before .before .loop .inv .1 .0),
+        (
+          omega (arith, step, chunk-room (c .before .before .before .before .before .before .before .before .before .before .before .before .before .before .before .before .before .before .before .before .before .before .args .kind) _ _ _ _ _ (size-as (c .before .before .before .before .before .before .before .before .before .before .before .before .before .before .before .before .before .before .before .before .before .before .args .kind) _ _ _ _ _ (c .before .before .before .before .before .before .before .before .before .before .before .before .before .before .before .before .before .before .header-size .ensures) (c .before .before .before .before .before .before .before .before .before .before .before .before .before .before .before .size-asked .ensures)) (c .before .before .before .before .before .before .before .before .before .before .before .before .before .before .if2 .left) (one-within (c .before .before .before .before .before .before .before .before .before .before .before .before .before .before .before .before .before .before .before .before .before .before .args .kind) _ _ _ _ _ _ _ _ _ _ _ _ _ (c .before .before .before .before .before .before .before .before .before .before .fill-one .ensures) _ _ (c .before .before .before .before .made .given .1))),
+          (
+            omega (arith, (c .before .before .before .before .before .before .before .before .before .before .before .before .before .before .before .before .before .loop .inv .1 .1 .1 .0), (c .before .before .before .before .before .before .before .before .before .before .before .before .before .before .before .before .if1 .left)),
+            goes-on (c .before .before .before .before .before .before .before .before .before .before .before .before .before .before .before .before .before .before .before .before .before .before .args .kind) _ _ _ _ _ _ _ _ _ _ _ _ (c .before .before .before .before .before .before .before .before .before .before .before .before .before .before .before .before .if1 .left) _ size (c .before .before .before .before .before .before .before .before .before .before .before .before .before .before .if2 .left) _ _ _ _ (c .before .before .before .before .before .before .before .before .before .before .fill-one .ensures) _ _ _ _ (c .before .before .before .before .made .given .1) step (c .next-tsn .ensures) ∙ (c .before .before .before .before .before .before .before .before .before .before .before .before .before .before .before .before .before .loop .inv .1 .1 .1 .1),
+          ),
+        ),
+      ),
+    )
 
 pub fill-chunks-spec : {M : Type 1} → statement M
 fill-chunks-spec =

@@ -16,73 +16,67 @@ returns c =
 returns-2 : tie.Need-returns-2
 unfolding fillCode
 returns-2 c =
-    rw
-    (
-    le-ltb _ _ (c .before .if1 .left),
-    lt-ltb _ _ (c .if2 .taken)
+    rw (
+      le-ltb _ _ (c .before .if1 .left),
+      lt-ltb _ _ (c .if2 .taken),
     )
 
 returns-3 : tie.Need-returns-3
 unfolding fillCode
 returns-3 c =
-    rw
-    (
-    le-ltb _ _ (c .before .before .if1 .left),
-    le-ltb _ _ (c .before .if2 .left),
-    lt-ltb _ _ (c .if3 .taken)
+    rw (
+      le-ltb _ _ (c .before .before .if1 .left),
+      le-ltb _ _ (c .before .if2 .left),
+      lt-ltb _ _ (c .if3 .taken),
     )
 
 returns-4 : tie.Need-returns-4
 unfolding fillCode
 returns-4 c =
-    rw
-    (
-    le-ltb _ _ (c .before .before .before .before .before .if1 .left),
-    le-ltb _ _ (c .before .before .before .before .if2 .left),
-    le-ltb _ _ (c .before .before .before .if3 .left),
-    ← (c .before .before .load-options .ensures),
-    ne-eqb _ _ (c .if4 .taken)
+    rw (
+      le-ltb _ _ (c .before .before .before .before .before .if1 .left),
+      le-ltb _ _ (c .before .before .before .before .if2 .left),
+      le-ltb _ _ (c .before .before .before .if3 .left),
+      ← (c .before .before .load-options .ensures),
+      ne-eqb _ _ (c .if4 .taken),
     )
 
 returns-5 : tie.Need-returns-5
 unfolding fillCode
 returns-5 c =
-    rw
-    (
-    le-ltb _ _ (c .before .before .before .before .before .before .if1 .left),
-    le-ltb _ _ (c .before .before .before .before .before .if2 .left),
-    le-ltb _ _ (c .before .before .before .before .if3 .left),
-    ← (c .before .before .before .load-options .ensures),
-    eq-eqb _ _ (c .before .if4 .left),
-    lt-ltb _ _ (c .if5 .taken)
+    rw (
+      le-ltb _ _ (c .before .before .before .before .before .before .if1 .left),
+      le-ltb _ _ (c .before .before .before .before .before .if2 .left),
+      le-ltb _ _ (c .before .before .before .before .if3 .left),
+      ← (c .before .before .before .load-options .ensures),
+      eq-eqb _ _ (c .before .if4 .left),
+      lt-ltb _ _ (c .if5 .taken),
     )
 
 returns-6 : tie.Need-returns-6
 unfolding fillCode
 returns-6 c =
-    rw
-    (
-    le-ltb _ _ (c .before .before .before .before .before .before .before .if1 .left),
-    le-ltb _ _ (c .before .before .before .before .before .before .if2 .left),
-    le-ltb _ _ (c .before .before .before .before .before .if3 .left),
-    ← (c .before .before .before .before .load-options .ensures),
-    eq-eqb _ _ (c .before .before .if4 .left),
-    le-ltb _ _ (c .before .if5 .left),
-    lt-ltb _ _ (c .if6 .taken)
+    rw (
+      le-ltb _ _ (c .before .before .before .before .before .before .before .if1 .left),
+      le-ltb _ _ (c .before .before .before .before .before .before .if2 .left),
+      le-ltb _ _ (c .before .before .before .before .before .if3 .left),
+      ← (c .before .before .before .before .load-options .ensures),
+      eq-eqb _ _ (c .before .before .if4 .left),
+      le-ltb _ _ (c .before .if5 .left),
+      lt-ltb _ _ (c .if6 .taken),
     )
 
 returns-7 : tie.Need-returns-7
 unfolding fillCode
 returns-7 c =
-    rw
-    (
-    le-ltb _ _ (c .before .before .before .before .before .before .before .if1 .left),
-    le-ltb _ _ (c .before .before .before .before .before .before .if2 .left),
-    le-ltb _ _ (c .before .before .before .before .before .if3 .left),
-    ← (c .before .before .before .before .load-options .ensures),
-    eq-eqb _ _ (c .before .before .if4 .left),
-    le-ltb _ _ (c .before .if5 .left),
-    le-ltb _ _ (c .if6 .left)
+    rw (
+      le-ltb _ _ (c .before .before .before .before .before .before .before .if1 .left),
+      le-ltb _ _ (c .before .before .before .before .before .before .if2 .left),
+      le-ltb _ _ (c .before .before .before .before .before .if3 .left),
+      ← (c .before .before .before .before .load-options .ensures),
+      eq-eqb _ _ (c .before .before .if4 .left),
+      le-ltb _ _ (c .before .if5 .left),
+      le-ltb _ _ (c .if6 .left),
     )
 
 pub fill-code-spec : {M : Type 1} → statement M

@@ -2,7 +2,7 @@
 use borrow.Author.Needs.{needs}
 use borrow.Author.Tests.{eq-eqb, le-ltb, lt-ltb, ne-eqb}
 use mathlib.Core.Path.{refl}
-use Rattle.packets.specs.Filling.{finishedAnswer,finishedPacket}
+use Rattle.packets.specs.Filling.{finishedAnswer, finishedPacket}
 use mathlib.Core.Path.{refl}
 use Rattle.packets.proofs.filling.finish.Statement.{statement}
 use Rattle.packets.proofs.filling.finish.Tie as tie
@@ -10,28 +10,25 @@ use Rattle.packets.proofs.filling.finish.Tie as tie
 returns : tie.Need-returns
 unfolding finishedAnswer finishedPacket
 returns c =
-    rw
-    (
-    eq-eqb _ _ (c .before .before .if1 .taken),
-    lt-ltb _ _ (c .if2 .taken)
+    rw (
+      eq-eqb _ _ (c .before .before .if1 .taken),
+      lt-ltb _ _ (c .if2 .taken),
     ) (refl, refl)
 
 returns-2 : tie.Need-returns-2
 unfolding finishedAnswer finishedPacket
 returns-2 c =
-    rw
-    (
-    eq-eqb _ _ (c .before .before .if1 .taken),
-    le-ltb _ _ (c .if2 .left)
+    rw (
+      eq-eqb _ _ (c .before .before .if1 .taken),
+      le-ltb _ _ (c .if2 .left),
     ) (refl, refl)
 
 returns-3 : tie.Need-returns-3
 unfolding finishedAnswer finishedPacket
 returns-3 c =
-    rw
-    (
-    ne-eqb _ _ (c .before .before .before .before .if1 .left),
-    ← (c .before .before .put-common-header .ensures)
+    rw (
+      ne-eqb _ _ (c .before .before .before .before .if1 .left),
+      ← (c .before .before .put-common-header .ensures),
     ) (refl, refl)
 
 pub finish-spec : {M : Type 1} → statement M

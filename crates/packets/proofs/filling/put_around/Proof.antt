@@ -7,9 +7,10 @@ use Rattle.packets.proofs.filling.put_around.Statement.{statement}
 use Rattle.packets.proofs.filling.put_around.Tie as tie
 
 put-zeros-requires : tie.Need-put-zeros-requires
-put-zeros-requires c κs =
-    (zeros-fit (c .before .before .before .before .before .before .before .before .args .kind) _ _ _ (c .before .before .before .before .before .before .header-size .ensures) (c .before .before .before .before .before .padded .ensures),
-    omega (arith, around-fits (c .before .before .before .before .before .before .before .before .args .kind) _ _ _ (c .before .before .before .before .before .before .before .before .args .at) _ (c .before .before .before .before .before .before .header-size .ensures) (c .before .before .before .before .before .padded .ensures) (c .before .before .before .before .before .before .before .before .pre .1), (c .before .before .packet .given)))
+put-zeros-requires c κs = (
+  zeros-fit (c .before .before .before .before .before .before .before .before .args .kind) _ _ _ (c .before .before .before .before .before .before .header-size .ensures) (c .before .before .before .before .before .padded .ensures),
+  omega (arith, around-fits (c .before .before .before .before .before .before .before .before .args .kind) _ _ _ (c .before .before .before .before .before .before .before .before .args .at) _ (c .before .before .before .before .before .before .header-size .ensures) (c .before .before .before .before .before .padded .ensures) (c .before .before .before .before .before .before .before .before .pre .1), (c .before .before .packet .given)),
+)
 
 returns : tie.Need-returns
 returns c =

@@ -1,0 +1,18 @@
+-- `send_queue_c::packing::dsq_fill_packet` meets its contract: what the call promises of the words, told as numbers. Assumes nothing.
+use borrow.Author.Needs.{needs}
+use Rattle.send_queue_c.proofs.Packets.{gives-packet}
+use Rattle.send_queue_c.proofs.packing.dsq_fill_packet.Statement.{statement}
+use Rattle.send_queue_c.proofs.packing.dsq_fill_packet.Tie as tie
+
+returns : tie.Need-returns
+returns c = gives-packet _ _ _ _ _ _ _ _ (c .before .before .before .before .before .before .fill-packet .ensures .words) (c .tell-filled .ensures)
+
+pub dsq-fill-packet-spec : {M : Type 1} → statement M
+dsq-fill-packet-spec =
+    tie.close
+    (tie.spec
+    (λ c. search needs)
+    (λ c. search needs)
+    (λ c. search needs)
+    (λ c. search needs)
+    returns)

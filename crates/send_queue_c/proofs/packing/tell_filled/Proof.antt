@@ -1,0 +1,14 @@
+-- `send_queue_c::packing::tell_filled` meets its contract: each return is what its definition says, by the arms matched. Assumes nothing.
+use borrow.Author.Needs.{needs}
+use mathlib.Core.Path.{refl}
+use Rattle.send_queue_c.proofs.packing.tell_filled.Statement.{statement}
+use Rattle.send_queue_c.proofs.packing.tell_filled.Tie as tie
+
+returns : tie.Need-returns
+returns c = rw (c .before .a .given .1) (refl, refl)
+
+returns-2 : tie.Need-returns-2
+returns-2 c = rw (c .before .a2 .given .1) (refl, refl)
+
+pub tell-filled-spec : {M : Type 1} → statement M
+tell-filled-spec = tie.close (tie.spec (λ c. search needs) (λ c. search needs) (λ c. search needs) (λ c. search needs) (λ c. search needs) returns returns-2)
