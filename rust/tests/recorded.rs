@@ -51,11 +51,10 @@ fn the_gate_s_traces() {
     assert!(calls > 50_000);
 }
 
-#[test]
-fn the_small_traces() {
-    let folder = repository("tests/traces");
+/// Plays all traces of a folder; how many they are.
+fn play_all(folder: &Path) -> u64 {
     let mut traces = 0;
-    for entry in fs::read_dir(&folder).unwrap() {
+    for entry in fs::read_dir(folder).unwrap() {
         let path = entry.unwrap().path();
         if path.extension().is_some_and(|e| e == "trace") {
             play(&path, &path.with_extension("answers"));
@@ -63,4 +62,18 @@ fn the_small_traces() {
         }
     }
     assert!(traces > 0, "no trace in {}", folder.display());
+    traces
+}
+
+#[test]
+fn the_small_traces() {
+    play_all(&repository("tests/traces"));
+}
+
+/// Traces made for the purpose, with the reference's answers beside them, in the folder $DSQ_TRACES.
+#[test]
+#[ignore = "wants $DSQ_TRACES"]
+fn given_traces() {
+    let folder = std::env::var_os("DSQ_TRACES").expect("$DSQ_TRACES is a folder");
+    println!("{} traces", play_all(Path::new(&folder)));
 }
