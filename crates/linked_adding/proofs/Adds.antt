@@ -240,7 +240,7 @@ module _ (ws st : List ℕ) (g : Good ws st) (time : ℕ) (m : Message) (bs : Li
     us = inserted ws p id (newStream (optionsAt ws))
 
     fresh-fits : FitsStream fresh
-    fresh-fits = record { priority-fits = Laws.options-at-fits ws .priority-fits; pause-state-fits = omega arith; ssn-fits = omega arith; unordered-mid-fits = omega arith; ordered-mid-fits = omega arith }
+    fresh-fits = record { priority-fits = Laws.options-at-fits ws .priority-fits; ssn-fits = omega arith; unordered-mid-fits = omega arith; ordered-mid-fits = omega arith }
 
     ins : Inserted ws st (g .shape) p id fresh us
     ins = insert-link ws st (g .shape) p id fresh hp few lo hi (typed .stream-id) fresh-fits refl refl

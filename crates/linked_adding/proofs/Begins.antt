@@ -3,14 +3,16 @@ use mathlib.Core.Path.{_≡_, refl, sym, _∙_, subst}
 use mathlib.Core.Bool.{Bool, true, false, not, _&&_}
 use mathlib.Core.List.{List, [], _∷_, _++_}
 use mathlib.Core.Option.{none}
-use Prim.Native.Nat.{ℕ, zero, suc, _≤_, _<_}
+use Prim.Native.Nat.{ℕ, _≤_, _<_}
 use native.Mathlib.Omega.{arith}
-use borrow.Author.Tests.{lt-ltb, le-ltb, ne-eqb}
+use borrow.Author.Tests.{lt-ltb, le-ltb, ltb-true}
 use lib.Dec.{ltb}
 use Rattle.queue_words.specs.Flags.{pick}
 use Rattle.queue_words.specs.Header.{optionsAt, totalsAt}
 use Rattle.queue_words.specs.declared.items.Item.{Item}
 use Rattle.queue_words.specs.declared.streams.OutgoingStream.{OutgoingStream}
+use Rattle.queue_words.specs.declared.streams.PauseState.{PauseState}
+use Rattle.queue_words.specs.declared.streams.PauseState.the-variants.{NotPaused, Pending, Paused, Resetting}
 use Rattle.queue_model.specs.Logic.{if_then_else_}
 use Rattle.queue_model.specs.Types.{Stream, Scheduler}
 use Rattle.queue_model.specs.Types as plain
@@ -18,7 +20,7 @@ use Rattle.queue_model.specs.Scheduler.{find-active}
 use Rattle.queue_model.specs.Streams.{put-stream, some-items, has-items, head-size, weight-of, reschedule}
 use Rattle.queue_model.specs.Add.{starts-waiting}
 use Rattle.queue_model.proofs.Scheduler.{reschedule-of}
-use Rattle.payload_store.proofs.Cases.{by-lt}
+use Rattle.queue_model.proofs.Tests.{holds}
 use Rattle.stream_scheduler.specs.Link.{modelScheduler}
 use Rattle.stream_scheduler.specs.Rows.{weightOf}
 use Rattle.stream_scheduler.specs.Words.{beginWaiting, setBytesRemaining}
@@ -28,42 +30,37 @@ use Rattle.queue_state.specs.Chains.{Linked, each}
 use Rattle.queue_state.specs.Model.{nextOf, itemIn, pauseOf, streamOf, streamsIn}
 use Rattle.queue_state.specs.Good.{Shape}
 use Rattle.queue_state.proofs.Rooms.{KnownTo, Listing, AllKnown, known-put, known-own, listing-streams, set-known}
-use Rattle.queue_messages.specs.Add.{starts, started}
+use Rattle.queue_messages.specs.Add.{mayStart, starts, started}
 
 -- ---- when a stream begins to wait
 
-pause-waits : (n : ℕ) → starts-waiting (pauseOf n) ≡ pick (ltb 1 n) false true
+pause-waits : (p : PauseState) (b : Bool) → (starts-waiting (pauseOf p) && b) ≡ pick (mayStart p) b false
 unfolding starts-waiting pauseOf
-pause-waits zero = refl
-pause-waits (suc zero) = refl
-pause-waits (suc (suc zero)) = refl
-pause-waits (suc (suc (suc n))) =
-    rw (ne-eqb (suc (suc (suc n))) 0 (λ e. omega arith), ne-eqb (suc (suc (suc n))) 1 (λ e. omega arith), ne-eqb (suc (suc (suc n))) 2 (λ e. omega arith), lt-ltb 1 (suc (suc (suc n))) (omega arith))
+pause-waits NotPaused b = refl
+pause-waits Pending b = refl
+pause-waits Paused b = refl
+pause-waits Resetting b = refl
 
 first-empty : (nx : ℕ → ℕ) (f : ℕ → plain.Item) (first : ℕ) (ps : List ℕ) → Linked nx first ps → not (some-items (each f ps)) ≡ ltb 1023 first
 unfolding some-items
 first-empty nx f first [] l = rw (lt-ltb 1023 first (omega arith))
 first-empty nx f first (x ∷ xs) l = rw (le-ltb 1023 first (omega arith))
 
-both-tests : (b c : Bool) → (pick b false true && c) ≡ pick b false c
-both-tests true c = refl
-both-tests false c = refl
-
 -- the words' test is the model's
 pub starts-is : (ws st : List ℕ) (id : ℕ) (s : OutgoingStream) (ps : List ℕ) → Linked (nextOf ws) (s .first) ps
     → (starts-waiting ((streamOf id s (each (itemIn ws st) ps)) .pause-state) && not (has-items (streamOf id s (each (itemIn ws st) ps)))) ≡ starts s
 unfolding starts has-items
 starts-is ws st id s ps l =
-    rw (pause-waits (s .«pause_state»), first-empty (nextOf ws) (itemIn ws st) (s .first) ps l) (both-tests (ltb 1 (s .«pause_state»)) (ltb 1023 (s .first)))
+    rw (first-empty (nextOf ws) (itemIn ws st) (s .first) ps l) (pause-waits (s .«pause_state») (ltb 1023 (s .first)))
 
 -- a stream that begins to wait had no messages
 pub starts-none : (s : OutgoingStream) → starts s ≡ true → 1024 ≤ s .first
 unfolding starts
-starts-none s e = by-lt 1023 (s .first) (λ h. omega arith) (λ h. absurd (no (ltb 1 (s .«pause_state»)) (rw (le-ltb 1023 (s .first) h) at e)))
+starts-none s e = go (mayStart (s .«pause_state»)) e
   where
-    no : (b : Bool) → pick b false false ≡ true → ⊥
-    no true e = let z : _≡_ {A = ℕ} 0 1 = cc in omega arith
-    no false e = let z : _≡_ {A = ℕ} 0 1 = cc in omega arith
+    go : (b : Bool) → pick b (ltb 1023 (s .first)) false ≡ true → 1024 ≤ s .first
+    go true e = ltb-true 1023 (s .first) e
+    go false e = absurd (holds false e)
 
 weight-is : (il : Bool) (s : Stream) → weightOf (parametersFor il (s .priority)) ≡ weight-of il s
 unfolding weight-of

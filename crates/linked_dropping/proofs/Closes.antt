@@ -7,17 +7,17 @@ use mathlib.Core.Option.{none, some}
 use native.Mathlib.Omega.{arith}
 use native.Mathlib.Nat.{sub-zero}
 use borrow.Author.Tests.{lt-ltb, le-ltb, le-leb, lt-leb, eq-eqb, ne-eqb}
-use lib.Dec.{eqb}
 use lib.ListN.{length}
-use Rattle.queue_words.specs.Flags.{pick}
 use Rattle.queue_words.specs.Header.{optionsAt, totalsAt}
 use Rattle.queue_words.specs.Items.{itemAt, putNext}
 use Rattle.queue_words.specs.Known.{knownAt, idAt}
-use Rattle.queue_words.specs.Streams.{streamAt, putStream, FitsStream}
+use Rattle.queue_words.specs.Streams.{isOpen, streamAt, putStream, FitsStream}
 use Rattle.queue_words.specs.declared.header.Totals.{Totals}
 use Rattle.queue_words.specs.declared.items.Item.{Item}
 use Rattle.queue_words.specs.declared.known.Known.{Known}
 use Rattle.queue_words.specs.declared.streams.OutgoingStream.{OutgoingStream}
+use Rattle.queue_words.specs.declared.streams.PauseState.{PauseState}
+use Rattle.queue_words.specs.declared.streams.PauseState.the-variants.{NotPaused, Pending, Paused, Resetting}
 use Rattle.queue_words.proofs.Laws
 use Rattle.queue_model.specs.Types.{Stream, Queue, Scheduler, not-paused, pending, paused, resetting, Event, Step, done, reply, refuse, with-items, with-pause, with-state}
 use Rattle.queue_model.specs.Types as plain
@@ -27,6 +27,7 @@ use Rattle.queue_model.specs.Scheduler.{remove-stream}
 use Rattle.queue_model.specs.Streams.{find-stream, put-stream, stream-at, too-many, new-stream}
 use Rattle.queue_model.specs.Close.{sweep-events, closed, swept-bytes}
 use Rattle.queue_model.proofs.Streams.{unsent-bytes}
+use Rattle.queue_model.proofs.Tests.{holds}
 use Rattle.queue_model.proofs.Invariant.Events.{events-fit}
 use Rattle.queue_model.proofs.Invariant.Messages.{WellRest, WellItems}
 use Rattle.payload_store.specs.Words.{sizeOf, usedOf}
@@ -75,15 +76,15 @@ words-at : (ws es : List ℕ) (id : ℕ) (p : Place) → eventWords ≤ length e
 unfolding close
 words-at ws es id p h e = rw (le-ltb (length es) eventWords h, e)
 
-in-closed : (ws es : List ℕ) (id r : ℕ) → 0 < streamAt ws r .«pause_state» → closeIn ws es id r ≡ calledWith (Accepted 0) ws es
+in-closed : (ws es : List ℕ) (id r : ℕ) → isOpen (streamAt ws r .«pause_state») ≡ false → closeIn ws es id r ≡ calledWith (Accepted 0) ws es
 unfolding closeIn
-in-closed ws es id r h = rw (lt-ltb 0 (streamAt ws r .«pause_state») h)
+in-closed ws es id r h = rw h
 
-in-open : (ws es : List ℕ) (id r : ℕ) → streamAt ws r .«pause_state» ≡ 0 → closeIn ws es id r ≡ closeOpen ws es id r (streamAt ws r)
+in-open : (ws es : List ℕ) (id r : ℕ) → streamAt ws r .«pause_state» ≡ NotPaused → closeIn ws es id r ≡ closeOpen ws es id r (streamAt ws r)
 unfolding closeIn
-in-open ws es id r h = rw (le-ltb 0 (streamAt ws r .«pause_state») (omega arith))
+in-open ws es id r h = rw h
 
-open-empty : (ws es : List ℕ) (id r : ℕ) (s : OutgoingStream) → s .first ≡ 1024 → closeOpen ws es id r s ≡ calledWith (Accepted 0) (putStream ws r (closedAs s 2 (s .«buffered_amount») (s .first) (s .last))) es
+open-empty : (ws es : List ℕ) (id r : ℕ) (s : OutgoingStream) → s .first ≡ 1024 → closeOpen ws es id r s ≡ calledWith (Accepted 0) (putStream ws r (closedAs s Paused (s .«buffered_amount») (s .first) (s .last))) es
 unfolding closeOpen
 open-empty ws es id r s e = rw (le-ltb 1024 (s .first) (omega arith), eq-eqb (s .first) 1024 e)
 
@@ -165,18 +166,16 @@ module _ (ws st es : List ℕ) (id : ℕ) where
   unfolding written
   leaves-quiet ws′ n ss sc g t l e = leaves-told ws′ [] n ss sc g t l e
 
-pause-open : (n : ℕ) → n ≡ 0 → pauseOf n ≡ not-paused
+pause-open : (p : PauseState) → p ≡ NotPaused → pauseOf p ≡ not-paused
 unfolding pauseOf
-pause-open n e = rw (eq-eqb n 0 e)
+pause-open p e = ap pauseOf e
 
-pause-shut : (n : ℕ) → (n ≡ 0 → ⊥) → pauseOf n ≡ not-paused → ⊥
+pause-shut : (p : PauseState) → isOpen p ≡ false → pauseOf p ≡ not-paused → ⊥
 unfolding pauseOf
-pause-shut n ne = go (eqb n 1) (eqb n 2)
-  where
-    go : (a b : Bool) → pick (eqb n 0) not-paused (pick a pending (pick b paused resetting)) ≡ not-paused → ⊥
-    go true b e = let z : pending ≡ not-paused = rw (ne-eqb n 0 ne) at e in let y : _≡_ {A = ℕ} 0 1 = cc in omega arith
-    go false true e = let z : paused ≡ not-paused = rw (ne-eqb n 0 ne) at e in let y : _≡_ {A = ℕ} 0 1 = cc in omega arith
-    go false false e = let z : resetting ≡ not-paused = rw (ne-eqb n 0 ne) at e in let y : _≡_ {A = ℕ} 0 1 = cc in omega arith
+pause-shut NotPaused o e = holds false (sym o)
+pause-shut Pending o e = let z : pending ≡ not-paused = e in let y : _≡_ {A = ℕ} 0 1 = cc in omega arith
+pause-shut Paused o e = let z : paused ≡ not-paused = e in let y : _≡_ {A = ℕ} 0 1 = cc in omega arith
+pause-shut Resetting o e = let z : resetting ≡ not-paused = e in let y : _≡_ {A = ℕ} 0 1 = cc in omega arith
 
 -- the parts of what is left, under other names
 leaves-as : (ws st us : List ℕ) (s : OutgoingStream) (r r′ n n′ : ℕ) (ss ss′ : List Stream) (sc sc′ : Scheduler) → r ≡ r′ → n ≡ n′ → ss ≡ ss′ → sc ≡ sc′
@@ -195,10 +194,10 @@ module _ (ws st es : List ℕ) (g : Good ws st) (i : ℕ) (hk : i < totalsAt ws 
   abbrev here : List ℕ → Stream
   here ps = streamHere ws st i ps
 
-  fits : (state a p l : ℕ) → state < 256 → FitsStream (closedAs s state a p l)
-  fits state a p l h =
+  fits : (state : PauseState) (a p l : ℕ) → FitsStream (closedAs s state a p l)
+  fits state a p l =
       let f = Laws.stream-at-fits ws (rowAt ws i) in
-      record { priority-fits = f .priority-fits; pause-state-fits = h; ssn-fits = f .ssn-fits; unordered-mid-fits = f .unordered-mid-fits; ordered-mid-fits = f .ordered-mid-fits }
+      record { priority-fits = f .priority-fits; ssn-fits = f .ssn-fits; unordered-mid-fits = f .unordered-mid-fits; ordered-mid-fits = f .ordered-mid-fits }
 
   module _ (ps : List ℕ) (eq : g .shape .q i ≡ ps) where
     found : find-stream (idAt ws i) (streamsIn ws st) ≡ some (here ps)
@@ -232,12 +231,12 @@ module _ (ws st es : List ℕ) (g : Good ws st) (i : ℕ) (hk : i < totalsAt ws 
     used-here = omega (arith, ap (sumOf (sizeOf ws)) eq, g .shape .used, total-has (sumOf (sizeOf ws)) (g .shape .q) i (omega (arith, g .shape .known-fits)))
 
     -- "Closing changes nothing unless the stream is open."
-    shut-link : (s .«pause_state» ≡ 0 → ⊥) → Told ws st es (idAt ws i) (closeIn ws es (idAt ws i) (rowAt ws i))
+    shut-link : isOpen (s .«pause_state») ≡ false → Told ws st es (idAt ws i) (closeIn ws es (idAt ws i) (rowAt ws i))
     shut-link ne =
-        rw (in-closed ws es (idAt ws i) (rowAt ws i) (omega arith))
+        rw (in-closed ws es (idAt ws i) (rowAt ws i) ne)
         (unmoved ws st es (idAt ws i) g t (close-other (placesIn es) (idAt ws i) (model ws st) (here ps) (omega arith) room at-here (pause-shut (s .«pause_state») ne)))
 
-    opens : s .«pause_state» ≡ 0 → swept-bytes (each (itemIn ws st) ps) ≤ sumOf (restAt ws) ps → run.step d (model ws st) ≡ closed (model ws st) (here ps)
+    opens : s .«pause_state» ≡ NotPaused → swept-bytes (each (itemIn ws st) ps) ≤ sumOf (restAt ws) ps → run.step d (model ws st) ≡ closed (model ws st) (here ps)
     opens o h =
         close-open (placesIn es) (idAt ws i) (model ws st) (here ps) (omega arith) room at-here (pause-open (s .«pause_state») o)
         (omega (arith, h, amount-is, amount-total ws st g i hk, model-total ws st)) (omega (arith, h, amount-is))
@@ -246,21 +245,21 @@ module _ (ws st es : List ℕ) (g : Good ws st) (i : ℕ) (hk : i < totalsAt ws 
 
   empty-queue : (n : ℕ) (ss : List Stream) (sc : Scheduler) → n ≡ totalsAt ws .total → ss ≡ streamsIn ws st → sc ≡ modelScheduler ws
       → with-state (model ws st) n (put-stream (with-pause paused (with-items (here []) (s .«buffered_amount») [])) ss) sc
-      ≡ with-state (model ws st) (totalsAt ws .total - 0) (put-stream (streamOf (idAt ws i) (closedAs s 2 (s .«buffered_amount») (s .first) (s .last)) []) (streamsIn ws st)) (modelScheduler ws)
+      ≡ with-state (model ws st) (totalsAt ws .total - 0) (put-stream (streamOf (idAt ws i) (closedAs s Paused (s .«buffered_amount») (s .first) (s .last)) []) (streamsIn ws st)) (modelScheduler ws)
   unfolding pauseOf
   empty-queue n ss sc a b c = rw (a, b, c, sub-zero (totalsAt ws .total))
 
-  empty-link : g .shape .q i ≡ [] → s .«pause_state» ≡ 0 → Told ws st es (idAt ws i) (closeOpen ws es (idAt ws i) (rowAt ws i) s)
+  empty-link : g .shape .q i ≡ [] → s .«pause_state» ≡ NotPaused → Told ws st es (idAt ws i) (closeOpen ws es (idAt ws i) (rowAt ws i) s)
   empty-link eq o =
       let l : s .last ≡ 1024 = g .shape .rows i hk .last-is ∙ ap (lastOf 1024) eq in
-      let v = closed-leaves ws st (g .shape) i hk [] [] (λ y. ap (count y) eq) (ap (λ (x : List ℕ). length x) eq) (ap (sumOf (sizeOf ws)) eq) ws (clear-none ws st (g .shape .lay)) (closedAs s 2 (s .«buffered_amount») (s .first) (s .last)) (fits 2 (s .«buffered_amount») (s .first) (s .last) (omega arith)) (linked-here [] eq) l in
+      let v = closed-leaves ws st (g .shape) i hk [] [] (λ y. ap (count y) eq) (ap (λ (x : List ℕ). length x) eq) (ap (sumOf (sizeOf ws)) eq) ws (clear-none ws st (g .shape .lay)) (closedAs s Paused (s .«buffered_amount») (s .first) (s .last)) (fits Paused (s .«buffered_amount») (s .first) (s .last)) (linked-here [] eq) l in
       rw (open-empty ws es (idAt ws i) (rowAt ws i) s (linked-here [] eq))
-      (leaves-quiet ws st es (idAt ws i) (putStream ws (rowAt ws i) (closedAs s 2 (s .«buffered_amount») (s .first) (s .last))) (totalsAt ws .total - 0) (put-stream (streamOf (idAt ws i) (closedAs s 2 (s .«buffered_amount») (s .first) (s .last)) []) (streamsIn ws st)) (modelScheduler ws) g t v
+      (leaves-quiet ws st es (idAt ws i) (putStream ws (rowAt ws i) (closedAs s Paused (s .«buffered_amount») (s .first) (s .last))) (totalsAt ws .total - 0) (put-stream (streamOf (idAt ws i) (closedAs s Paused (s .«buffered_amount») (s .first) (s .last)) []) (streamsIn ws st)) (modelScheduler ws) g t v
       (opens [] eq o (omega arith) ∙ closed-empty (model ws st) (here []) refl ∙ ap (reply done []) (empty-queue ((model ws st) .total) ((model ws st) .streams) ((model ws st) .scheduler) (model-total ws st) (model-streams ws st) (model-schedules ws st))))
 
   -- ---- "a remaining half-sent one makes the stream pending"
 
-  module _ (x : ℕ) (xs : List ℕ) (eq : g .shape .q i ≡ x ∷ xs) (o : s .«pause_state» ≡ 0) where
+  module _ (x : ℕ) (xs : List ℕ) (eq : g .shape .q i ≡ x ∷ xs) (o : s .«pause_state» ≡ NotPaused) where
     abbrev all : Stream
     all = here (x ∷ xs)
 
@@ -300,7 +299,7 @@ module _ (ws st es : List ℕ) (g : Good ws st) (i : ℕ) (hk : i < totalsAt ws 
 
     -- the stream that is left with its first message
     abbrev left : OutgoingStream
-    left = closedAs s 1 (s .«buffered_amount» - bytes xs) (s .first) (s .first)
+    left = closedAs s Pending (s .«buffered_amount» - bytes xs) (s .first) (s .first)
 
     abbrev left-streams : List Stream
     left-streams = put-stream (streamOf (idAt ws i) left (each (itemIn ws st) (x ∷ []))) (streamsIn ws st)
@@ -326,7 +325,7 @@ module _ (ws st es : List ℕ) (g : Good ws st) (i : ℕ) (hk : i < totalsAt ws 
         let l : length (cleared ws xs) ≡ 20768 = c0 .long ∙ g .shape .long in
         subst (λ (p : ℕ). Leaves ws st (putStream (putNext (cleared ws xs) p 1024) (rowAt ws i) left) (totalsAt ws .total - bytes xs) left-streams (modelScheduler ws)) (sym first-is)
         (closed-leaves ws st (g .shape) i hk (x ∷ []) xs (λ y. omega (arith, counts y)) (omega (arith, ap (λ (z : List ℕ). length z) eq)) (omega (arith, ap (sumOf (sizeOf ws)) eq))
-        (putNext (cleared ws xs) x 1024) (clear-cut (cleared ws xs) st x 1024 l x-fits ws xs absent c0) left (fits 1 (s .«buffered_amount» - bytes xs) (s .first) (s .first) (omega arith)) (first-is, x-fits, cut-next (cleared ws xs) st x 1024 l x-fits) first-is)
+        (putNext (cleared ws xs) x 1024) (clear-cut (cleared ws xs) st x 1024 l x-fits ws xs absent c0) left (fits Pending (s .«buffered_amount» - bytes xs) (s .first) (s .first)) (first-is, x-fits, cut-next (cleared ws xs) st x 1024 l x-fits) first-is)
 
     behind-link : 0 < itemAt ws x .offset → Told ws st es (idAt ws i) (closeOpen ws es (idAt ws i) (rowAt ws i) s)
     behind-link h =
@@ -388,7 +387,7 @@ module _ (ws st es : List ℕ) (g : Good ws st) (i : ℕ) (hk : i < totalsAt ws 
 
       -- the stream that is left with none
       abbrev none-left : OutgoingStream
-      none-left = closedAs s 2 (s .«buffered_amount» - bytes (x ∷ xs)) 1024 1024
+      none-left = closedAs s Paused (s .«buffered_amount» - bytes (x ∷ xs)) 1024 1024
 
       abbrev none-streams : List Stream
       none-streams = put-stream (streamOf (idAt ws i) none-left []) (streamsIn ws st)
@@ -414,7 +413,7 @@ module _ (ws st es : List ℕ) (g : Good ws st) (i : ℕ) (hk : i < totalsAt ws 
           (ap (λ (k : Known). k .place) known-same) (rw (let-go .untouched .same-totals, bytes-still)) (rw (ap (λ (k : Known). k .id .0) known-same, let-go .unmoved .streams)) (let-go .scheduler)
           (leaves-through ws us st (putStream (cleared us (x ∷ xs)) (rowAt us i) none-left) (totalsAt us .total - sumOf (restAt us) (x ∷ xs)) (put-stream (streamOf (idAt us i) none-left []) (streamsIn us st)) (modelScheduler us) (let-go .untouched)
           (closed-leaves us st (let-go .unmoved .shape) i still-known [] (x ∷ xs) (λ y. omega (arith, ap (count y) q-still)) (omega (arith, ap (λ (z : List ℕ). length z) q-still)) (omega (arith, ap (sumOf (sizeOf us)) q-still))
-          (cleared us (x ∷ xs)) (clear-all st (x ∷ xs) us (s .first) ready-then) none-left (fits 2 (s .«buffered_amount» - bytes (x ∷ xs)) 1024 1024 (omega arith)) refl refl))
+          (cleared us (x ∷ xs)) (clear-all st (x ∷ xs) us (s .first) ready-then) none-left (fits Paused (s .«buffered_amount» - bytes (x ∷ xs)) 1024 1024) refl refl))
 
       fired-still : sweep-events options all (each (itemIn us st) (x ∷ xs)) (totalsAt us .total) (s .«buffered_amount») ≡ fired (x ∷ xs)
       fired-still = ap (λ (z : List plain.Item). sweep-events options all z (totalsAt us .total) (s .«buffered_amount»)) items-still ∙ ap (λ (z : Totals). sweep-events options all (each (itemIn ws st) (x ∷ xs)) (z .total) (s .«buffered_amount»)) (let-go .untouched .same-totals)
@@ -434,14 +433,18 @@ module _ (ws st es : List ℕ) (g : Good ws st) (i : ℕ) (hk : i < totalsAt ws 
           rw (open-whole ws es (idAt ws i) (rowAt ws i) x s first-is x-fits h, whole-goes ws es (idAt ws i) (rowAt ws i) s (swept (record { place = 1024; count = 0 + length (fired (x ∷ xs)); amount = s .«buffered_amount» - bytes (x ∷ xs) }) (cleared us (x ∷ xs)) (written es 0 (fired (x ∷ xs)))) m (remove-link ws (g .shape .schedules) (idAt ws i) id-fits .step-done) w′)
           (leaves-told ws st es (idAt ws i) (putStream (cleared us (x ∷ xs)) (rowAt ws i) none-left) (fired (x ∷ xs)) (totalsAt ws .total - bytes (x ∷ xs)) none-streams ended g t whole-leaves whole-steps)
 
-  open-link : (ps : List ℕ) → g .shape .q i ≡ ps → s .«pause_state» ≡ 0 → Told ws st es (idAt ws i) (closeOpen ws es (idAt ws i) (rowAt ws i) s)
+  open-link : (ps : List ℕ) → g .shape .q i ≡ ps → s .«pause_state» ≡ NotPaused → Told ws st es (idAt ws i) (closeOpen ws es (idAt ws i) (rowAt ws i) s)
   open-link [] eq o = empty-link eq o
   open-link (x ∷ xs) eq o = by-lt 0 (itemAt ws x .offset) (λ h. behind-link x xs eq o h) (λ h. whole-link x xs eq o (omega arith))
 
   known-link : Told ws st es (idAt ws i) (closeIn ws es (idAt ws i) (rowAt ws i))
-  known-link = by-index (s .«pause_state») 0
-      (λ o. rw (in-open ws es (idAt ws i) (rowAt ws i) o) (open-link (g .shape .q i) refl o))
-      (λ ne. shut-link (g .shape .q i) refl ne)
+  known-link = by (s .«pause_state») refl
+    where
+      by : (p : PauseState) → s .«pause_state» ≡ p → Told ws st es (idAt ws i) (closeIn ws es (idAt ws i) (rowAt ws i))
+      by NotPaused o = rw (in-open ws es (idAt ws i) (rowAt ws i) o) (open-link (g .shape .q i) refl o)
+      by Pending e = shut-link (g .shape .q i) refl (ap isOpen e)
+      by Paused e = shut-link (g .shape .q i) refl (ap isOpen e)
+      by Resetting e = shut-link (g .shape .q i) refl (ap isOpen e)
 
 -- ---- a stream that is not known becomes known and paused
 
@@ -455,7 +458,7 @@ module _ (ws st es : List ℕ) (g : Good ws st) (p id : ℕ) (t : Typed (run.clo
   new = new-stream (optionsOf (optionsAt ws)) id
 
   fresh-fits : FitsStream fresh
-  fresh-fits = record { priority-fits = Laws.options-at-fits ws .priority-fits; pause-state-fits = omega arith; ssn-fits = omega arith; unordered-mid-fits = omega arith; ordered-mid-fits = omega arith }
+  fresh-fits = record { priority-fits = Laws.options-at-fits ws .priority-fits; ssn-fits = omega arith; unordered-mid-fits = omega arith; ordered-mid-fits = omega arith }
 
   abbrev new-streams : List Stream
   new-streams = put-stream (streamOf id fresh []) (streamsIn ws st)

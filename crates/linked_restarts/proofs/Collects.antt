@@ -5,17 +5,16 @@ use mathlib.Core.List.{List, [], _∷_, _++_, append-assoc}
 use Prim.Native.Nat.{ℕ, zero, suc, _+_, _-_, _≤_, _<_}
 use native.Mathlib.Omega.{arith}
 use borrow.Author.Tests.{le-ltb}
-use lib.Dec.{eqb}
 use lib.ListN.{length, replicate, set}
 use Rattle.queue_words.specs.Flags.{pick}
 use Rattle.queue_words.specs.Header.{totalsAt}
 use Rattle.queue_words.specs.Known.{idAt}
-use Rattle.queue_words.specs.Streams.{streamAt}
+use Rattle.queue_words.specs.Streams.{isPaused, streamAt}
 use Rattle.queue_model.specs.Logic.{if_then_else_}
 use Rattle.queue_model.specs.Types.{Stream}
 use Rattle.queue_model.specs.Reset.{is-paused, paused-ids}
 use Rattle.queue_streams.specs.declared.answers.Call.the-variants.{Accepted}
-use Rattle.queue_restarts.specs.Ready.{isPaused, oneMore, collected}
+use Rattle.queue_restarts.specs.Ready.{pausedAt, oneMore, collected}
 use Rattle.queue_restarts.specs.declared.ready.ReadyStreams.{ReadyStreams}
 use Rattle.queue_state.specs.Chains.{each}
 use Rattle.queue_state.specs.Model.{itemIn, rowAt, streamIn, streamsIn, tab}
@@ -103,11 +102,11 @@ gather-more m s l h = go (is-paused s)
     go false = refl
 
 module _ (ws st : List ℕ) (g : Shape ws st) where
-  pub is-paused-at : (i : ℕ) → i < totalsAt ws .known → isPaused ws (rowAt ws i) ≡ is-paused (streamIn ws st i)
-  unfolding isPaused
+  pub is-paused-at : (i : ℕ) → i < totalsAt ws .known → pausedAt ws (rowAt ws i) ≡ is-paused (streamIn ws st i)
+  unfolding pausedAt
   is-paused-at i h =
       let r : rowAt ws i < 256 = row-below ws st g i h in
-      let e : is-paused (streamIn ws st i) ≡ eqb (streamAt ws (rowAt ws i) .«pause_state») 2 = ap is-paused (stream-is ws st g i h) ∙ paused-is (idAt ws i) (streamAt ws (rowAt ws i)) (each (itemIn ws st) (g .q i)) in
+      let e : is-paused (streamIn ws st i) ≡ isPaused (streamAt ws (rowAt ws i) .«pause_state») = ap is-paused (stream-is ws st g i h) ∙ paused-is (idAt ws i) (streamAt ws (rowAt ws i)) (each (itemIn ws st) (g .q i)) in
       rw (le-ltb 255 (rowAt ws i) (omega arith)) (sym e)
 
   collected-to : (n : ℕ) → n ≤ totalsAt ws .known → collected ws n ≡ gathered 256 (ids-to (streamIn ws st) n)

@@ -5,15 +5,15 @@ use mathlib.Core.List.{List, map}
 use Prim.Native.Nat.{ℕ, zero, suc, _+_, _≤_, _<_}
 use native.Mathlib.Omega.{arith}
 use borrow.Author.Tests.{le-ltb}
-use lib.Dec.{eqb}
 use lib.ListN.{take}
 use lib.Seq.{take-at}
 use Rattle.queue_words.specs.Flags.{pick}
 use Rattle.queue_words.specs.Header.{optionsAt, totalsAt}
 use Rattle.queue_words.specs.Known.{idAt}
-use Rattle.queue_words.specs.Streams.{streamAt, putStream, FitsStream}
+use Rattle.queue_words.specs.Streams.{isPaused, streamAt, putStream, withPause, FitsStream}
 use Rattle.queue_words.specs.declared.header.Totals.{Totals}
 use Rattle.queue_words.specs.declared.streams.OutgoingStream.{OutgoingStream}
+use Rattle.queue_words.specs.declared.streams.PauseState.the-variants.{Resetting}
 use Rattle.queue_words.proofs.Laws
 use Rattle.queue_model.specs.Logic.{if_then_else_}
 use Rattle.queue_model.specs.Types as plain
@@ -25,7 +25,7 @@ use Rattle.queue_model.specs.Calls
 use Rattle.queue_model.proofs.Ready.{paused-ascending}
 use Rattle.stream_scheduler.specs.Link.{modelScheduler}
 use Rattle.queue_streams.specs.declared.answers.Call.the-variants.{Accepted}
-use Rattle.queue_restarts.specs.Ready.{placesFit, allPlacesFit, withState, marked, markedAll, collected, readied, ready, countOf, readyCount}
+use Rattle.queue_restarts.specs.Ready.{placesFit, allPlacesFit, marked, markedAll, collected, readied, ready, countOf, readyCount}
 use Rattle.queue_restarts.specs.declared.ready.ReadyStreams.{ReadyStreams}
 use Rattle.queue_state.specs.Chains.{each}
 use Rattle.queue_state.specs.Model.{itemIn, pauseOf, streamOf, rowAt, streamIn, streamsIn, model, optionsOf}
@@ -54,7 +54,7 @@ marked-by : (s : Stream) (b : Bool) → is-paused s ≡ b → paused-to-resettin
 unfolding paused-to-resetting
 marked-by s b e = rw e
 
-state-is : (id : ℕ) (s : OutgoingStream) (is : List plain.Item) → streamOf id (withState s 3) is ≡ with-pause resetting (streamOf id s is)
+state-is : (id : ℕ) (s : OutgoingStream) (is : List plain.Item) → streamOf id (withPause s Resetting) is ≡ with-pause resetting (streamOf id s is)
 unfolding pauseOf
 state-is id s is = refl
 
@@ -74,17 +74,17 @@ module _ (us st : List ℕ) (g : Shape us st) (a : AllKnown us st) (i : ℕ) (hi
   here : streamIn us st i ≡ streamOf (idAt us i) row (each (itemIn us st) (g .q i))
   here = stream-is us st g i hi
 
-  state : is-paused (streamIn us st i) ≡ eqb (row .«pause_state») 2
+  state : is-paused (streamIn us st i) ≡ isPaused (row .«pause_state»)
   state = ap is-paused here ∙ paused-is (idAt us i) row (each (itemIn us st) (g .q i))
 
-  fits : FitsStream (withState row 3)
+  fits : FitsStream (withPause row Resetting)
   fits =
       let f = Laws.stream-at-fits us (rowAt us i) in
-      record { priority-fits = f .priority-fits; pause-state-fits = omega arith; ssn-fits = f .ssn-fits; unordered-mid-fits = f .unordered-mid-fits; ordered-mid-fits = f .ordered-mid-fits }
+      record { priority-fits = f .priority-fits; ssn-fits = f .ssn-fits; unordered-mid-fits = f .unordered-mid-fits; ordered-mid-fits = f .ordered-mid-fits }
 
-  by-state : (b : Bool) → eqb (row .«pause_state») 2 ≡ b → Turn paused-to-resetting still us st i (pick b (putStream us (rowAt us i) (withState row 3)) us)
+  by-state : (b : Bool) → isPaused (row .«pause_state») ≡ b → Turn paused-to-resetting still us st i (pick b (putStream us (rowAt us i) (withPause row Resetting)) us)
   by-state true e =
-      stored-turn us st g a i hi paused-to-resetting still (withState row 3) fits refl refl
+      stored-turn us st g a i hi paused-to-resetting still (withPause row Resetting) fits refl refl
       (state-is (idAt us i) row (each (itemIn us st) (g .q i)) ∙ ap (with-pause resetting) (sym here) ∙ sym (marked-by (streamIn us st i) true (state ∙ e))) refl
   by-state false e = no-turn us st g a i hi paused-to-resetting still (marked-by (streamIn us st i) false (state ∙ e)) refl
 
@@ -92,7 +92,7 @@ module _ (us st : List ℕ) (g : Shape us st) (a : AllKnown us st) (i : ℕ) (hi
   unfolding marked
   mark-turn =
       let r : rowAt us i < 256 = row-below us st g i hi in
-      rw (le-ltb 255 (rowAt us i) (omega arith)) (by-state (eqb (row .«pause_state») 2) refl)
+      rw (le-ltb 255 (rowAt us i) (omega arith)) (by-state (isPaused (row .«pause_state»)) refl)
 
 -- ---- the call
 

@@ -1,6 +1,6 @@
 -- Commit and rollback are the model's. Assumes nothing.
 use mathlib.Core.Path.{_≡_, refl, sym, ap, _∙_, subst}
-use mathlib.Core.Bool.{Bool, true, false, not, _&&_}
+use mathlib.Core.Bool.{Bool, true, false, _&&_}
 use mathlib.Core.List.{List, [], map}
 use Prim.Native.Nat.{ℕ, suc, _<_}
 use native.Mathlib.Omega.{arith}
@@ -9,7 +9,7 @@ use lib.Dec.{ltb}
 use Rattle.queue_words.specs.Flags.{pick}
 use Rattle.queue_words.specs.Header.{optionsAt, totalsAt}
 use Rattle.queue_words.specs.Known.{knownAt, idAt}
-use Rattle.queue_words.specs.Streams.{streamAt, putStream, FitsStream}
+use Rattle.queue_words.specs.Streams.{isResetting, streamAt, putStream, FitsStream}
 use Rattle.queue_words.specs.declared.header.Totals.{Totals}
 use Rattle.queue_words.specs.declared.streams.OutgoingStream.{OutgoingStream}
 use Rattle.queue_words.proofs.Laws
@@ -90,7 +90,7 @@ module _ (z il : Bool) (us st : List ℕ) (g : Shape us st) (a : AllKnown us st)
   here : streamIn us st i ≡ streamOf (idAt us i) row (each (itemIn us st) (g .q i))
   here = stream-is us st g i hi
 
-  state : is-resetting (streamIn us st i) ≡ not (ltb (row .«pause_state») 3)
+  state : is-resetting (streamIn us st i) ≡ isResetting (row .«pause_state»)
   state = ap is-resetting here ∙ resetting-is (idAt us i) row (each (itemIn us st) (g .q i))
 
   filled : has-items (streamIn us st i) ≡ ltb (row .first) 1024
@@ -122,16 +122,16 @@ module _ (z il : Bool) (us st : List ℕ) (g : Shape us st) (a : AllKnown us st)
       (subst (λ p. Turn (reopened z) (waited il) us st i (rescheduled vs il (idAt us i) p ((opened z row) .priority))) (opened-first z row) t)
   by-first false e r = stored-turn us st g a i hi (reopened z) (waited il) (opened z row) fits (opened-first z row) (opened-last z row) (new-is r) (not-due true false r (filled ∙ e) refl)
 
-  by-state : (b : Bool) → ltb (row .«pause_state») 3 ≡ b
-      → Turn (reopened z) (waited il) us st i (pick b us (pick (ltb (row .first) 1024) (rescheduled vs il (idAt us i) (row .first) (row .priority)) vs))
-  by-state true e = no-turn us st g a i hi (reopened z) (waited il) (reopened-by z (streamIn us st i) false (state ∙ ap not e)) (not-due false (has-items (streamIn us st i)) (state ∙ ap not e) refl refl)
-  by-state false e = by-first (ltb (row .first) 1024) refl (state ∙ ap not e)
+  by-state : (b : Bool) → isResetting (row .«pause_state») ≡ b
+      → Turn (reopened z) (waited il) us st i (pick b (pick (ltb (row .first) 1024) (rescheduled vs il (idAt us i) (row .first) (row .priority)) vs) us)
+  by-state false e = no-turn us st g a i hi (reopened z) (waited il) (reopened-by z (streamIn us st i) false (state ∙ e)) (not-due false (has-items (streamIn us st i)) (state ∙ e) refl refl)
+  by-state true e = by-first (ltb (row .first) 1024) refl (state ∙ e)
 
   pub reopen-turn : Turn (reopened z) (waited il) us st i (reopenedAt z il us (knownAt us i))
   unfolding reopenedAt reopenedIn
   reopen-turn =
       let r : rowAt us i < 256 = row-below us st g i hi in
-      rw (le-ltb 255 (rowAt us i) (omega arith)) (by-state (ltb (row .«pause_state») 3) refl)
+      rw (le-ltb 255 (rowAt us i) (omega arith)) (by-state (isResetting (row .«pause_state»)) refl)
 
 -- ---- the call
 

@@ -1,16 +1,18 @@
 -- One turn: a known stream's row stored, the stream let wait, both, or neither. Assumes nothing.
 use mathlib.Core.Path.{_≡_, refl, sym, ap, _∙_, subst}
-use mathlib.Core.Bool.{Bool, true, false, not}
+use mathlib.Core.Bool.{Bool, true, false}
 use mathlib.Core.List.{List, [], _∷_}
 use mathlib.Core.Option.{some}
 use Prim.Native.Nat.{ℕ, _<_}
 use native.Mathlib.Omega.{arith}
-use borrow.Author.Tests.{lt-ltb, le-ltb, eq-eqb, ne-eqb}
-use lib.Dec.{ltb, eqb}
+use borrow.Author.Tests.{lt-ltb, le-ltb}
+use lib.Dec.{ltb}
 use Rattle.queue_words.specs.Header.{totalsAt}
 use Rattle.queue_words.specs.Known.{idAt}
-use Rattle.queue_words.specs.Streams.{streamAt, putStream, FitsStream}
+use Rattle.queue_words.specs.Streams.{isPaused, isResetting, streamAt, putStream, FitsStream}
 use Rattle.queue_words.specs.declared.streams.OutgoingStream.{OutgoingStream}
+use Rattle.queue_words.specs.declared.streams.PauseState.{PauseState}
+use Rattle.queue_words.specs.declared.streams.PauseState.the-variants.{NotPaused, Pending, Paused, Resetting}
 use Rattle.queue_words.proofs.Laws
 use Rattle.queue_model.specs.Types as plain
 use Rattle.queue_model.specs.Types.{Stream, Scheduler}
@@ -23,7 +25,6 @@ use Rattle.queue_streams.specs.Waiting.{headSize, rescheduled}
 use Rattle.queue_state.specs.Chains.{Linked, each}
 use Rattle.queue_state.specs.Model.{nextOf, itemIn, pauseOf, streamOf, rowAt, streamIn, streamsIn}
 use Rattle.queue_state.specs.Good.{Shape}
-use Rattle.queue_state.proofs.Splits.{by-index}
 use Rattle.queue_state.proofs.Frames.{stream-is, row-below, stream-key-in}
 use Rattle.queue_state.proofs.Steps.{After}
 use Rattle.queue_state.proofs.Singles.{shape-row, row-streams, scheduler-same}
@@ -33,25 +34,25 @@ use Rattle.linked_restarts.proofs.Sweeps.{Turn}
 
 -- ---- what a row says of the model's stream
 
-pub paused-is : (id : ℕ) (s : OutgoingStream) (is : List plain.Item) → is-paused (streamOf id s is) ≡ eqb (s .«pause_state») 2
+pub paused-is : (id : ℕ) (s : OutgoingStream) (is : List plain.Item) → is-paused (streamOf id s is) ≡ isPaused (s .«pause_state»)
 unfolding is-paused pauseOf
-paused-is id s is = by-index (s .«pause_state») 0
-    (λ e. rw (eq-eqb (s .«pause_state») 0 e, ne-eqb (s .«pause_state») 2 (λ z. omega arith)))
-    (λ n0. by-index (s .«pause_state») 1
-    (λ e. rw (ne-eqb (s .«pause_state») 0 n0, eq-eqb (s .«pause_state») 1 e, ne-eqb (s .«pause_state») 2 (λ z. omega arith)))
-    (λ n1. by-index (s .«pause_state») 2
-    (λ e. rw (ne-eqb (s .«pause_state») 0 n0, ne-eqb (s .«pause_state») 1 n1, eq-eqb (s .«pause_state») 2 e))
-    (λ n2. rw (ne-eqb (s .«pause_state») 0 n0, ne-eqb (s .«pause_state») 1 n1, ne-eqb (s .«pause_state») 2 n2))))
+paused-is id s is = by (s .«pause_state») refl
+  where
+    by : (p : PauseState) → s .«pause_state» ≡ p → is-paused (streamOf id s is) ≡ isPaused p
+    by NotPaused e = rw e
+    by Pending e = rw e
+    by Paused e = rw e
+    by Resetting e = rw e
 
-pub resetting-is : (id : ℕ) (s : OutgoingStream) (is : List plain.Item) → is-resetting (streamOf id s is) ≡ not (ltb (s .«pause_state») 3)
+pub resetting-is : (id : ℕ) (s : OutgoingStream) (is : List plain.Item) → is-resetting (streamOf id s is) ≡ isResetting (s .«pause_state»)
 unfolding is-resetting pauseOf
-resetting-is id s is = by-index (s .«pause_state») 0
-    (λ e. rw (eq-eqb (s .«pause_state») 0 e, lt-ltb (s .«pause_state») 3 (omega arith)))
-    (λ n0. by-index (s .«pause_state») 1
-    (λ e. rw (ne-eqb (s .«pause_state») 0 n0, eq-eqb (s .«pause_state») 1 e, lt-ltb (s .«pause_state») 3 (omega arith)))
-    (λ n1. by-index (s .«pause_state») 2
-    (λ e. rw (ne-eqb (s .«pause_state») 0 n0, ne-eqb (s .«pause_state») 1 n1, eq-eqb (s .«pause_state») 2 e, lt-ltb (s .«pause_state») 3 (omega arith)))
-    (λ n2. rw (ne-eqb (s .«pause_state») 0 n0, ne-eqb (s .«pause_state») 1 n1, ne-eqb (s .«pause_state») 2 n2, le-ltb (s .«pause_state») 3 (omega arith)))))
+resetting-is id s is = by (s .«pause_state») refl
+  where
+    by : (p : PauseState) → s .«pause_state» ≡ p → is-resetting (streamOf id s is) ≡ isResetting p
+    by NotPaused e = rw e
+    by Pending e = rw e
+    by Paused e = rw e
+    by Resetting e = rw e
 
 -- A stream has messages exactly where its first place is one of the table.
 pub first-is : (ws st : List ℕ) (id first : ℕ) (s : OutgoingStream) (ps : List ℕ) → Linked (nextOf ws) first ps → has-items (streamOf id s (each (itemIn ws st) ps)) ≡ ltb first 1024

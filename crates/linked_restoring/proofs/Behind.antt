@@ -90,7 +90,7 @@ module _ (ws st : List â„•) (g : Shape ws st) (none-known : totalsAt ws .known â
     unfolding new
     new-fits =
         let w = stream-fits bs (n * 14) bytes (omega arith) in
-        record { priority-fits = w .1 .1 .1 .1 .0; pause-state-fits = omega arith; ssn-fits = w .1 .0; unordered-mid-fits = w .1 .1 .0; ordered-mid-fits = w .1 .1 .1 .0 }
+        record { priority-fits = w .1 .1 .1 .1 .0; ssn-fits = w .1 .0; unordered-mid-fits = w .1 .1 .0; ordered-mid-fits = w .1 .1 .1 .0 }
 
     ins : Inserted us st (b .shape) (totalsAt us .known) (streamAt bs (n * 14) .id) (restoredStream (optionsAt us) (streamAt bs (n * 14))) (inserted us (totalsAt us .known) (streamAt bs (n * 14) .id) (restoredStream (optionsAt us) (streamAt bs (n * 14))))
     unfolding new

@@ -191,7 +191,7 @@ module _ (ws st : List ℕ) (g : Shape ws st) (bs : List ℕ) (bytes : T (areByt
     room-known = omega (arith, few, new-length (optionsOf (optionsAt ws)) time (recordAt bs at) (streamsIn ws st) missing-record, streams-length ws st g)
 
     fresh-fits : FitsStream fresh
-    fresh-fits = record { priority-fits = Laws.options-at-fits ws .priority-fits; pause-state-fits = omega arith; ssn-fits = omega arith; unordered-mid-fits = omega arith; ordered-mid-fits = omega arith }
+    fresh-fits = record { priority-fits = Laws.options-at-fits ws .priority-fits; ssn-fits = omega arith; unordered-mid-fits = omega arith; ordered-mid-fits = omega arith }
 
     ins : Inserted ws st g p id fresh vs
     ins = insert-link ws st g p id fresh hp room-known lo hi (message-fits bs at bytes (omega arith) .0) fresh-fits refl refl

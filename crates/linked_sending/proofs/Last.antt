@@ -4,10 +4,7 @@ use mathlib.Core.Bool.{Bool}
 use mathlib.Core.List.{List, [], _∷_}
 use Prim.Native.Nat.{ℕ, _+_, _-_, _≤_, _<_}
 use native.Mathlib.Omega.{arith}
-use borrow.Author.Tests.{eq-eqb, ne-eqb, le-ltb}
-use lib.Dec.{eqb, ltb}
 use lib.ListN.{length}
-use Rattle.queue_words.specs.Flags.{pick}
 use Rattle.queue_words.specs.Header.{optionsAt, totalsAt}
 use Rattle.queue_words.specs.Items.{itemAt}
 use Rattle.queue_words.specs.Known.{knownAt, idAt}
@@ -16,8 +13,10 @@ use Rattle.queue_words.specs.declared.header.Totals.{Totals}
 use Rattle.queue_words.specs.declared.items.Item.{Item}
 use Rattle.queue_words.specs.declared.known.Known.{Known}
 use Rattle.queue_words.specs.declared.streams.OutgoingStream.{OutgoingStream}
+use Rattle.queue_words.specs.declared.streams.PauseState as words
+use Rattle.queue_words.specs.declared.streams.PauseState.the-variants.{NotPaused, Pending, Paused, Resetting}
 use Rattle.queue_words.proofs.Laws
-use Rattle.queue_model.specs.Types.{Stream, Scheduler, Weight, PauseState, not-paused, pending, paused, resetting}
+use Rattle.queue_model.specs.Types.{Stream, Scheduler, Weight}
 use Rattle.queue_model.specs.Types as plain
 use Rattle.queue_model.specs.Scheduler.{accept, set-bytes-remaining}
 use Rattle.queue_model.specs.Streams.{put-stream, stream-key, head-size, weight-of}
@@ -34,12 +33,10 @@ use Rattle.queue_state.specs.Chains.{Linked, count, each}
 use Rattle.queue_state.specs.Model.{nextOf, itemIn, pauseOf, streamOf, rowAt, streamsIn}
 use Rattle.queue_state.specs.Good.{Shape}
 use Rattle.queue_state.proofs.Chains.{each-frame, linked-frame}
-use Rattle.queue_state.proofs.Splits.{by-index}
 use Rattle.queue_state.proofs.Frames.{Same, row-below, row-fits}
 use Rattle.queue_state.proofs.Singles.{Alike, alike-untouched}
 use Rattle.queue_state.proofs.Heads.{HeadLeft, head-left, head-linked}
 use Rattle.queue_state.proofs.Rooms.{AllKnown, Let, last-known, head-is, weight-is}
-use Rattle.queue_state.proofs.Twice.{State, is-open, is-pending, is-paused, is-resetting, state}
 use Rattle.queue_state.proofs.Alikes.{alike-same}
 use Rattle.linked_sending.proofs.Looking.{Choice}
 use Rattle.linked_sending.proofs.Numbering.{Renumbered, renumbered, stream-fits}
@@ -47,57 +44,24 @@ use Rattle.linked_sending.proofs.Numbering.{Renumbered, renumbered, str
 -- ---- states
 
 -- "When a pending stream's message ends or is discarded, it is paused."
-pub end-state : (n : ℕ) → pauseOf (endPending n) ≡ end-pending (pauseOf n)
-unfolding endPending end-pending
-end-state n = go (state n) (state 2)
-  where
-    go : State n → State 2 → pauseOf (pick (eqb n 1) 2 n) ≡ end-pending (pauseOf n)
-    go (is-open e p) t = rw (ne-eqb n 1 (λ z. omega arith), p)
-    go (is-pending e p) (is-paused f q) = rw (eq-eqb n 1 e, p, q)
-    go (is-pending e p) (is-open f q) = absurd (omega arith)
-    go (is-pending e p) (is-pending f q) = absurd (omega arith)
-    go (is-pending e p) (is-resetting f q) = absurd (omega arith)
-    go (is-paused e p) t = rw (ne-eqb n 1 (λ z. omega arith), p)
-    go (is-resetting e p) t = rw (ne-eqb n 1 (λ z. omega arith), p)
-
-end-fits : (n : ℕ) → n < 256 → endPending n < 256
-unfolding endPending
-end-fits n h = by-index n 1 (λ e. rw (eq-eqb n 1 e) (omega arith)) (λ e. rw (ne-eqb n 1 e) h)
-
-size-behind : (p : PauseState) (is : List plain.Item) → (p ≡ paused → ⊥) → next-size p is ≡ head-size is
-unfolding next-size
-size-behind not-paused is h = refl
-size-behind pending is h = refl
-size-behind paused is h = absurd (h refl)
-size-behind resetting is h = refl
-
-size-paused : (is : List plain.Item) → next-size paused is ≡ 0
-unfolding next-size
-size-paused is = refl
+pub end-state : (p : words.PauseState) → pauseOf (endPending p) ≡ end-pending (pauseOf p)
+unfolding endPending end-pending pauseOf
+end-state NotPaused = refl
+end-state Pending = refl
+end-state Paused = refl
+end-state Resetting = refl
 
 none-behind : (ws : List ℕ) → headSize ws 1024 ≡ 0
 unfolding headSize
 none-behind ws = refl
 
-not-two : {p : PauseState} → p ≡ not-paused → p ≡ paused → ⊥
-not-two a b = let z : _≡_ {A = ℕ} 0 1 = cc in omega arith
-
-not-pending : {p : PauseState} → p ≡ pending → p ≡ paused → ⊥
-not-pending a b = let z : _≡_ {A = ℕ} 0 1 = cc in omega arith
-
-not-resetting : {p : PauseState} → p ≡ resetting → p ≡ paused → ⊥
-not-resetting a b = let z : _≡_ {A = ℕ} 0 1 = cc in omega arith
-
 -- "a message behind it, unless the stream is now paused, then makes the stream begin anew"
-behind-is : (ws : List ℕ) (n next : ℕ) (is : List plain.Item) → headSize ws next ≡ head-size is → headSize ws (nextFirst n next) ≡ next-size (pauseOf n) is
-unfolding nextFirst
-behind-is ws n next is e = go (state n)
-  where
-    go : State n → headSize ws (pick (eqb n 2) 1024 next) ≡ next-size (pauseOf n) is
-    go (is-open f p) = rw (ne-eqb n 2 (λ z. omega arith)) (e ∙ sym (size-behind (pauseOf n) is (not-two p)))
-    go (is-pending f p) = rw (ne-eqb n 2 (λ z. omega arith)) (e ∙ sym (size-behind (pauseOf n) is (not-pending p)))
-    go (is-paused f p) = rw (eq-eqb n 2 f, p) (none-behind ws ∙ sym (size-paused is))
-    go (is-resetting f p) = rw (ne-eqb n 2 (λ z. omega arith)) (e ∙ sym (size-behind (pauseOf n) is (not-resetting p)))
+behind-is : (ws : List ℕ) (p : words.PauseState) (next : ℕ) (is : List plain.Item) → headSize ws next ≡ head-size is → headSize ws (nextFirst p next) ≡ next-size (pauseOf p) is
+unfolding nextFirst next-size pauseOf
+behind-is ws NotPaused next is e = e
+behind-is ws Pending next is e = e
+behind-is ws Paused next is e = none-behind ws
+behind-is ws Resetting next is e = e
 
 -- ---- the words
 
@@ -183,9 +147,6 @@ module _ (ws st : List ℕ) (g : Shape ws st) (known : AllKnown ws st) (at : ℕ
   next2 : nextOf u2 (c .first) ≡ nextOf ws (c .first)
   next2 = ap (λ (y : Item). y .next) (alike2 .items (c .first) (c .first-fits))
 
-  state-fits : endPending (s .«pause_state») < 256
-  state-fits = end-fits (s .«pause_state») (Laws.stream-at-fits ws (rowAt ws (c .pos)) .pause-state-fits)
-
   abbrev s3 : OutgoingStream
   s3 = withoutHead s′ (endPending (s .«pause_state»)) (nextOf u2 (c .first)) n
 
@@ -193,7 +154,7 @@ module _ (ws st : List ℕ) (g : Shape ws st) (known : AllKnown ws st) (at : ℕ
   u3 = putStream (released u2 (c .first) n) (rowAt u2 (c .pos)) s3
 
   three : HeadLeft u2 st g2 (c .pos) (c .first) (c .rest) s3 n u3
-  three = head-left u2 st g2 (c .pos) known2 (c .first) (c .rest) places2 s′ (stream-fits s m (Laws.stream-at-fits ws (rowAt ws (c .pos)))) last2 (endPending (s .«pause_state»)) state-fits n
+  three = head-left u2 st g2 (c .pos) known2 (c .first) (c .rest) places2 s′ (stream-fits s m (Laws.stream-at-fits ws (rowAt ws (c .pos)))) last2 (endPending (s .«pause_state»)) n
 
   items2 : each (itemIn u2 st) (c .rest) ≡ each (itemIn ws st) (c .rest)
   items2 = each-frame (itemIn ws st) (itemIn u2 st) (c .rest) (λ y h. alike-same ws st u2 alike2 y (rest-fits y h) .item-same)
@@ -220,7 +181,7 @@ module _ (ws st : List ℕ) (g : Shape ws st) (known : AllKnown ws st) (at : ℕ
       let e : s′ .first ≡ c .first = renumbered s m .first-same ∙ c .first-is in
       let f : m′ .next ≡ nextOf u2 (c .first) = renumbered s m .next-same ∙ sym next2 in
       ap (λ (r : ℕ). putStream (released u2 (c .first) n) r s3) row2
-      ∙ ap₂ (λ (x : ℕ) (y : OutgoingStream). putStream (released u2 x n) (rowAt ws (c .pos)) y) (sym e) (ap₂ (λ (x y : ℕ). withoutHead s′ x y n) (ap endPending (sym (renumbered s m .state-same))) (sym f))
+      ∙ ap₂ (λ (x : ℕ) (y : OutgoingStream). putStream (released u2 x n) (rowAt ws (c .pos)) y) (sym e) (ap₂ (λ (x : words.PauseState) (y : ℕ). withoutHead s′ x y n) (ap endPending (sym (renumbered s m .state-same))) (sym f))
 
   pub the-finished : Finished ws st g at c n (finished ws at ((entryAt ws at) .stream-id) (rowAt ws (c .pos)) (numberedStream (streamAt ws (rowAt ws (c .pos))) (itemAt ws (c .first))) (numberedItem (streamAt ws (rowAt ws (c .pos))) (itemAt ws (c .first))) n)
   the-finished = subst (Finished ws st g at c n) are (record {

@@ -110,14 +110,12 @@ stream-fits s m f = go (m .«mid_given») (m .unordered)
     go true b = f
     go false true = record {
       priority-fits = f .priority-fits;
-      pause-state-fits = f .pause-state-fits;
       ssn-fits = f .ssn-fits;
       unordered-mid-fits = add-fits 32 (s .«next_unordered_mid» .0);
       ordered-mid-fits = f .ordered-mid-fits;
     }
     go false false = record {
       priority-fits = f .priority-fits;
-      pause-state-fits = f .pause-state-fits;
       ssn-fits = add-fits 16 (s .«next_ssn» .0);
       unordered-mid-fits = f .unordered-mid-fits;
       ordered-mid-fits = add-fits 32 (s .«next_ordered_mid» .0);

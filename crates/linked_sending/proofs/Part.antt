@@ -50,7 +50,6 @@ pub record WentOn (ws st : List ℕ) (g : Shape ws st) (at : ℕ) (c : Choice ws
 less-fits : (s : OutgoingStream) (n : ℕ) → FitsStream s → FitsStream (lessAmount s n)
 less-fits s n f = record {
   priority-fits = f .priority-fits;
-  pause-state-fits = f .pause-state-fits;
   ssn-fits = f .ssn-fits;
   unordered-mid-fits = f .unordered-mid-fits;
   ordered-mid-fits = f .ordered-mid-fits;

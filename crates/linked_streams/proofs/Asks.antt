@@ -5,16 +5,18 @@ use mathlib.Core.List.{List, [], _∷_}
 use mathlib.Core.Option.{Option}
 use Prim.Native.Nat.{ℕ, zero, suc, _+_, _≤_, _<_}
 use native.Mathlib.Omega.{arith}
-use borrow.Author.Tests.{le-ltb, ne-eqb}
+use borrow.Author.Tests.{le-ltb}
 use lib.Dec.{ltb, eqb}
 use Rattle.queue_words.specs.Find.{findStream}
 use Rattle.queue_words.specs.Flags.{pick}
 use Rattle.queue_words.specs.Header.{optionsAt, totalsAt}
-use Rattle.queue_words.specs.Streams.{streamAt}
+use Rattle.queue_words.specs.Streams.{isPaused, streamAt}
+use Rattle.queue_words.specs.declared.streams.PauseState.{PauseState}
+use Rattle.queue_words.specs.declared.streams.PauseState.the-variants.{NotPaused, Pending, Paused, Resetting}
 use Rattle.queue_words.specs.declared.known.Found.the-variants.{At, Gap}
 use Rattle.queue_words.specs.declared.streams.OutgoingStream.{OutgoingStream}
 use Rattle.queue_model.specs.Logic.{if_then_else_, is-some, any}
-use Rattle.queue_model.specs.Types.{Active, Options, Stream, resetting}
+use Rattle.queue_model.specs.Types.{Active, Options, Stream}
 use Rattle.queue_model.specs.Calls
 use Rattle.queue_model.specs.Reset.{is-paused}
 use Rattle.queue_model.specs.Run as run
@@ -126,21 +128,15 @@ data-asked ws st g =
 
 -- ------------------------------------------------------------------ whether a stream is paused
 
-pause-past : (n : ℕ) → 3 ≤ n → pauseOf n ≡ resetting
-unfolding pauseOf
-pause-past n h = rw (ne-eqb n 0 (λ e. omega arith), ne-eqb n 1 (λ e. omega arith), ne-eqb n 2 (λ e. omega arith))
-
-paused-is : (n : ℕ) (s : Stream) → s .pause-state ≡ pauseOf n → is-paused s ≡ eqb n 2
+paused-is : (p : PauseState) (s : Stream) → s .pause-state ≡ pauseOf p → is-paused s ≡ isPaused p
 unfolding is-paused pauseOf
-paused-is zero s e = rw e
-paused-is (suc zero) s e = rw e
-paused-is (suc (suc zero)) s e = rw e
-paused-is (suc (suc (suc n))) s e =
-    let r : s .pause-state ≡ resetting = e ∙ pause-past (suc (suc (suc n))) (omega arith) in
-    rw (r, ne-eqb (suc (suc (suc n))) 2 (λ z. omega arith))
+paused-is NotPaused s e = rw e
+paused-is Pending s e = rw e
+paused-is Paused s e = rw e
+paused-is Resetting s e = rw e
 
 -- What the code does at one position.
-ready-at : (ws : List ℕ) (i m : ℕ) (b : Bool) → rowAt ws i < 256 → eqb (streamAt ws (rowAt ws i) .«pause_state») 2 ≡ b
+ready-at : (ws : List ℕ) (i m : ℕ) (b : Bool) → rowAt ws i < 256 → isPaused (streamAt ws (rowAt ws i) .«pause_state») ≡ b
     → readyAmong ws i (suc m) ≡ pick b (flag.Value true) (readyAmong ws (suc i) m)
 unfolding readyAmong
 ready-at ws i m b h e = rw (le-ltb 255 (rowAt ws i) (omega arith), e)
@@ -179,7 +175,7 @@ module _ (ws st : List ℕ) (g : Good ws st) where
   ready-among : (m i : ℕ) (f : ℕ → Stream) → i + m ≤ totalsAt ws .known → ((j : ℕ) → f j ≡ streamIn ws st (i + j)) → readyAmong ws i m ≡ flag.Value (any is-paused (tab f m))
   ready-among zero i f h e = ready-none ws i ∙ ap flag.Value (sym any-none ∙ ap (any is-paused) (sym (tab-none f)))
   ready-among (suc m) i f h e =
-      let b : Bool = eqb (streamAt ws (rowAt ws i) .«pause_state») 2 in
+      let b : Bool = isPaused (streamAt ws (rowAt ws i) .«pause_state») in
       let z : f 0 ≡ streamIn ws st i = e 0 ∙ ap (streamIn ws st) (omega arith) in
       let p : is-paused (f 0) ≡ b = ap is-paused z ∙ paused-is (streamAt ws (rowAt ws i) .«pause_state») (streamIn ws st i) (pause-in ws st i) in
       let r : readyAmong ws (suc i) m ≡ flag.Value (any is-paused (tab (λ j. f (suc j)) m)) = ready-among m (suc i) (λ j. f (suc j)) (omega arith) (λ j. e (suc j) ∙ ap (streamIn ws st) (omega arith)) in

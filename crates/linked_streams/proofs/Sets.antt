@@ -56,13 +56,13 @@ at-new ws st id e = stream-new ws st id e
 
 -- A new stream's numbers have their widths.
 new-fits : (ws : List ℕ) → FitsStream (newStream (optionsAt ws))
-new-fits ws = record { priority-fits = Laws.options-at-fits ws .priority-fits; pause-state-fits = omega arith; ssn-fits = omega arith; unordered-mid-fits = omega arith; ordered-mid-fits = omega arith }
+new-fits ws = record { priority-fits = Laws.options-at-fits ws .priority-fits; ssn-fits = omega arith; unordered-mid-fits = omega arith; ordered-mid-fits = omega arith }
 
 with-priority-fits : (s : OutgoingStream) (p : ℕ) → p < 65536 → FitsStream s → FitsStream (withPriority s p)
-with-priority-fits s p h f = record { priority-fits = h; pause-state-fits = f .pause-state-fits; ssn-fits = f .ssn-fits; unordered-mid-fits = f .unordered-mid-fits; ordered-mid-fits = f .ordered-mid-fits }
+with-priority-fits s p h f = record { priority-fits = h; ssn-fits = f .ssn-fits; unordered-mid-fits = f .unordered-mid-fits; ordered-mid-fits = f .ordered-mid-fits }
 
 with-threshold-fits : (s : OutgoingStream) (t : ℕ) → FitsStream s → FitsStream (withThreshold s t)
-with-threshold-fits s t f = record { priority-fits = f .priority-fits; pause-state-fits = f .pause-state-fits; ssn-fits = f .ssn-fits; unordered-mid-fits = f .unordered-mid-fits; ordered-mid-fits = f .ordered-mid-fits }
+with-threshold-fits s t f = record { priority-fits = f .priority-fits; ssn-fits = f .ssn-fits; unordered-mid-fits = f .unordered-mid-fits; ordered-mid-fits = f .ordered-mid-fits }
 
 -- A 257th stream is refused.
 full : (ws st : List ℕ) (g : Good ws st) (id : ℕ) → find-stream id (streamsIn ws st) ≡ none → 256 ≤ totalsAt ws .known → too-many (model ws st) id ≡ true

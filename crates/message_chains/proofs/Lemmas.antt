@@ -3,8 +3,8 @@ use mathlib.Core.Path.{_≡_, sym, ap, _∙_}
 use mathlib.Core.Bool.{Bool, true, false}
 use mathlib.Core.List.{List}
 use Prim.Native.Nat.{ℕ}
-use lib.Dec.{eqb}
 use Rattle.queue_words.specs.Flags.{pick}
+use Rattle.queue_words.specs.Streams.{isPending}
 use Rattle.queue_words.specs.declared.streams.OutgoingStream.{OutgoingStream}
 use Rattle.stream_scheduler.specs.Words.{Outcome, outcome}
 use Rattle.stream_scheduler.proofs.Frames.{Kept, kept-remove, kept-set}
@@ -16,7 +16,7 @@ kept-pick ws false x y k l = l
 
 kept-behind : (ws : List ℕ) (id : ℕ) (s : OutgoingStream) (next : ℕ) → Kept ws (scheduledBehind ws id s next)
 unfolding scheduledBehind
-kept-behind ws id s next = kept-pick ws (eqb (s .«pause_state») 1) _ _ (kept-remove ws id) (kept-set ws id _ _)
+kept-behind ws id s next = kept-pick ws (isPending (s .«pause_state»)) _ _ (kept-remove ws id) (kept-set ws id _ _)
 
 -- a drop that the scheduler refuses leaves the words
 pub behind-refused : (ws : List ℕ) (id : ℕ) (s : OutgoingStream) (next : ℕ) (b : Bool) (us : List ℕ) → outcome b us ≡ scheduledBehind ws id s next → b ≡ false → us ≡ ws

@@ -1,11 +1,14 @@
 -- A head dropped in its stream's state, by a discard or as expired. Assumes nothing.
 use Prim.Native.Nat.{ℕ}
 use mathlib.Core.List.{List}
-use lib.Dec.{ltb, eqb}
+use lib.Dec.{ltb}
 use Rattle.queue_words.specs.Flags.{pick}
 use Rattle.queue_words.specs.Header.{totalsAt}
+use Rattle.queue_words.specs.Streams.{isPending}
 use Rattle.queue_words.specs.declared.items.Item.{Item}
 use Rattle.queue_words.specs.declared.streams.OutgoingStream.{OutgoingStream}
+use Rattle.queue_words.specs.declared.streams.PauseState.{PauseState}
+use Rattle.queue_words.specs.declared.streams.PauseState.the-variants.{NotPaused, Pending, Paused, Resetting}
 use Rattle.stream_scheduler.specs.Words.{Outcome, removeStream, setBytesRemaining}
 use Rattle.queue_streams.specs.Settings.{CalledWith, calledWith}
 use Rattle.queue_streams.specs.Waiting.{headSize, parametersFor}
@@ -17,11 +20,14 @@ use Rattle.message_chains.specs.Heads.{headCode, headDropped, dropNotes}
 -- becomes paused, its later messages wait [..] and the choice goes to the other streams." Any other stream waits with what is behind ("or a discard, schedules a paused stream").
 unfoldable pub scheduledBehind : List ℕ → ℕ → OutgoingStream → ℕ → Outcome
 scheduledBehind ws id s next =
-    pick (eqb (s .«pause_state») 1) (removeStream ws id)
+    pick (isPending (s .«pause_state»)) (removeStream ws id)
     (setBytesRemaining ws id (headSize ws next) (parametersFor (totalsAt ws .interleaving) (s .priority)))
 
-unfoldable pub endPending : ℕ → ℕ
-endPending state = pick (eqb state 1) 2 state
+unfoldable pub endPending : PauseState → PauseState
+endPending NotPaused = NotPaused
+endPending Pending = Paused
+endPending Paused = Paused
+endPending Resetting = Resetting
 
 -- the words after the scheduler, then without the head, its events after k others; 16 where the scheduler is broken
 unfoldable pub behindDropped : List ℕ → List ℕ → ℕ → ℕ → ℕ → OutgoingStream → Item → CalledWith

@@ -9,6 +9,7 @@ use Rattle.queue_words.specs.Streams.{putStream}
 use Rattle.queue_words.specs.declared.header.Totals.{Totals}
 use Rattle.queue_words.specs.declared.items.Item.{Item}
 use Rattle.queue_words.specs.declared.streams.OutgoingStream.{OutgoingStream}
+use Rattle.queue_words.specs.declared.streams.PauseState.{PauseState}
 use Rattle.payload_store.specs.Dropping.{dropCode, dropPayload}
 use Rattle.message_chains.specs.Amounts.{rest}
 use Rattle.message_chains.specs.Notes.{Notes, lowNoted, lifecycleNoted}
@@ -45,7 +46,7 @@ unfoldable pub lastBehind : ℕ → ℕ → ℕ
 lastBehind next last = pick (ltb next 1024) last 1024
 
 -- a stream in a state without its head and the head's n bytes
-unfoldable pub withoutHead : OutgoingStream → ℕ → ℕ → ℕ → OutgoingStream
+unfoldable pub withoutHead : OutgoingStream → PauseState → ℕ → ℕ → OutgoingStream
 withoutHead s state next n = record {
   priority = s .priority;
   «pause_state» = state;
@@ -72,5 +73,5 @@ unfoldable pub dropNotes : List ℕ → List ℕ → ℕ → ℕ → OutgoingStr
 dropNotes ws es k id s n lifecycle = lifecycleNoted (sentNotes ws es k id s n .events) (sentNotes ws es k id s n .count) lifecycle
 
 -- the words after the head m of the stream s has gone; the stream is left in a state
-unfoldable pub headDropped : List ℕ → ℕ → OutgoingStream → ℕ → Item → List ℕ
+unfoldable pub headDropped : List ℕ → ℕ → OutgoingStream → PauseState → Item → List ℕ
 headDropped ws row s state m = putStream (released ws (s .first) (rest m)) row (withoutHead s state (m .next) (rest m))

@@ -18,6 +18,7 @@ use queue_words::header::load_totals;
 use queue_words::items::Item;
 use queue_words::items::load_item;
 use queue_words::streams::OutgoingStream;
+use queue_words::streams::PauseState;
 use queue_words::streams::load_stream;
 use stream_scheduler::remove_stream;
 use stream_scheduler::set_bytes_remaining;
@@ -26,7 +27,9 @@ use stream_scheduler::set_bytes_remaining;
 fn schedule_behind(queue: &mut [u64; QUEUE_WORDS], id: u16, s: OutgoingStream, next: u64) -> bool
     ensures { λ r. ⌜ outcome r (now (queue .exit)) ≡ scheduledBehind (now (queue .entry)) id s next ⌝ }
 {
-    if s.pause_state == 1 {
+    let state = s.pause_state;
+    let pending = state.is_pending();
+    if pending {
         return remove_stream(queue, id);
     }
     let t = load_totals(&*queue);
@@ -37,13 +40,15 @@ fn schedule_behind(queue: &mut [u64; QUEUE_WORDS], id: u16, s: OutgoingStream, n
 
 // "When a pending stream's message ends or is discarded, it is paused"; document 02, 3/13: "When a pending stream's half-sent head
 // expires, the stream becomes paused".
-pub fn end_pending(state: u8) -> u8
+pub fn end_pending(state: PauseState) -> PauseState
     ensures { λ r. ⌜ r ≡ endPending state ⌝ }
 {
-    if state == 1 {
-        return 2;
+    match state {
+        PauseState::NotPaused => PauseState::NotPaused,
+        PauseState::Pending => PauseState::Paused,
+        PauseState::Paused => PauseState::Paused,
+        PauseState::Resetting => PauseState::Resetting,
     }
-    state
 }
 
 // The scheduler is the first to be written, and refuses before it writes.
@@ -61,8 +66,9 @@ fn drop_behind(
 {
     let scheduled = schedule_behind(queue, id, s, m.next);
     if scheduled {
-        let state = end_pending(s.pause_state);
-        let k1 = drop_head(queue, events, k, id, row, s, state, m);
+        let state = s.pause_state;
+        let after = end_pending(state);
+        let k1 = drop_head(queue, events, k, id, row, s, after, m);
         return Call::Accepted(k1);
     }
     Call::Refused(16)

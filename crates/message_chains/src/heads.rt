@@ -17,7 +17,9 @@ use queue_words::header::store_totals;
 use queue_words::items::Item;
 use queue_words::items::store_next;
 use queue_words::streams::OutgoingStream;
+use queue_words::streams::PauseState;
 use queue_words::streams::store_stream;
+use queue_words::streams::with_pause;
 
 // May n bytes go with the message in this place, the head of a stream: 0, else 16. Reads only.
 pub fn head_code(
@@ -70,11 +72,10 @@ fn last_behind(next: u64, last: u64) -> u64
 }
 
 // A stream in a state without its head and the head's n bytes.
-pub fn without_head(s: OutgoingStream, state: u8, next: u64, n: u64) -> OutgoingStream
+pub fn without_head(s: OutgoingStream, state: PauseState, next: u64, n: u64) -> OutgoingStream
     ensures { λ r. ⌜ r ≡ withoutHead s state next n ⌝ }
 {
-    let mut o = s;
-    o.pause_state = state;
+    let mut o = with_pause(s, state);
     o.buffered_amount = minus(s.buffered_amount, n);
     o.first = next;
     o.last = last_behind(next, s.last);
@@ -116,7 +117,7 @@ pub fn drop_head(
     id: u16,
     row: usize,
     s: OutgoingStream,
-    state: u8,
+    state: PauseState,
     m: Item,
 ) -> usize
     requires { ⌜ (row < 256) × (s .first < 1024) ⌝ }

@@ -6,8 +6,10 @@ use lib.ListN.{length}
 use Rattle.queue_words.specs.Flags.{pick}
 use Rattle.queue_words.specs.Header.{optionsAt}
 use Rattle.queue_words.specs.Items.{itemAt, putNext}
-use Rattle.queue_words.specs.Streams.{streamAt, putStream}
+use Rattle.queue_words.specs.Streams.{isOpen, streamAt, putStream}
 use Rattle.queue_words.specs.declared.streams.OutgoingStream.{OutgoingStream}
+use Rattle.queue_words.specs.declared.streams.PauseState.{PauseState}
+use Rattle.queue_words.specs.declared.streams.PauseState.the-variants.{Pending, Paused}
 use Rattle.stream_scheduler.specs.Words.{removeStream}
 use Rattle.queue_streams.specs.Events.{eventWords}
 use Rattle.queue_streams.specs.Known.{newStream, lookUp, inserted}
@@ -19,7 +21,7 @@ use Rattle.queue_closing.specs.Walk.{maySweep}
 use Rattle.queue_closing.specs.Sweep.{Swept, sweepFrom}
 
 -- A stream in a state, with this amount and chain.
-abbrev pub closedAs : OutgoingStream → ℕ → ℕ → ℕ → ℕ → OutgoingStream
+abbrev pub closedAs : OutgoingStream → PauseState → ℕ → ℕ → ℕ → OutgoingStream
 closedAs s state amount first last = record {
   priority = s .priority;
   «pause_state» = state;
@@ -34,7 +36,7 @@ closedAs s state amount first last = record {
 
 -- "none makes it paused": all messages dropped; "closing to paused ends that", its waiting.
 abbrev pub wholeLeft : Swept → ℕ → OutgoingStream → CalledWith
-wholeLeft x row s = calledWith (Accepted (x .at .count)) (putStream (x .next) row (closedAs s 2 (x .at .amount) 1024 1024)) (x .events)
+wholeLeft x row s = calledWith (Accepted (x .at .count)) (putStream (x .next) row (closedAs s Paused (x .at .amount) 1024 1024)) (x .events)
 
 unfoldable pub closeWhole : List ℕ → List ℕ → ℕ → ℕ → OutgoingStream → CalledWith
 closeWhole ws es id row s =
@@ -48,7 +50,7 @@ closeWhole ws es id row s =
 abbrev pub behindLeft : Swept → ℕ → OutgoingStream → CalledWith
 behindLeft x row s =
     calledWith (Accepted (x .at .count))
-    (putStream (putNext (x .next) (s .first) 1024) row (closedAs s 1 (x .at .amount) (s .first) (s .first)))
+    (putStream (putNext (x .next) (s .first) 1024) row (closedAs s Pending (x .at .amount) (s .first) (s .first)))
     (x .events)
 
 unfoldable pub closeBehind : List ℕ → List ℕ → ℕ → ℕ → OutgoingStream → ℕ → CalledWith
@@ -61,18 +63,18 @@ closeBehind ws es id row s next =
 unfoldable pub closeOpen : List ℕ → List ℕ → ℕ → ℕ → OutgoingStream → CalledWith
 closeOpen ws es id row s =
     pick (ltb 1024 (s .first)) (calledWith (Refused 16) ws es)
-    (pick (eqb (s .first) 1024) (calledWith (Accepted 0) (putStream ws row (closedAs s 2 (s .«buffered_amount») (s .first) (s .last))) es)
+    (pick (eqb (s .first) 1024) (calledWith (Accepted 0) (putStream ws row (closedAs s Paused (s .«buffered_amount») (s .first) (s .last))) es)
     (pick (ltb 0 (itemAt ws (s .first) .offset)) (closeBehind ws es id row s (itemAt ws (s .first) .next))
     (closeWhole ws es id row s)))
 
 -- "Closing changes nothing unless the stream is open."
 unfoldable pub closeIn : List ℕ → List ℕ → ℕ → ℕ → CalledWith
 closeIn ws es id row =
-    pick (ltb 0 (streamAt ws row .«pause_state»)) (calledWith (Accepted 0) ws es) (closeOpen ws es id row (streamAt ws row))
+    pick (isOpen (streamAt ws row .«pause_state»)) (closeOpen ws es id row (streamAt ws row)) (calledWith (Accepted 0) ws es)
 
 -- A stream that is not known is new, so open and without messages: it becomes known and paused. 6 and 16 are those of looking it up.
 abbrev pub pausedNew : OutgoingStream → OutgoingStream
-pausedNew s = closedAs s 2 (s .«buffered_amount») (s .first) (s .last)
+pausedNew s = closedAs s Paused (s .«buffered_amount») (s .first) (s .last)
 
 abbrev pub closeAt : List ℕ → List ℕ → ℕ → Place → CalledWith
 closeAt ws es id (place.Row row) = closeIn ws es id row

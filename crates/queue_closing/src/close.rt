@@ -24,8 +24,10 @@ use queue_words::items::Item;
 use queue_words::items::load_item;
 use queue_words::items::store_next;
 use queue_words::streams::OutgoingStream;
+use queue_words::streams::PauseState;
 use queue_words::streams::load_stream;
 use queue_words::streams::store_stream;
+use queue_words::streams::with_pause;
 use stream_scheduler::remove_stream;
 
 // A test of a chain half done: whether the messages so far may go, the place of the next one, and what would be left.
@@ -223,8 +225,7 @@ fn close_whole(
                     amount: s.buffered_amount,
                 },
             );
-            let mut o = s;
-            o.pause_state = 2;
+            let mut o = with_pause(s, PauseState::Paused);
             o.buffered_amount = w.amount;
             o.first = 1024;
             o.last = 1024;
@@ -261,8 +262,7 @@ fn close_behind(
             },
         );
         store_next(queue, s.first as usize, 1024);
-        let mut o = s;
-        o.pause_state = 1;
+        let mut o = with_pause(s, PauseState::Pending);
         o.buffered_amount = w.amount;
         o.last = s.first;
         store_stream(queue, row, o);
@@ -287,8 +287,7 @@ fn close_open(
         return Call::Refused(16);
     }
     if s.first == 1024 {
-        let mut o = s;
-        o.pause_state = 2;
+        let o = with_pause(s, PauseState::Paused);
         store_stream(queue, row, o);
         return Call::Accepted(0);
     }
@@ -305,10 +304,12 @@ fn close_in(queue: &mut [u64; QUEUE_WORDS], events: &mut [u64], id: u16, row: us
     ensures { λ r. ⌜ calledWith r (now (queue .exit)) (now (events .exit)) ≡ closeIn (now (queue .entry)) (now (events .entry)) id row ⌝ }
 {
     let s = load_stream(&*queue, row);
-    if s.pause_state > 0 {
-        return Call::Accepted(0);
+    let state = s.pause_state;
+    let open = state.is_open();
+    if open {
+        return close_open(queue, events, id, row, s);
     }
-    close_open(queue, events, id, row, s)
+    Call::Accepted(0)
 }
 
 // Closes a stream; one that is not known becomes known and paused.
@@ -323,9 +324,9 @@ pub fn prepare_reset_stream(queue: &mut [u64; QUEUE_WORDS], events: &mut [u64], 
         Place::Row(row) => close_in(queue, events, id, row),
         Place::New(position) => {
             let o = load_options(&*queue);
-            let mut s = new_stream(o);
-            s.pause_state = 2;
-            insert_stream(queue, position, id, s);
+            let s = new_stream(o);
+            let closed = with_pause(s, PauseState::Paused);
+            insert_stream(queue, position, id, closed);
             Call::Accepted(0)
         }
         Place::Refused(n) => Call::Refused(n),

@@ -12,6 +12,8 @@ use Rattle.queue_words.specs.Known.{knownCount}
 use Rattle.queue_words.specs.Streams.{streamAt, putChain, withChain}
 use Rattle.queue_words.specs.declared.header.Totals.{Totals}
 use Rattle.queue_words.specs.declared.streams.OutgoingStream.{OutgoingStream}
+use Rattle.queue_words.specs.declared.streams.PauseState.{PauseState}
+use Rattle.queue_words.specs.declared.streams.PauseState.the-variants.{NotPaused, Pending, Paused, Resetting}
 use Rattle.payload_store.specs.Putting.{putCode, putPayload}
 use Rattle.stream_scheduler.specs.Words.{beginWaiting}
 use Rattle.queue_streams.specs.Known.{newStream, lookUp, inserted}
@@ -42,8 +44,14 @@ unfoldable pub fullCode : List ℕ → ℕ → ℕ → ℕ
 fullCode ws len n = pick (ltb 1023 (totalsAt ws .waiting)) 7 (pick (ltb (len - totalsAt ws .used) n) 8 0)
 
 -- "messages added to a paused or resetting stream do not start it"; one that has messages waits already.
+abbrev pub mayStart : PauseState → Bool
+mayStart NotPaused = true
+mayStart Pending = true
+mayStart Paused = false
+mayStart Resetting = false
+
 unfoldable pub starts : OutgoingStream → Bool
-starts s = pick (ltb 1 (s .«pause_state»)) false (ltb 1023 (s .first))
+starts s = pick (mayStart (s .«pause_state»)) (ltb 1023 (s .first)) false
 
 -- whether the scheduler has a row for the stream, where the message starts it; one that is not started needs none
 unfoldable pub hasRoom : List ℕ → OutgoingStream → Bool

@@ -3,7 +3,7 @@ ghost use mathlib.Core.Path.{_≡_};
 ghost use Prim.Native.Nat.{_<_, _≤_};
 ghost use lib.ListN.{length};
 ghost use Rattle.queue_messages.specs.Message.{nanoseconds};
-ghost use Rattle.queue_messages.specs.Add.{argumentsCode, fullCode, starts, hasRoom, placesCode, brokenCode, messageCode, lostCode, refusedPlace};
+ghost use Rattle.queue_messages.specs.Add.{argumentsCode, fullCode, mayStart, starts, hasRoom, placesCode, brokenCode, messageCode, lostCode, refusedPlace};
 ghost use Rattle.queue_messages.specs.Add.{linkedLast, counted, started, stored, appendedAt, appended};
 ghost use Rattle.queue_messages.specs.Add.{HasPlace, streamFor, rowFor, madeKnown, added, addTo, add};
 use crate::message::Lifetime;
@@ -29,6 +29,7 @@ use queue_words::items::load_next;
 use queue_words::items::store_item;
 use queue_words::items::store_next;
 use queue_words::streams::OutgoingStream;
+use queue_words::streams::PauseState;
 use queue_words::streams::load_stream;
 use queue_words::streams::store_chain;
 use stream_scheduler::begin_waiting;
@@ -77,13 +78,27 @@ fn full_code(queue: &[u64; QUEUE_WORDS], len: u64, n: u64) -> u8
 }
 
 // "messages added to a paused or resetting stream do not start it".
+fn may_start(state: PauseState) -> bool
+    ensures { λ r. ⌜ r ≡ mayStart state ⌝ }
+{
+    match state {
+        PauseState::NotPaused => true,
+        PauseState::Pending => true,
+        PauseState::Paused => false,
+        PauseState::Resetting => false,
+    }
+}
+
+// One that has messages waits already.
 fn starts(s: OutgoingStream) -> bool
     ensures { λ r. ⌜ r ≡ starts s ⌝ }
 {
-    if s.pause_state > 1 {
-        return false;
+    let state = s.pause_state;
+    let may = may_start(state);
+    if may {
+        return s.first > 1023;
     }
-    s.first > 1023
+    false
 }
 
 // Whether the scheduler has a row for the stream, where the message starts it.

@@ -6,11 +6,11 @@ use Prim.Native.Nat.{ℕ, suc, _+_, _-_, _≤_, _<_}
 use native.Mathlib.Nat.{sub-zero}
 use native.Mathlib.Numerals.{add-one}
 use native.Mathlib.Omega.{arith}
-use borrow.Author.Tests.{lt-ltb, le-ltb, eq-eqb, ne-eqb}
+use borrow.Author.Tests.{lt-ltb, le-ltb}
 use Rattle.queue_words.specs.Find.{findStream}
 use Rattle.queue_words.specs.Header.{optionsAt, totalsAt}
 use Rattle.queue_words.specs.Known.{knownAt, knownCount}
-use Rattle.queue_words.specs.Streams.{streamAt}
+use Rattle.queue_words.specs.Streams.{isPaused, streamAt}
 use Rattle.queue_words.specs.declared.header.Options.{Options}
 use Rattle.queue_words.specs.declared.header.Totals.{Totals}
 use Rattle.queue_words.specs.declared.known.Found.{Found}
@@ -100,17 +100,17 @@ module _ (ws : List ℕ) (n : ℕ) where
           sym (inv ∙ rw (s, ← ek, lt-ltb _ _ g))
 
       module _ (g : k .place ≤ 255) (x : OutgoingStream) (ex : x ≡ streamAt ws (k .place)) where
-        pub ready-here : x .«pause_state» ≡ 2 → flag.Value true ≡ readyAmong ws 0 n
+        pub ready-here : isPaused (x .«pause_state») ≡ true → flag.Value true ≡ readyAmong ws 0 n
         unfolding readyAmong
         ready-here e =
             let s : n - i ≡ suc (n - (i + 1)) = omega arith in
-            sym (inv ∙ rw (s, ← ek, le-ltb _ _ g, ← ex, eq-eqb _ _ e))
+            sym (inv ∙ rw (s, ← ek, le-ltb _ _ g, ← ex, e))
 
-        pub ready-next : (x .«pause_state» ≡ 2 → ⊥) → readyAmong ws 0 n ≡ readyAmong ws (i + 1) (n - (i + 1))
+        pub ready-next : isPaused (x .«pause_state») ≡ false → readyAmong ws 0 n ≡ readyAmong ws (i + 1) (n - (i + 1))
         unfolding readyAmong
         ready-next e =
             let s : n - i ≡ suc (n - (i + 1)) = omega arith in
-            inv ∙ rw (s, ← ek, le-ltb _ _ g, ← ex, ne-eqb _ _ e, add-one)
+            inv ∙ rw (s, ← ek, le-ltb _ _ g, ← ex, e, add-one)
 
     pub ready-end : n ≤ i → flag.Value false ≡ readyAmong ws 0 n
     unfolding readyAmong

@@ -7,7 +7,7 @@ use Rattle.queue_words.specs.Flags.{pick}
 use Rattle.queue_words.specs.Find.{findStream}
 use Rattle.queue_words.specs.Header.{optionsAt, totalsAt}
 use Rattle.queue_words.specs.Known.{knownAt, knownCount}
-use Rattle.queue_words.specs.Streams.{streamAt}
+use Rattle.queue_words.specs.Streams.{isPaused, streamAt}
 use Rattle.queue_words.specs.declared.known.Found.{Found}
 use Rattle.queue_words.specs.declared.known.Found.the-variants.{At, Gap, Broken}
 use Rattle.queue_words.specs.declared.streams.OutgoingStream.{OutgoingStream}
@@ -69,7 +69,7 @@ unfoldable pub readyAmong : List ℕ → ℕ → ℕ → Flag
 readyAmong ws i zero = flag.Value false
 readyAmong ws i (suc m) =
     pick (ltb 255 (knownAt ws i .place)) (flag.Refused 16)
-    (pick (eqb (streamAt ws (knownAt ws i .place) .«pause_state») 2) (flag.Value true) (readyAmong ws (suc i) m))
+    (pick (isPaused (streamAt ws (knownAt ws i .place) .«pause_state»)) (flag.Value true) (readyAmong ws (suc i) m))
 
 unfoldable pub readyOf : List ℕ → Flag
 readyOf ws = pick (ltb 256 (knownCount ws)) (flag.Refused 16) (readyAmong ws 0 (knownCount ws))

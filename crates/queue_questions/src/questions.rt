@@ -107,7 +107,9 @@ fn ready_among(queue: &[u64; QUEUE_WORDS], n: usize) -> Flag
             return Flag::Refused(16);
         }
         let s = load_stream(queue, k.place as usize);
-        if s.pause_state == 2 {
+        let state = s.pause_state;
+        let paused = state.is_paused();
+        if paused {
             return Flag::Value(true);
         }
         i += 1;

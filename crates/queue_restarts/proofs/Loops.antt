@@ -19,7 +19,7 @@ use Rattle.queue_streams.specs.Answers.{isAccepted}
 use Rattle.queue_streams.specs.declared.answers.Call.{Call}
 use Rattle.queue_streams.specs.declared.answers.Call.the-variants.{Accepted, Refused}
 use Rattle.queue_streams.specs.declared.answers.Number.the-variants as number
-use Rattle.queue_restarts.specs.Ready.{placesFit, allPlacesFit, isPaused, oneMore, collected, refusedReady, collectedOr16, marked, markedAll, readied, ready, countOf, readyCount}
+use Rattle.queue_restarts.specs.Ready.{placesFit, allPlacesFit, pausedAt, oneMore, collected, refusedReady, collectedOr16, marked, markedAll, readied, ready, countOf, readyCount}
 use Rattle.queue_restarts.specs.Reset.{sumKnown, sumAll, resetAt, resetAll}
 use Rattle.queue_restarts.specs.declared.ready.ReadyStreams.{ReadyStreams}
 use Rattle.queue_restarts.specs.declared.whole.Sum.{Sum}
@@ -70,7 +70,7 @@ module _ (ws : List ℕ) where
   unfolding collected
   collected-start = refl
 
-  module _ (i count : ℕ) (ids : List ℕ) (e : gathered count ids ≡ collected ws i) (k : Known) (ek : k ≡ knownAt ws i) (p : Bool) (ep : p ≡ isPaused ws (k .place)) where
+  module _ (i count : ℕ) (ids : List ℕ) (e : gathered count ids ≡ collected ws i) (k : Known) (ek : k ≡ knownAt ws i) (p : Bool) (ep : p ≡ pausedAt ws (k .place)) where
     pub collected-more : p ≡ true → gathered (count + 1) (set ids count (k .id .0)) ≡ collected ws (i + 1)
     unfolding collected
     collected-more h =
@@ -105,7 +105,7 @@ module _ (ws : List ℕ) where
   collected-accepted : (n : ℕ) → isAccepted (collected ws n .answer) ≡ true
   unfolding collected
   collected-accepted zero = refl
-  collected-accepted (suc i) = by (isPaused ws (knownAt ws i .place)) (collected-accepted i)
+  collected-accepted (suc i) = by (pausedAt ws (knownAt ws i .place)) (collected-accepted i)
     where
       by : (b : Bool) → isAccepted (collected ws i .answer) ≡ true → isAccepted (pick b (oneMore (collected ws i) (knownAt ws i .id .0)) (collected ws i) .answer) ≡ true
       by true e = refl

@@ -24,7 +24,7 @@ use Rattle.queue_restarts.specs.Settled.{resetDoneIn, resetDoneAt, reset
 
 pub whole-fits : (s : OutgoingStream) (b : ℕ) → FitsStream s → FitsStream (wholeStream s b)
 unfolding wholeStream
-whole-fits s b f = record { priority-fits = f .priority-fits; pause-state-fits = omega arith; ssn-fits = omega arith; unordered-mid-fits = omega arith; ordered-mid-fits = omega arith }
+whole-fits s b f = record { priority-fits = f .priority-fits; ssn-fits = omega arith; unordered-mid-fits = omega arith; ordered-mid-fits = omega arith }
 
 pub whole-first : (s : OutgoingStream) (b : ℕ) → (wholeStream s b) .first ≡ s .first
 unfolding wholeStream

@@ -2,13 +2,13 @@
 use Prim.Native.Nat.{ℕ, zero, suc, _+_}
 use mathlib.Core.Bool.{Bool, true, false}
 use mathlib.Core.List.{List}
-use lib.Dec.{ltb, eqb}
+use lib.Dec.{ltb}
 use lib.ListN.{replicate, set, take}
 use Rattle.queue_words.specs.Flags.{pick}
 use Rattle.queue_words.specs.Header.{totalsAt}
 use Rattle.queue_words.specs.Known.{knownAt}
-use Rattle.queue_words.specs.Streams.{streamAt, putStream}
-use Rattle.queue_words.specs.declared.streams.OutgoingStream.{OutgoingStream}
+use Rattle.queue_words.specs.Streams.{isPaused, streamAt, putStream, withPause}
+use Rattle.queue_words.specs.declared.streams.PauseState.the-variants.{Resetting}
 use Rattle.queue_streams.specs.Answers.{callNumber}
 use Rattle.queue_streams.specs.declared.answers.Call.{Call}
 use Rattle.queue_streams.specs.declared.answers.Call.the-variants.{Accepted, Refused}
@@ -24,8 +24,8 @@ placesFit ws i (suc m) = pick (ltb 255 (knownAt ws i .place)) false (placesFit w
 unfoldable pub allPlacesFit : List ℕ → ℕ → Bool
 allPlacesFit ws n = pick (ltb 256 n) false (placesFit ws 0 n)
 
-unfoldable pub isPaused : List ℕ → ℕ → Bool
-isPaused ws place = pick (ltb 255 place) false (eqb (streamAt ws place .«pause_state») 2)
+unfoldable pub pausedAt : List ℕ → ℕ → Bool
+pausedAt ws place = pick (ltb 255 place) false (isPaused (streamAt ws place .«pause_state»))
 
 -- 16, and no id.
 abbrev pub refusedReady : ReadyStreams
@@ -41,30 +41,17 @@ oneMore r id = record { answer = Accepted 0; count = r .count + 1; ids = set (r 
 -- The paused ones among the first n known streams.
 unfoldable pub collected : List ℕ → ℕ → ReadyStreams
 collected ws zero = noneReady
-collected ws (suc i) = pick (isPaused ws (knownAt ws i .place)) (oneMore (collected ws i) (knownAt ws i .id .0)) (collected ws i)
+collected ws (suc i) = pick (pausedAt ws (knownAt ws i .place)) (oneMore (collected ws i) (knownAt ws i .id .0)) (collected ws i)
 
 -- The paused ones, or 16 where the place of one of the n streams lies outside its table.
 unfoldable pub collectedOr16 : List ℕ → ℕ → ReadyStreams
 collectedOr16 ws n = pick (placesFit ws 0 n) (collected ws n) refusedReady
 
-abbrev pub withState : OutgoingStream → ℕ → OutgoingStream
-withState s state = record {
-  priority = s .priority;
-  «pause_state» = state;
-  «next_ssn» = s .«next_ssn»;
-  «next_unordered_mid» = s .«next_unordered_mid»;
-  «next_ordered_mid» = s .«next_ordered_mid»;
-  «buffered_amount» = s .«buffered_amount»;
-  «low_threshold» = s .«low_threshold»;
-  first = s .first;
-  last = s .last;
-}
-
 -- "and become resetting": a paused stream in this row. A place outside its table, which the call has ruled out, is passed over.
 unfoldable pub marked : List ℕ → ℕ → List ℕ
 marked ws place =
     pick (ltb 255 place) ws
-    (pick (eqb (streamAt ws place .«pause_state») 2) (putStream ws place (withState (streamAt ws place) 3)) ws)
+    (pick (isPaused (streamAt ws place .«pause_state»)) (putStream ws place (withPause (streamAt ws place) Resetting)) ws)
 
 unfoldable pub markedAll : List ℕ → ℕ → List ℕ
 markedAll ws zero = ws

@@ -11,6 +11,7 @@ use Rattle.queue_words.specs.Streams.{streamAt, putStream}
 use Rattle.queue_words.specs.declared.header.Totals.{Totals}
 use Rattle.queue_words.specs.declared.items.Item.{Item}
 use Rattle.queue_words.specs.declared.streams.OutgoingStream.{OutgoingStream}
+use Rattle.queue_words.specs.declared.streams.PauseState.the-variants.{NotPaused}
 use Rattle.queue_streams.specs.Settings.{Called, called}
 use Rattle.queue_streams.specs.Waiting.{rescheduled, roomFor}
 use Rattle.queue_streams.specs.declared.answers.Call.the-variants.{Accepted, Refused}
@@ -47,7 +48,7 @@ sumAll ws total (suc i) = sumKnown ws (knownAt ws i .place) (sumAll ws total i)
 unfoldable pub wholeStream : OutgoingStream → ℕ → OutgoingStream
 wholeStream s back = record {
   priority = s .priority;
-  «pause_state» = 0;
+  «pause_state» = NotPaused;
   «next_ssn» = record { 0 = 0 };
   «next_unordered_mid» = record { 0 = 0 };
   «next_ordered_mid» = record { 0 = 0 };

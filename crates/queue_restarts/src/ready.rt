@@ -1,15 +1,17 @@
 // The ids that are ready to be reset.
 ghost use mathlib.Core.Path.{_≡_};
 ghost use Prim.Native.Nat.{_≤_};
-ghost use Rattle.queue_restarts.specs.Ready.{refusedReady, isPaused, collectedOr16, marked, markedAll, readied, ready, readyCount};
+ghost use Rattle.queue_restarts.specs.Ready.{refusedReady, pausedAt, collectedOr16, marked, markedAll, readied, ready, readyCount};
 use queue_streams::answers::Call;
 use queue_streams::answers::Number;
 use queue_streams::answers::is_accepted;
 use queue_words::QUEUE_WORDS;
 use queue_words::header::load_totals;
 use queue_words::known::load_known;
+use queue_words::streams::PauseState;
 use queue_words::streams::load_stream;
 use queue_words::streams::store_stream;
+use queue_words::streams::with_pause;
 
 // "Ready ids, at most 256, come by value with their count in ascending order". The ids are the first `count`; the others are 0.
 pub struct ReadyStreams {
@@ -29,14 +31,15 @@ fn refused_ready() -> ReadyStreams
     }
 }
 
-fn is_paused(queue: &[u64; QUEUE_WORDS], place: u64) -> bool
-    ensures { λ r. ⌜ r ≡ isPaused (now (queue .entry)) place ⌝ }
+fn paused_at(queue: &[u64; QUEUE_WORDS], place: u64) -> bool
+    ensures { λ r. ⌜ r ≡ pausedAt (now (queue .entry)) place ⌝ }
 {
     if place > 255 {
         return false;
     }
     let s = load_stream(queue, place as usize);
-    s.pause_state == 2
+    let state = s.pause_state;
+    state.is_paused()
 }
 
 // The ids of the paused ones among the first n known streams; 16 at the first of these whose place lies outside its table.
@@ -52,7 +55,7 @@ fn collect(queue: &[u64; QUEUE_WORDS], n: usize) -> ReadyStreams
         if k.place > 255 {
             return refused_ready();
         }
-        let paused = is_paused(queue, k.place);
+        let paused = paused_at(queue, k.place);
         if paused {
             ids[count] = k.id.0;
             count += 1;
@@ -73,10 +76,12 @@ fn mark(queue: &mut [u64; QUEUE_WORDS], place: u64)
     if place > 255 {
         return;
     }
-    let mut s = load_stream(&*queue, place as usize);
-    if s.pause_state == 2 {
-        s.pause_state = 3;
-        store_stream(queue, place as usize, s);
+    let s = load_stream(&*queue, place as usize);
+    let state = s.pause_state;
+    let paused = state.is_paused();
+    if paused {
+        let o = with_pause(s, PauseState::Resetting);
+        store_stream(queue, place as usize, o);
     }
 }
 

@@ -18,6 +18,7 @@ use queue_words::items::load_item;
 use queue_words::items::store_item;
 use queue_words::known::load_known;
 use queue_words::streams::OutgoingStream;
+use queue_words::streams::PauseState;
 use queue_words::streams::load_stream;
 use queue_words::streams::store_stream;
 use types::Mid;
@@ -94,7 +95,7 @@ fn reset_stream(s: OutgoingStream, back: u64) -> OutgoingStream
 {
     OutgoingStream {
         priority: s.priority,
-        pause_state: 0,
+        pause_state: PauseState::NotPaused,
         next_ssn: Ssn(0),
         next_unordered_mid: Mid(0),
         next_ordered_mid: Mid(0),

@@ -15,7 +15,7 @@ use Rattle.queue_words.specs.Flags.{pick}
 use Rattle.queue_words.specs.Header.{optionsAt, totalsAt, schedulerAt}
 use Rattle.queue_words.specs.Items.{itemAt}
 use Rattle.queue_words.specs.Known.{knownAt, knownCount}
-use Rattle.queue_words.specs.Streams.{streamAt}
+use Rattle.queue_words.specs.Streams.{isOpen, streamAt}
 use Rattle.queue_words.specs.declared.items.Item.{Item}
 use Rattle.queue_words.specs.declared.known.Found.the-variants as found
 use Rattle.queue_words.specs.declared.known.Known.{Known}
@@ -192,7 +192,7 @@ pub astray-is-sixteen : AstrayIsSixteen
 unfolding step discarding.discard discarding.discardIn closing.close closing.closeIn closing.closeOpen lookUp
 astray-is-sixteen s id position row f h = record {
   by-discard = λ es message l. rw (le-ltb (length es) eventWords l, f, lt-ltb 1024 (streamAt (s .words) row .first) h);
-  by-close = λ es l o. rw (le-ltb (length es) eventWords l, f, le-ltb 0 (streamAt (s .words) row .«pause_state») (omega (arith, o)), lt-ltb 1024 (streamAt (s .words) row .first) h);
+  by-close = λ es l o. rw (le-ltb (length es) eventWords l, f, o, lt-ltb 1024 (streamAt (s .words) row .first) h);
 }
 
 -- ------------------------------------------------------------------ a choice without a message
@@ -346,7 +346,7 @@ closed-short ws es id row k f l t h =
 pub short-closing-is-sixteen : ShortClosingIsSixteen
 unfolding step closing.close closing.closeIn
 short-closing-is-sixteen s es id p h =
-    rw (le-ltb (length es) eventWords h, p .found-at, le-ltb 0 (streamAt (s .words) (p .row) .«pause_state») (omega (arith, p .is-open)))
+    rw (le-ltb (length es) eventWords h, p .found-at, ap isOpen (p .is-open))
     (closed-short (s .words) es id (p .row) (p .count) (p .has-head) (p .fits) (p .in-table) (p .short))
 
 -- ------------------------------------------------------------------ an amount that would pass 2^64 - 1

@@ -12,7 +12,7 @@ use Rattle.queue_words.specs.Header.{optionsAt, totalsAt}
 use Rattle.queue_words.specs.Find.{findStream}
 use Rattle.queue_words.specs.Items.{itemAt}
 use Rattle.queue_words.specs.Known.{knownAt, knownCount}
-use Rattle.queue_words.specs.Streams.{streamAt}
+use Rattle.queue_words.specs.Streams.{isOpen, isPaused, streamAt}
 use Rattle.queue_words.specs.declared.items.Item.{Item}
 use Rattle.queue_words.specs.declared.known.Found.{Found}
 use Rattle.queue_words.specs.declared.known.Found.the-variants as found
@@ -240,13 +240,14 @@ close-listed ws es id = loud-pick _ (ltb (length es) eventWords) _ _ (loud-refus
   where
     go : (x : Place) → Placed (3 ∷ 6 ∷ 16 ∷ []) x → Loud (3 ∷ 6 ∷ 16 ∷ []) (closing.closeAt ws es id x)
     go (place.Row row) h =
-        loud-pick _ (ltb 0 (streamAt ws row .«pause_state»)) _ _ (loud-done _ 0 ws es)
+        loud-pick _ (isOpen (streamAt ws row .«pause_state»)) _ _
         (loud-pick _ (ltb 1024 (streamAt ws row .first)) _ _ (loud-refused _ 16 ws es refl)
         (loud-pick _ (eqb (streamAt ws row .first) 1024) _ _ (loud-done _ 0 _ _)
         (loud-pick _ (ltb 0 (itemAt ws (streamAt ws row .first) .offset)) _ _
         (loud-pick _ (maySweep ws (itemAt ws (streamAt ws row .first) .next) (streamAt ws row .«buffered_amount»)) _ _ (loud-done _ _ _ _) (loud-refused _ 16 ws es refl))
         (loud-pick _ (maySweep ws (streamAt ws row .first) (streamAt ws row .«buffered_amount»)) _ _
         (loud-pick _ (removeStream ws id .done) _ _ (loud-done _ _ _ _) (loud-refused _ 16 ws es refl)) (loud-refused _ 16 ws es refl)))))
+        (loud-done _ 0 ws es)
     go (place.New q) h = loud-done _ 0 _ _
     go (place.Refused n) h = loud-refused _ n ws es (h n refl)
 
@@ -377,7 +378,7 @@ readies-refused ws e = refl
 collected-listed : (ws us : List ℕ) (n : ℕ) → Readies (readying.readied (readying.collected ws n) us)
 unfolding readying.collected Readies
 collected-listed ws us zero = λ e. not-refused e
-collected-listed ws us (suc n) = go (readying.isPaused ws (knownAt ws n .place)) (collected-listed ws us n)
+collected-listed ws us (suc n) = go (readying.pausedAt ws (knownAt ws n .place)) (collected-listed ws us n)
   where
     go : (b : Bool) → Readies (readying.readied (readying.collected ws n) us) → Readies (readying.readied (pick b (readying.oneMore (readying.collected ws n) (knownAt ws n .id .0)) (readying.collected ws n)) us)
     go true f = λ e. not-refused e
@@ -422,7 +423,7 @@ unfolding readyAmong
 among-listed ws i zero = tells-value false
 among-listed ws i (suc m) =
     tells-pick (ltb 255 (knownAt ws i .place)) _ _ tells-refused
-    (tells-pick (eqb (streamAt ws (knownAt ws i .place) .«pause_state») 2) _ _ (tells-value true) (among-listed ws (suc i) m))
+    (tells-pick (isPaused (streamAt ws (knownAt ws i .place) .«pause_state»)) _ _ (tells-value true) (among-listed ws (suc i) m))
 
 streams-listed : (ws : List ℕ) → Tells (readyOf ws)
 unfolding readyOf

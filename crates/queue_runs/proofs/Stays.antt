@@ -11,7 +11,7 @@ use Rattle.queue_words.specs.Header.{totalsAt}
 use Rattle.queue_words.specs.Find.{findStream}
 use Rattle.queue_words.specs.Items.{itemAt}
 use Rattle.queue_words.specs.Known.{knownAt}
-use Rattle.queue_words.specs.Streams.{streamAt}
+use Rattle.queue_words.specs.Streams.{isOpen, streamAt}
 use Rattle.queue_words.specs.declared.items.Item.{Item}
 use Rattle.queue_words.specs.declared.known.Found.{Found}
 use Rattle.queue_words.specs.declared.known.Found.the-variants as found
@@ -140,13 +140,14 @@ close-stays ws es id = loud-pick ws es (ltb (length es) eventWords) _ _ (loud-re
   where
     go : (x : Place) → Loud ws es (closing.closeAt ws es id x)
     go (place.Row row) =
-        loud-pick ws es (ltb 0 (streamAt ws row .«pause_state»)) _ _ (loud-done ws es ws es 0)
+        loud-pick ws es (isOpen (streamAt ws row .«pause_state»)) _ _
         (loud-pick ws es (ltb 1024 (streamAt ws row .first)) _ _ (loud-refused ws es 16)
         (loud-pick ws es (eqb (streamAt ws row .first) 1024) _ _ (loud-done ws es _ _ 0)
         (loud-pick ws es (ltb 0 (itemAt ws (streamAt ws row .first) .offset)) _ _
         (loud-pick ws es (maySweep ws (itemAt ws (streamAt ws row .first) .next) (streamAt ws row .«buffered_amount»)) _ _ (loud-done ws es _ _ _) (loud-refused ws es 16))
         (loud-pick ws es (maySweep ws (streamAt ws row .first) (streamAt ws row .«buffered_amount»)) _ _
         (loud-pick ws es (removeStream ws id .done) _ _ (loud-done ws es _ _ _) (loud-refused ws es 16)) (loud-refused ws es 16)))))
+        (loud-done ws es ws es 0)
     go (place.New q) = loud-done ws es _ _ 0
     go (place.Refused n) = loud-refused ws es n
 
@@ -188,7 +189,7 @@ restore-stays ws st time bs =
 accepted : (ws : List ℕ) (n : ℕ) → callRefused (readying.collected ws n .answer) ≡ false
 unfolding readying.collected
 accepted ws zero = refl
-accepted ws (suc n) = go (accepted ws n) (readying.isPaused ws (knownAt ws n .place))
+accepted ws (suc n) = go (accepted ws n) (readying.pausedAt ws (knownAt ws n .place))
   where
     go : callRefused (readying.collected ws n .answer) ≡ false → (b : Bool) → callRefused (pick b (readying.oneMore (readying.collected ws n) (knownAt ws n .id .0)) (readying.collected ws n) .answer) ≡ false
     go f true = refl

@@ -14,6 +14,7 @@ use Rattle.queue_words.specs.Header.{optionsAt, totalsAt}
 use Rattle.queue_words.specs.Items.{itemAt}
 use Rattle.queue_words.specs.Known.{knownAt, knownCount}
 use Rattle.queue_words.specs.Streams.{streamAt}
+use Rattle.queue_words.specs.declared.streams.PauseState.the-variants.{NotPaused}
 use Rattle.queue_words.specs.declared.items.Item.{Item}
 use Rattle.queue_words.specs.declared.known.Found.the-variants as found
 use Rattle.queue_words.specs.declared.streams.OutgoingStream.{OutgoingStream}
@@ -88,7 +89,7 @@ CrowdedIsSixteen = (s : State) → 256 < knownCount (s .words) → CrowdedGets s
 -- The place of a stream's first message: discarding, and closing the stream where it is open.
 pub record AstrayGets (s : State) (id row : ℕ) : Type 0 where
   pub by-discard : (es : List ℕ) (message : ℕ) → eventWords ≤ length es → IsSixteen (discard es id message) s
-  pub by-close : (es : List ℕ) → eventWords ≤ length es → streamAt (s .words) row .«pause_state» ≡ 0 → IsSixteen (close es id) s
+  pub by-close : (es : List ℕ) → eventWords ≤ length es → streamAt (s .words) row .«pause_state» ≡ NotPaused → IsSixteen (close es id) s
 
 abbrev pub AstrayIsSixteen : Type 0
 AstrayIsSixteen = (s : State) (id position row : ℕ) → findStream (s .words) id ≡ found.At position row → 1024 < streamAt (s .words) row .first → AstrayGets s id row
@@ -169,7 +170,7 @@ pub record ShortClosing (ws : List ℕ) (id : ℕ) : Type 0 where
   pub row : ℕ
   pub count : ℕ
   pub found-at : lookUp ws id ≡ place.Row row
-  pub is-open : streamAt ws row .«pause_state» ≡ 0
+  pub is-open : streamAt ws row .«pause_state» ≡ NotPaused
   pub has-head : streamAt ws row .first < 1024
   pub fits : count ≤ 1024
   pub in-table : inTable ws (droppedFrom ws (streamAt ws row)) count ≡ true

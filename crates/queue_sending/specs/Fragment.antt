@@ -7,10 +7,11 @@ use Rattle.queue_words.specs.Flags.{pick}
 use Rattle.queue_words.specs.Active.{activeAt}
 use Rattle.queue_words.specs.Header.{totalsAt, putTotals}
 use Rattle.queue_words.specs.Items.{itemAt, putItem}
-use Rattle.queue_words.specs.Streams.{streamAt, putStream}
+use Rattle.queue_words.specs.Streams.{isPaused, streamAt, putStream}
 use Rattle.queue_words.specs.declared.header.Totals.{Totals}
 use Rattle.queue_words.specs.declared.items.Item.{Item}
 use Rattle.queue_words.specs.declared.streams.OutgoingStream.{OutgoingStream}
+use Rattle.queue_words.specs.declared.streams.PauseState.{PauseState}
 use Rattle.payload_store.specs.Reading.{readCode, readPart}
 use Rattle.stream_scheduler.specs.Anew.{acceptLast}
 use Rattle.stream_scheduler.specs.Words.{acceptAt}
@@ -33,10 +34,10 @@ sendCode ws len s m n room =
     (pick (ltb 0 (readCode ws len (s .first) (m .offset) n room)) 16 (headCode ws s (s .first) (m .next) n))
 
 -- "a message behind it, unless the stream is now paused, then makes the stream begin anew": the place of the message with which it waits, 1024 for none.
-unfoldable pub nextFirst : ℕ → ℕ → ℕ
-nextFirst state next = pick (eqb state 2) 1024 next
+unfoldable pub nextFirst : PauseState → ℕ → ℕ
+nextFirst state next = pick (isPaused state) 1024 next
 
--- "When a pending stream's message ends or is discarded, it is paused": 1 is pending, 2 paused.
+-- "When a pending stream's message ends or is discarded, it is paused".
 -- "A last fragment ends its stream's waiting [..]; a message behind it, unless the stream is now paused, then makes the stream begin anew": after its n bytes the stream of the row `at`
 -- waits with what is behind the message, or not. "A weight is read when the stream begins to wait".
 unfoldable pub waitingOn : List ℕ → ℕ → ℕ → OutgoingStream → ℕ → ℕ → List ℕ

@@ -28,6 +28,7 @@ use queue_words::items::Item;
 use queue_words::items::load_item;
 use queue_words::items::store_item;
 use queue_words::streams::OutgoingStream;
+use queue_words::streams::PauseState;
 use queue_words::streams::load_stream;
 use queue_words::streams::store_stream;
 use stream_scheduler::accept;
@@ -66,10 +67,11 @@ fn send_code(
 
 // "a message behind it, unless the stream is now paused, then makes the stream begin anew": the place of the message with which
 // the stream waits, 1024 for none.
-fn next_first(state: u8, next: u64) -> u64
+fn next_first(state: PauseState, next: u64) -> u64
     ensures { λ r. ⌜ r ≡ nextFirst state next ⌝ }
 {
-    if state == 2 {
+    let paused = state.is_paused();
+    if paused {
         return 1024;
     }
     next
@@ -88,14 +90,15 @@ fn finish(
     requires { ⌜ (row < 256) × (s .first < 1024) ⌝ }
     ensures { λ _. ⌜ now (queue .exit) ≡ finished (now (queue .entry)) at id row s m n ⌝ }
 {
-    let state = end_pending(s.pause_state);
+    let state = s.pause_state;
+    let after = end_pending(state);
     let t = load_totals(&*queue);
-    let first = next_first(state, m.next);
+    let first = next_first(after, m.next);
     let bytes = head_size(&*queue, first);
     let p = parameters_for(t.interleaving, s.priority);
     accept_last(queue, at, id, n, bytes, p);
     release(queue, s.first as usize, n);
-    let o = without_head(s, state, m.next, n);
+    let o = without_head(s, after, m.next, n);
     store_stream(queue, row, o);
 }
 

@@ -4,18 +4,18 @@ use mathlib.Core.Path.{_≡_, refl, sym, ap, subst, _∙_}
 use mathlib.Core.Bool.{Bool, true, false}
 use mathlib.Core.List.{List, _∷_, _++_}
 use native.Mathlib.Omega.{arith}
-use borrow.Author.Tests.{le-ltb, eq-eqb, ne-eqb}
-use lib.Dec.{eqb}
+use borrow.Author.Tests.{le-ltb}
 use lib.ListN.{length}
-use Rattle.queue_words.specs.Flags.{pick}
 use Rattle.queue_words.specs.Header.{optionsAt, totalsAt}
 use Rattle.queue_words.specs.Items.{itemAt}
 use Rattle.queue_words.specs.Known.{idAt}
-use Rattle.queue_words.specs.Streams.{streamAt}
+use Rattle.queue_words.specs.Streams.{isPending, streamAt}
 use Rattle.queue_words.specs.declared.items.Item.{Item}
 use Rattle.queue_words.specs.declared.streams.OutgoingStream.{OutgoingStream}
+use Rattle.queue_words.specs.declared.streams.PauseState.{PauseState}
+use Rattle.queue_words.specs.declared.streams.PauseState.the-variants.{NotPaused, Pending, Paused, Resetting}
 use Rattle.queue_words.proofs.Laws
-use Rattle.queue_model.specs.Types.{Stream, Queue, Scheduler, not-paused, pending, paused, resetting, Event, remaining, with-items, with-state}
+use Rattle.queue_model.specs.Types.{Stream, Queue, Scheduler, Event, remaining, with-items, with-state}
 use Rattle.queue_model.specs.Types as plain
 use Rattle.queue_model.specs.Scheduler.{remove-stream}
 use Rattle.queue_model.specs.Streams.{put-stream, reschedule}
@@ -23,6 +23,7 @@ use Rattle.queue_model.specs.Refusals.{short-of}
 use Rattle.queue_model.specs.Amounts.{drop-head-events, total-low, stream-low, total-falls, stream-falls, lifecycle-events}
 use Rattle.queue_model.specs.Produce.{drop-head, drop-in}
 use Rattle.queue_model.proofs.Streams.{unsent-bytes}
+use Rattle.queue_model.proofs.Tests.{holds}
 use Rattle.queue_model.proofs.Invariant.Fine.{enough}
 use Rattle.stream_scheduler.specs.Link.{modelScheduler, FitsParameters}
 use Rattle.stream_scheduler.specs.Words.{Outcome, removeStream, setBytesRemaining}
@@ -37,7 +38,6 @@ use Rattle.message_chains.specs.Heads.{headCode, headDropped, dropNotes, withou
 use Rattle.queue_state.specs.Chains.{each}
 use Rattle.queue_state.specs.Model.{nextOf, itemIn, pauseOf, streamOf, rowAt, optionsOf, streamsIn, model}
 use Rattle.queue_state.specs.Good.{Shape, Good}
-use Rattle.queue_state.proofs.Splits.{by-index}
 use Rattle.queue_state.proofs.Heads.{head-first, head-fits, head-linked, head-may}
 use Rattle.queue_state.proofs.Notes.{listed, drop-noted}
 use Rattle.queue_state.proofs.Rooms.{Let, KnownTo, all-known, known-position, remove-known, reschedule-known, room-of}
@@ -66,14 +66,19 @@ behind-goes : (ws es : List ℕ) (k id r : ℕ) (s : OutgoingStream) (m : Item) 
 unfolding behindDropped
 behind-goes ws es k id r s m e = rw e
 
-pause-other : (state : ℕ) (q : Queue) (s : Stream) (i : plain.Item) (is : List plain.Item) → (state ≡ 1 → ⊥) → drop-in (pauseOf state) q s i is ≡ drop-head q s i is
+end-other : (state : PauseState) → isPending state ≡ false → endPending state ≡ state
+unfolding endPending
+end-other NotPaused e = refl
+end-other Pending e = absurd (holds false (sym e))
+end-other Paused e = refl
+end-other Resetting e = refl
+
+pause-other : (state : PauseState) (q : Queue) (s : Stream) (i : plain.Item) (is : List plain.Item) → isPending state ≡ false → drop-in (pauseOf state) q s i is ≡ drop-head q s i is
 unfolding pauseOf drop-in
-pause-other state q s i is ne = go (eqb state 0) (eqb state 2)
-  where
-    go : (a b : Bool) → drop-in (pick a not-paused (pick (eqb state 1) pending (pick b paused resetting))) q s i is ≡ drop-head q s i is
-    go true b = refl
-    go false true = rw (ne-eqb state 1 ne)
-    go false false = rw (ne-eqb state 1 ne)
+pause-other NotPaused q s i is e = refl
+pause-other Pending q s i is e = absurd (holds false (sym e))
+pause-other Paused q s i is e = refl
+pause-other Resetting q s i is e = refl
 
 module _ (ws st : List ℕ) (g : Good ws st) (i : ℕ) (hk : i < totalsAt ws .known) (x : ℕ) (xs : List ℕ) (eq : g .shape .q i ≡ x ∷ xs) where
   abbrev s : OutgoingStream
@@ -130,37 +135,36 @@ module _ (ws st : List ℕ) (g : Good ws st) (i : ℕ) (hk : i < totalsAt ws .kn
   id-fits = Laws.known-at-fits ws i .id-fits
 
   -- "When a pending stream's message ends or is discarded, it is paused", and stops waiting; document 02, 3/13: so it is when its half-sent head expires.
-  pending-drops : s .«pause_state» ≡ 1 → dropped ≡ with-state (model ws st) (totalsAt ws .total - rest y) (put-stream (streamOf (idAt ws i) (withoutHead s 2 (nextOf ws x) (rest y)) is) (streamsIn ws st)) (remove-stream (idAt ws i) (modelScheduler ws))
+  pending-drops : s .«pause_state» ≡ Pending → dropped ≡ with-state (model ws st) (totalsAt ws .total - rest y) (put-stream (streamOf (idAt ws i) (withoutHead s Paused (nextOf ws x) (rest y)) is) (streamsIn ws st)) (remove-stream (idAt ws i) (modelScheduler ws))
   unfolding drop-in withoutHead pauseOf
   pending-drops e =
-      ap (λ (p : ℕ). drop-in (pauseOf p) (model ws st) t j is) e
+      ap (λ (p : PauseState). drop-in (pauseOf p) (model ws st) t j is) e
       ∙ rw (model-total ws st, model-streams ws st, model-schedules ws st, bytes)
 
-  behind-pending : s .«pause_state» ≡ 1 → scheduledBehind ws (idAt ws i) s (y .next) ≡ removeStream ws (idAt ws i)
+  behind-pending : s .«pause_state» ≡ Pending → scheduledBehind ws (idAt ws i) s (y .next) ≡ removeStream ws (idAt ws i)
   unfolding scheduledBehind
-  behind-pending e = rw (eq-eqb (s .«pause_state») 1 e)
+  behind-pending e = rw e
 
-  ends-pending : s .«pause_state» ≡ 1 → endPending (s .«pause_state») ≡ 2
+  ends-pending : s .«pause_state» ≡ Pending → endPending (s .«pause_state») ≡ Paused
   unfolding endPending
-  ends-pending e = rw (eq-eqb (s .«pause_state») 1 e)
+  ends-pending e = rw e
 
   -- any other stream waits with what is behind
   abbrev t′ : Stream
   t′ = with-items t (s .«buffered_amount» - rest y) is
 
-  other-drops : (s .«pause_state» ≡ 1 → ⊥) → dropped ≡ with-state (model ws st) (totalsAt ws .total - rest y) (put-stream (streamOf (idAt ws i) (withoutHead s (s .«pause_state») (nextOf ws x) (rest y)) is) (streamsIn ws st)) (reschedule (totalsAt ws .interleaving) t′ (modelScheduler ws))
+  other-drops : isPending (s .«pause_state») ≡ false → dropped ≡ with-state (model ws st) (totalsAt ws .total - rest y) (put-stream (streamOf (idAt ws i) (withoutHead s (s .«pause_state») (nextOf ws x) (rest y)) is) (streamsIn ws st)) (reschedule (totalsAt ws .interleaving) t′ (modelScheduler ws))
   unfolding drop-head withoutHead
   other-drops ne =
       pause-other (s .«pause_state») (model ws st) t j is ne
       ∙ rw (model-total ws st, model-streams ws st, model-schedules ws st, model-interleaving ws st, bytes)
 
-  behind-other : (s .«pause_state» ≡ 1 → ⊥) → scheduledBehind ws (idAt ws i) s (y .next) ≡ setBytesRemaining ws (idAt ws i) (headSize ws (y .next)) (parametersFor (totalsAt ws .interleaving) (s .priority))
+  behind-other : isPending (s .«pause_state») ≡ false → scheduledBehind ws (idAt ws i) s (y .next) ≡ setBytesRemaining ws (idAt ws i) (headSize ws (y .next)) (parametersFor (totalsAt ws .interleaving) (s .priority))
   unfolding scheduledBehind
-  behind-other ne = rw (ne-eqb (s .«pause_state») 1 ne)
+  behind-other ne = rw ne
 
-  ends-other : (s .«pause_state» ≡ 1 → ⊥) → endPending (s .«pause_state») ≡ s .«pause_state»
-  unfolding endPending
-  ends-other ne = rw (ne-eqb (s .«pause_state») 1 ne)
+  ends-other : isPending (s .«pause_state») ≡ false → endPending (s .«pause_state») ≡ s .«pause_state»
+  ends-other ne = end-other (s .«pause_state») ne
 
   other-let : Let ws st (g .shape) (setBytesRemaining ws (idAt ws i) (headSize ws (y .next)) (parametersFor (totalsAt ws .interleaving) (s .priority)) .next) (reschedule (totalsAt ws .interleaving) t′ (modelScheduler ws))
   unfolding rescheduled
@@ -184,16 +188,16 @@ module _ (ws st : List ℕ) (g : Good ws st) (i : ℕ) (hk : i < totalsAt ws .kn
         drop-noted us es k (idAt ws i) s t (rest y) refl refl long (y .«lifecycle_id») b ∙ ap (listed es k) (sym e)
 
     -- whatever the scheduler leaves, if it is the model's
-    goes : (us : List ℕ) (sc : Scheduler) (state : ℕ) → Let ws st (g .shape) us sc → state < 256
+    goes : (us : List ℕ) (sc : Scheduler) (state : PauseState) → Let ws st (g .shape) us sc
         → dropped ≡ with-state (model ws st) (totalsAt ws .total - rest y) (put-stream (streamOf (idAt ws i) (withoutHead s state (nextOf ws x) (rest y)) is) (streamsIn ws st)) sc
         → Told (calledWith (Accepted (dropNotes us es k (idAt ws i) s (rest y) (y .«lifecycle_id») .count)) (headDropped us (rowAt ws i) s state y) (dropNotes us es k (idAt ws i) s (rest y) (y .«lifecycle_id») .events))
-    goes us sc state u hs e =
-        let l = head-leaves ws st (g .shape) i hk x xs eq us sc u state hs in
+    goes us sc state u e =
+        let l = head-leaves ws st (g .shape) i hk x xs eq us sc u state in
         let n = noted us (u .untouched .same-options) (u .untouched .same-totals) in
         rw n (record { shape = l .shape; options = l .options; next = l .queue ∙ sym e; answer = refl; events = refl })
 
     -- the words that behindDropped leaves, by what the scheduler left and the state
-    tells : (o : Outcome) (state : ℕ) → scheduledBehind ws (idAt ws i) s (y .next) ≡ o → o .done ≡ true → endPending (s .«pause_state») ≡ state
+    tells : (o : Outcome) (state : PauseState) → scheduledBehind ws (idAt ws i) s (y .next) ≡ o → o .done ≡ true → endPending (s .«pause_state») ≡ state
         → Told (calledWith (Accepted (dropNotes (o .next) es k (idAt ws i) s (rest y) (y .«lifecycle_id») .count)) (headDropped (o .next) (rowAt ws i) s state y) (dropNotes (o .next) es k (idAt ws i) s (rest y) (y .«lifecycle_id») .events))
         → Told (droppedInState ws es k (idAt ws i) (rowAt ws i) s y)
     tells o state eo ed es′ r =
@@ -201,8 +205,17 @@ module _ (ws st : List ℕ) (g : Good ws st) (i : ℕ) (hk : i < totalsAt ws .kn
         rw (head-goes ws es k (idAt ws i) (rowAt ws i) s y may-go, behind-goes ws es k (idAt ws i) (rowAt ws i) s y b, eo, es′) r
 
     pub dropped-in-state : DroppedIn ws st (streamHere ws st i (x ∷ xs)) (itemIn ws st x) (each (itemIn ws st) xs) es k (droppedInState ws es k (idAt ws i) (rowAt ws i) (streamAt ws (rowAt ws i)) (itemAt ws x))
-    dropped-in-state = by-index (s .«pause_state») 1
-        (λ e. tells (removeStream ws (idAt ws i)) 2 (behind-pending e) (remove-link ws (g .shape .schedules) (idAt ws i) id-fits .step-done) (ends-pending e)
-        (goes (removeStream ws (idAt ws i) .next) (remove-stream (idAt ws i) (modelScheduler ws)) 2 (remove-known ws st (g .shape) (all-known ws st (g .well)) (idAt ws i) id-fits) (omega arith) (pending-drops e)))
-        (λ ne. tells (setBytesRemaining ws (idAt ws i) (headSize ws (y .next)) (parametersFor (totalsAt ws .interleaving) (s .priority))) (s .«pause_state») (behind-other ne) other-done (ends-other ne)
-        (goes (setBytesRemaining ws (idAt ws i) (headSize ws (y .next)) (parametersFor (totalsAt ws .interleaving) (s .priority)) .next) (reschedule (totalsAt ws .interleaving) t′ (modelScheduler ws)) (s .«pause_state») other-let (Laws.stream-at-fits ws (rowAt ws i) .pause-state-fits) (other-drops ne)))
+    dropped-in-state = by (s .«pause_state») refl
+      where
+        other : isPending (s .«pause_state») ≡ false → Told (droppedInState ws es k (idAt ws i) (rowAt ws i) s y)
+        other ne =
+            tells (setBytesRemaining ws (idAt ws i) (headSize ws (y .next)) (parametersFor (totalsAt ws .interleaving) (s .priority))) (s .«pause_state») (behind-other ne) other-done (ends-other ne)
+            (goes (setBytesRemaining ws (idAt ws i) (headSize ws (y .next)) (parametersFor (totalsAt ws .interleaving) (s .priority)) .next) (reschedule (totalsAt ws .interleaving) t′ (modelScheduler ws)) (s .«pause_state») other-let (other-drops ne))
+
+        by : (p : PauseState) → s .«pause_state» ≡ p → Told (droppedInState ws es k (idAt ws i) (rowAt ws i) s y)
+        by NotPaused e = other (ap isPending e)
+        by Pending e =
+            tells (removeStream ws (idAt ws i)) Paused (behind-pending e) (remove-link ws (g .shape .schedules) (idAt ws i) id-fits .step-done) (ends-pending e)
+            (goes (removeStream ws (idAt ws i) .next) (remove-stream (idAt ws i) (modelScheduler ws)) Paused (remove-known ws st (g .shape) (all-known ws st (g .well)) (idAt ws i) id-fits) (pending-drops e))
+        by Paused e = other (ap isPending e)
+        by Resetting e = other (ap isPending e)

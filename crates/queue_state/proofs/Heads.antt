@@ -15,6 +15,7 @@ use Rattle.queue_words.specs.Streams.{streamAt, putStream, FitsStream}
 use Rattle.queue_words.specs.declared.header.Totals.{Totals}
 use Rattle.queue_words.specs.declared.items.Item.{Item}
 use Rattle.queue_words.specs.declared.streams.OutgoingStream.{OutgoingStream}
+use Rattle.queue_words.specs.declared.streams.PauseState.{PauseState}
 use Rattle.queue_words.proofs.Laws
 use Rattle.queue_model.specs.Streams.{put-stream}
 use Rattle.payload_store.specs.Words.{sizeOf, usedOf}
@@ -118,7 +119,7 @@ module _ (ws st : List ℕ) (g : Shape ws st) (i : ℕ) (hk : i < totalsAt ws .k
   frees-fit : (y : ℕ) → 1 ≤ count y (g .fr) → y < 1024
   frees-fit y h = free-fits (g .q) (g .fr) y (g .split) h
 
-  module _ (s : OutgoingStream) (fits : FitsStream s) (last-same : s .last ≡ streamAt ws (rowAt ws i) .last) (state : ℕ) (hs : state < 256) (n : ℕ) (us : List ℕ) (d : Gone ws st x n us) where
+  module _ (s : OutgoingStream) (fits : FitsStream s) (last-same : s .last ≡ streamAt ws (rowAt ws i) .last) (state : PauseState) (n : ℕ) (us : List ℕ) (d : Gone ws st x n us) where
     abbrev left : OutgoingStream
     left = withoutHead s state (nextOf ws x) n
 
@@ -135,7 +136,6 @@ module _ (ws st : List ℕ) (g : Shape ws st) (i : ℕ) (hk : i < totalsAt ws .k
     unfolding withoutHead
     left-fits = record {
       priority-fits = fits .priority-fits;
-      pause-state-fits = hs;
       ssn-fits = fits .ssn-fits;
       unordered-mid-fits = fits .unordered-mid-fits;
       ordered-mid-fits = fits .ordered-mid-fits;
@@ -240,15 +240,15 @@ module _ (ws st : List ℕ) (g : Shape ws st) (i : ℕ) (hk : i < totalsAt ws .k
     }
 
   -- THE THEOREM of a head that leaves its chain, with n bytes of the total and of the stream, which is left in a state.
-  pub head-left : (s : OutgoingStream) → FitsStream s → s .last ≡ streamAt ws (rowAt ws i) .last → (state : ℕ) → state < 256 → (n : ℕ)
+  pub head-left : (s : OutgoingStream) → FitsStream s → s .last ≡ streamAt ws (rowAt ws i) .last → (state : PauseState) → (n : ℕ)
       → HeadLeft ws st g i x xs (withoutHead s state (nextOf ws x) n) n (putStream (released ws x n) (rowAt ws i) (withoutHead s state (nextOf ws x) n))
-  head-left s fits last-same state hs n = the-head-left s fits last-same state hs n (released ws x n) (head-gone n)
+  head-left s fits last-same state n = the-head-left s fits last-same state n (released ws x n) (head-gone n)
 
   -- The same of the words that `headDropped` leaves.
-  pub head-dropped : (state : ℕ) → state < 256
+  pub head-dropped : (state : PauseState)
       → HeadLeft ws st g i x xs (withoutHead (streamAt ws (rowAt ws i)) state (nextOf ws x) (rest (itemAt ws x))) (rest (itemAt ws x)) (headDropped ws (rowAt ws i) (streamAt ws (rowAt ws i)) state (itemAt ws x))
   unfolding headDropped
-  head-dropped state hs =
+  head-dropped state =
       subst (λ p. HeadLeft ws st g i x xs (withoutHead (streamAt ws (rowAt ws i)) state (nextOf ws x) (rest (itemAt ws x))) (rest (itemAt ws x)) (putStream (released ws p (rest (itemAt ws x))) (rowAt ws i) (withoutHead (streamAt ws (rowAt ws i)) state (nextOf ws x) (rest (itemAt ws x)))))
       (sym head-first)
-      (head-left (streamAt ws (rowAt ws i)) (Laws.stream-at-fits ws (rowAt ws i)) refl state hs (rest (itemAt ws x)))
+      (head-left (streamAt ws (rowAt ws i)) (Laws.stream-at-fits ws (rowAt ws i)) refl state (rest (itemAt ws x)))

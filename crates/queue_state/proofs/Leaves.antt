@@ -12,6 +12,7 @@ use Rattle.queue_words.specs.declared.header.Totals.{Totals}
 use Rattle.queue_words.specs.declared.items.Item.{Item}
 use Rattle.queue_words.specs.declared.known.Known.{Known}
 use Rattle.queue_words.specs.declared.streams.OutgoingStream.{OutgoingStream}
+use Rattle.queue_words.specs.declared.streams.PauseState.{PauseState}
 use Rattle.queue_words.proofs.Laws
 use Rattle.queue_model.specs.Types.{Queue, Scheduler, with-state}
 use Rattle.queue_model.specs.Types as plain
@@ -105,7 +106,7 @@ module _ (ws st : List ℕ) (g : Shape ws st) (i : ℕ) (hk : i < totalsAt ws .k
   tail-same : each (itemIn us st) xs ≡ each (itemIn ws st) xs
   tail-same = items-frame ws st us st xs (λ y h. untouched-same ws us st long-same (u .untouched) y (row-fits (g .q) (g .fr) y i (g .split) below (subst (λ (ps : List ℕ). 1 ≤ count y ps) (sym eq) (omega arith))))
 
-  module _ (state : ℕ) (hs : state < 256) where
+  module _ (state : PauseState) where
     abbrev left : OutgoingStream
     left = withoutHead s state (nextOf us x) n
 
@@ -117,7 +118,7 @@ module _ (ws st : List ℕ) (g : Shape ws st) (i : ℕ) (hk : i < totalsAt ws .k
         ∙ ap (λ (p : ℕ). putStream (released us x n) (rowAt us i) (withoutHead s state p n)) (sym next-same)
 
     the-head : HeadLeft us st (u .unmoved .shape) i x xs left n (putStream (released us x n) (rowAt us i) left)
-    the-head = head-left us st (u .unmoved .shape) i hk′ x xs eq′ s (Laws.stream-at-fits ws (rowAt ws i)) (ap (λ (k : OutgoingStream). k .last) (sym row-there)) state hs n
+    the-head = head-left us st (u .unmoved .shape) i hk′ x xs eq′ s (Laws.stream-at-fits ws (rowAt ws i)) (ap (λ (k : OutgoingStream). k .last) (sym row-there)) state n
 
     left-here : put-stream (streamOf (idAt us i) left (each (itemIn us st) xs)) (streamsIn us st) ≡ put-stream (streamOf (idAt ws i) (withoutHead s state (nextOf ws x) n) (each (itemIn ws st) xs)) (streamsIn ws st)
     left-here = rw (id-same, next-same, tail-same, u .unmoved .streams)

@@ -2,7 +2,6 @@
 use Prim.Native.Nat.{ℕ, zero, suc}
 use mathlib.Core.List.{List, [], _∷_}
 use mathlib.Core.Option.{Option, none, some}
-use lib.Dec.{eqb}
 use Rattle.queue_model.specs.Types.{PauseState, not-paused, pending, paused, resetting, Stream, Queue}
 use Rattle.queue_model.specs.Types as plain
 use Rattle.queue_words.specs.Flags.{pick}
@@ -13,6 +12,8 @@ use Rattle.queue_words.specs.Streams.{streamAt}
 use Rattle.queue_words.specs.declared.header.Options.{Options}
 use Rattle.queue_words.specs.declared.items.Item.{Item}
 use Rattle.queue_words.specs.declared.streams.OutgoingStream.{OutgoingStream}
+use Rattle.queue_words.specs.declared.streams.PauseState as words
+use Rattle.queue_words.specs.declared.streams.PauseState.the-variants.{NotPaused, Pending, Paused, Resetting}
 use Rattle.payload_store.specs.Good.{payloadOf}
 use Rattle.stream_scheduler.specs.Link.{modelScheduler}
 use Rattle.queue_state.specs.Chains.{chain, each}
@@ -51,8 +52,11 @@ itemIn ws st x = itemOf (itemAt ws x) (payloadOf ws st x)
 -- ------------------------------------------------------------------ streams
 
 -- "States: open, pending, paused, resetting."
-unfoldable pub pauseOf : ℕ → PauseState
-pauseOf n = pick (eqb n 0) not-paused (pick (eqb n 1) pending (pick (eqb n 2) paused resetting))
+unfoldable pub pauseOf : words.PauseState → PauseState
+pauseOf NotPaused = not-paused
+pauseOf Pending = pending
+pauseOf Paused = paused
+pauseOf Resetting = resetting
 
 -- a known stream with its messages
 abbrev pub streamOf : ℕ → OutgoingStream → List plain.Item → Stream

@@ -1,6 +1,6 @@
 -- Commit where no stream begins to wait is commit (`quiet-commit`); and the ways out of its functions, over plain values. Assumes nothing.
 use mathlib.Core.Path.{_≡_, refl, sym, ap, _∙_, subst}
-use mathlib.Core.Bool.{Bool, true, false}
+use mathlib.Core.Bool.{Bool, true, false, not}
 use mathlib.Core.List.{List}
 use Prim.Native.Nat.{ℕ, zero, suc, _+_, _-_, _≤_, _<_}
 use native.Mathlib.Nat.{sub-zero}
@@ -13,7 +13,7 @@ use Rattle.queue_model.proofs.Tests.{holds, Tri, less, same, more, tri}
 use Rattle.queue_words.specs.Flags.{pick}
 use Rattle.queue_words.specs.Header.{totalsAt, schedulerAt}
 use Rattle.queue_words.specs.Known.{knownAt, knownCount}
-use Rattle.queue_words.specs.Streams.{streamAt, putStream, FitsStream}
+use Rattle.queue_words.specs.Streams.{isResetting, streamAt, putStream, FitsStream}
 use Rattle.queue_words.specs.declared.header.SchedulerState.{SchedulerState}
 use Rattle.queue_words.specs.declared.header.Totals.{Totals}
 use Rattle.queue_words.specs.declared.known.Known.{Known}
@@ -30,16 +30,16 @@ use Rattle.queue_streams.specs.declared.waiting.Tally.{Tally}
 
 -- A quiet stream by its cases: not resetting, or without a message.
 data Calm (s : OutgoingStream) : Type 0 where
-  shut : s .«pause_state» < 3 → Calm s
-  empty : 3 ≤ s .«pause_state» → s .first ≡ 1024 → Calm s
+  shut : isResetting (s .«pause_state») ≡ false → Calm s
+  empty : isResetting (s .«pause_state») ≡ true → s .first ≡ 1024 → Calm s
 
 calm : (s : OutgoingStream) → quietStream s ≡ true → Calm s
-calm s q = by-state (ltb (s .«pause_state») 3) refl (eqb (s .first) 1024) refl q
+calm s q = by-state (isResetting (s .«pause_state»)) refl (eqb (s .first) 1024) refl q
   where
-    by-state : (a : Bool) → ltb (s .«pause_state») 3 ≡ a → (b : Bool) → eqb (s .first) 1024 ≡ b → pick b true a ≡ true → Calm s
-    by-state true e b f g = shut (ltb-true _ _ e)
-    by-state false e true f g = empty (ltb-false _ _ e) (eqb-true _ _ f)
-    by-state false e false f g = absurd (holds false g)
+    by-state : (a : Bool) → isResetting (s .«pause_state») ≡ a → (b : Bool) → eqb (s .first) 1024 ≡ b → pick b true (not a) ≡ true → Calm s
+    by-state false e b f g = shut e
+    by-state true e true f g = empty e (eqb-true _ _ f)
+    by-state true e false f g = absurd (holds false g)
 
 -- An opened stream is quiet.
 opened-quiet : (s : OutgoingStream) → quietStream (opened true s) ≡ true
@@ -117,20 +117,6 @@ module _ (ws : List ℕ) (s : SchedulerState) (es : s ≡ schedulerAt ws) where
 
 -- ------------------------------------------------------------------ the walk
 
-module _ (ws : List ℕ) (place : ℕ) where
-  pub committed-outside : 255 < place → ws ≡ committedAt ws place
-  unfolding committedAt
-  committed-outside h = rw (lt-ltb _ _ h)
-
-  module _ (h : place ≤ 255) (s : OutgoingStream) (es : s ≡ streamAt ws place) where
-    pub committed-shut : s .«pause_state» < 3 → ws ≡ committedAt ws place
-    unfolding committedAt
-    committed-shut g = rw (le-ltb _ _ h, ← es, lt-ltb _ _ g)
-
-    pub committed-open : 3 ≤ s .«pause_state» → (o : OutgoingStream) (l : List ℕ) → o ≡ opened true s → l ≡ putStream ws place o → l ≡ committedAt ws place
-    unfolding committedAt
-    committed-open g o l eo el = rw (le-ltb _ _ h, ← es, le-ltb _ _ g, el, eo)
-
 module _ (ws : List ℕ) where
   pub committed-start : ws ≡ committedAll ws 0
   unfolding committedAll
@@ -150,14 +136,14 @@ module _ (ws : List ℕ) where
 -- One stream: where it is quiet, commit does no more than open it.
 step-same : (il : Bool) (us : List ℕ) (k : Known) → k .place ≤ 255 → Calm (streamAt us (k .place)) → committedAt us (k .place) ≡ reopenedAt true il us k
 unfolding committedAt reopenedAt reopenedIn
-step-same il us k h (shut l) = rw (le-ltb _ _ h, lt-ltb _ _ l)
+step-same il us k h (shut l) = rw (le-ltb _ _ h, l)
 step-same il us k h (empty l e) =
     let g : 1024 ≤ streamAt us (k .place) .first = omega arith in
-    rw (le-ltb _ _ h, le-ltb _ _ l, le-ltb _ _ g)
+    rw (le-ltb _ _ h, l, le-ltb _ _ g)
 
 pub opened-fits : (z : Bool) (s : OutgoingStream) → FitsStream s → FitsStream (opened z s)
-opened-fits true s f = record { priority-fits = f .priority-fits; pause-state-fits = omega arith; ssn-fits = omega arith; unordered-mid-fits = omega arith; ordered-mid-fits = omega arith }
-opened-fits false s f = record { priority-fits = f .priority-fits; pause-state-fits = omega arith; ssn-fits = f .ssn-fits; unordered-mid-fits = f .unordered-mid-fits; ordered-mid-fits = f .ordered-mid-fits }
+opened-fits true s f = record { priority-fits = f .priority-fits; ssn-fits = omega arith; unordered-mid-fits = omega arith; ordered-mid-fits = omega arith }
+opened-fits false s f = record { priority-fits = f .priority-fits; ssn-fits = f .ssn-fits; unordered-mid-fits = f .unordered-mid-fits; ordered-mid-fits = f .ordered-mid-fits }
 
 -- What a step leaves: the words' number, the known streams, and quiet rows.
 record Kept (ws us : List ℕ) (n : ℕ) : Type 0 where
@@ -167,7 +153,7 @@ record Kept (ws us : List ℕ) (n : ℕ) : Type 0 where
 
 step-kept : (ws us : List ℕ) (n p : ℕ) → p < 256 → Kept ws us n → Kept ws (committedAt us p) n
 unfolding committedAt
-step-kept ws us n p h k = by (ltb 255 p) (ltb (streamAt us p .«pause_state») 3)
+step-kept ws us n p h k = by (ltb 255 p) (isResetting (streamAt us p .«pause_state»))
   where
     o : OutgoingStream
     o = opened true (streamAt us p)
@@ -185,10 +171,10 @@ step-kept ws us n p h k = by (ltb 255 p) (ltb (streamAt us p .«pause_state») 3
     stored : Kept ws vs n
     stored = record { long = whole-put-stream us p o ∙ k .long; known-same = λ j l. known-put-stream us p o j l ∙ k .known-same j l; quiet = λ j l. row j l (tri p j) }
 
-    by : (a b : Bool) → Kept ws (pick a us (pick b us vs)) n
+    by : (a b : Bool) → Kept ws (pick a us (pick b vs us)) n
     by true b = k
-    by false true = k
-    by false false = stored
+    by false false = k
+    by false true = stored
 
 module _ (ws : List ℕ) (n : ℕ) (few : n ≤ 256) (whole : length ws ≡ 20768) (q : quietFrom ws n 0 n ≡ true) where
   passed : (j : ℕ) → j < n → (knownAt ws j .place < n) × (quietStream (streamAt ws j) ≡ true)
@@ -219,10 +205,10 @@ module _ (ws : List ℕ) (n : ℕ) (few : n ≤ 256) (whole : length ws ≡ 2076
   -- No row of the scheduler is needed.
   no-row : (t : Tally) (k : Known) → k .place ≤ 255 → Calm (streamAt ws (k .place)) → tallyKnown ws false k t ≡ t
   unfolding tallyKnown tallyStream passedOver
-  no-row t k h (shut l) = rw (le-ltb _ _ h, lt-ltb _ _ l)
+  no-row t k h (shut l) = rw (le-ltb _ _ h, l)
   no-row t k h (empty l e) =
       let g : streamAt ws (k .place) .first ≤ 1024 = omega arith in
-      rw (le-ltb _ _ h, le-ltb _ _ l, le-ltb _ _ g, eq-eqb _ _ e)
+      rw (le-ltb _ _ h, l, le-ltb _ _ g, eq-eqb _ _ e)
 
   tallied : (i : ℕ) → i ≤ n → tally ws false i ≡ record { fits = true; rows = schedulerAt ws .active }
   unfolding tally

@@ -32,20 +32,6 @@ room-fits ws all r t er h et = elim (tri (t .known) 257) [
     h-false : 256 < t .known → false ≡ true
     h-false g = sym (rw (ap (λ (x : Totals). x .known) (sym et), lt-ltb _ _ g)) ∙ sym er ∙ h
 
-module _ (z il : Bool) (ws : List ℕ) (id place : ℕ) (s : OutgoingStream) where
-  pub reopened-passed : s .«pause_state» < 3 → ws ≡ reopenedIn z il ws id place s
-  unfolding reopenedIn
-  reopened-passed h = rw (lt-ltb _ _ h)
-
-  module _ (h : 3 ≤ s .«pause_state») (o : OutgoingStream) (eo : o ≡ opened z s) (l : List ℕ) (el : l ≡ putStream ws place o) where
-    pub reopened-waits : (m : List ℕ) → s .first < 1024 → m ≡ rescheduled l il id (s .first) (s .priority) → m ≡ reopenedIn z il ws id place s
-    unfolding reopenedIn
-    reopened-waits m f em = rw (le-ltb _ _ h, lt-ltb _ _ f, em, el, eo)
-
-    pub reopened-quiet : 1024 ≤ s .first → l ≡ reopenedIn z il ws id place s
-    unfolding reopenedIn
-    reopened-quiet f = rw (le-ltb _ _ h, le-ltb _ _ f, el, eo)
-
 module _ (z il : Bool) (ws : List ℕ) (k : Known) where
   pub reopened-outside : 255 < k .place → ws ≡ reopenedAt z il ws k
   unfolding reopenedAt

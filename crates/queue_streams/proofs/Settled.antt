@@ -1,6 +1,6 @@
 -- Commit, rollback and switching interleaving leave nothing undone, on any words (specs/Settled): where they are not refused, no step of their walk is. Assumes nothing.
-use mathlib.Core.Path.{_≡_, refl, sym, subst}
-use mathlib.Core.Bool.{Bool, true, false}
+use mathlib.Core.Path.{_≡_, refl, sym, ap, subst}
+use mathlib.Core.Bool.{Bool, true, false, not}
 use mathlib.Core.List.{List}
 use Prim.Native.Nat.{ℕ, _<_}
 use native.Mathlib.Omega.{arith}
@@ -11,7 +11,7 @@ use Rattle.queue_model.proofs.Tests.{holds}
 use Rattle.queue_words.specs.Flags.{pick}
 use Rattle.queue_words.specs.Header.{totalsAt}
 use Rattle.queue_words.specs.Known.{knownAt, knownCount}
-use Rattle.queue_words.specs.Streams.{streamAt, putStream}
+use Rattle.queue_words.specs.Streams.{isResetting, streamAt, putStream}
 use Rattle.queue_words.specs.declared.streams.OutgoingStream.{OutgoingStream}
 use Rattle.queue_words.proofs.Laws.{stream-at-fits}
 use Rattle.queue_streams.specs.Answers.{isAccepted}
@@ -54,14 +54,14 @@ module _ (z il : Bool) (ws : List ℕ) (room : roomFor ws false ≡ true) (i : �
   unfolding reopenDoneAt reopenDoneIn reopenedAt reopenedIn passedOver
   reopen-step =
       subst (λ (b : Bool). Done ws false i (pick b false (reopenDoneIn z il us (knownAt us i .id .0) place s)) (pick b us (reopenedIn z il us (knownAt us i .id .0) place s))) (sym (le-ltb _ _ (in-table ws false room i h us k)))
-      (by (ltb (s .«pause_state») 3) refl (ltb (s .first) 1024) refl)
+      (by (isResetting (s .«pause_state»)) refl (ltb (s .first) 1024) refl)
     where
-      by : (a : Bool) → ltb (s .«pause_state») 3 ≡ a → (b : Bool) → ltb (s .first) 1024 ≡ b
-          → Done ws false i (pick a true (pick b (rescheduleDone vs il (knownAt us i .id .0) (s .first) (s .priority)) (eqb (s .first) 1024))) (pick a us (pick b (rescheduled vs il (knownAt us i .id .0) (s .first) (s .priority)) vs))
-      by true ea b eb = record { done = refl; kept = next-kept ws false room i h us k us k }
-      by false ea true eb = wait-done ws false room i h us k ea il vs stored
-      by false ea false eb =
-          let f = first-bounded ws false room i h us k ea in
+      by : (a : Bool) → isResetting (s .«pause_state») ≡ a → (b : Bool) → ltb (s .first) 1024 ≡ b
+          → Done ws false i (pick a (pick b (rescheduleDone vs il (knownAt us i .id .0) (s .first) (s .priority)) (eqb (s .first) 1024)) true) (pick a (pick b (rescheduled vs il (knownAt us i .id .0) (s .first) (s .priority)) vs) us)
+      by false ea b eb = record { done = refl; kept = next-kept ws false room i h us k us k }
+      by true ea true eb = wait-done ws false room i h us k (ap not ea) il vs stored
+      by true ea false eb =
+          let f = first-bounded ws false room i h us k (ap not ea) in
           let g = ltb-false (s .first) 1024 eb in
           record { done = eq-eqb (s .first) 1024 (omega arith); kept = next-kept ws false room i h us k vs stored }
 

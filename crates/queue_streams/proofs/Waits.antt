@@ -53,14 +53,6 @@ by-priority il p e = rw e
 
 -- ------------------------------------------------------------------ room for all
 
-pub counts-all : (all : Bool) (state : ℕ) → all ≡ true → false ≡ passedOver all state
-unfolding passedOver
-counts-all all state e = rw e
-
-pub counts-state : (all : Bool) (state : ℕ) → all ≡ false → ltb state 3 ≡ passedOver all state
-unfolding passedOver
-counts-state all state e = rw e
-
 module _ (ws : List ℕ) (all : Bool) (id : ℕ) (s : OutgoingStream) (t : Tally) (one : Bool) (ec : one ≡ passedOver all (s .«pause_state»)) where
   pub tally-passed : one ≡ true → t ≡ tallyStream ws all id s t
   unfolding tallyStream

@@ -18,6 +18,7 @@ use Rattle.queue_words.specs.declared.header.Totals.{Totals}
 use Rattle.queue_words.specs.declared.items.Item.{Item}
 use Rattle.queue_words.specs.declared.known.Known.{Known}
 use Rattle.queue_words.specs.declared.streams.OutgoingStream.{OutgoingStream}
+use Rattle.queue_words.specs.declared.streams.PauseState.{PauseState}
 use Rattle.queue_words.proofs.Laws.{whole-put-stream, whole-put-item, whole-put-totals, stream-at-fits, known-at-fits, stream-at-put, stream-at-put-other, scheduler-put-stream, active-put-stream, known-put-stream, scheduler-put-item, active-put-item, known-put-item, stream-put-item, scheduler-put-totals, active-put-totals, known-put-totals, stream-put-totals}
 use Rattle.stream_scheduler.specs.Words.{waitsIn, setBytesRemaining}
 use Rattle.stream_scheduler.specs.Link.{FitsParameters}
@@ -189,7 +190,7 @@ kept-stream ws all us r p s l f e c k = record {
 -- ---- a stream is let wait
 
 -- Where all streams count, none is passed over.
-pub none-passed : (state : ℕ) → passedOver true state ≡ false
+pub none-passed : (state : PauseState) → passedOver true state ≡ false
 unfolding passedOver
 none-passed state = refl
 

@@ -1,18 +1,18 @@
 -- Commit where no stream begins to wait, on the words. It is `reopen true` (specs/Restart) there, which proofs/Commits shows. Assumes nothing.
 use Prim.Native.Nat.{ℕ, zero, suc}
-use mathlib.Core.Bool.{Bool, true, false}
+use mathlib.Core.Bool.{Bool, true, false, not}
 use mathlib.Core.List.{List}
 use lib.Dec.{ltb, leb, eqb}
 use Rattle.queue_words.specs.Flags.{pick}
 use Rattle.queue_words.specs.Header.{schedulerAt}
 use Rattle.queue_words.specs.Known.{knownAt, knownCount}
-use Rattle.queue_words.specs.Streams.{streamAt, putStream}
+use Rattle.queue_words.specs.Streams.{isResetting, streamAt, putStream}
 use Rattle.queue_words.specs.declared.streams.OutgoingStream.{OutgoingStream}
 use Rattle.queue_streams.specs.Restart.{opened}
 
 -- Whether commit does not let a stream wait: it has no message, or is not resetting.
 abbrev pub quietStream : OutgoingStream → Bool
-quietStream s = pick (eqb (s .first) 1024) true (ltb (s .«pause_state») 3)
+quietStream s = pick (eqb (s .first) 1024) true (not (isResetting (s .«pause_state»)))
 
 -- Whether m known streams from position i on have their places among the first n rows, and m rows from row i on are quiet.
 unfoldable pub quietFrom : List ℕ → ℕ → ℕ → ℕ → Bool
@@ -25,7 +25,7 @@ nothingStarts ws = pick (ltb 256 (schedulerAt ws .active)) false (pick (ltb 256 
 
 -- "For every resetting stream, commit sets the three counters to 0 and opens": the stream in this row.
 unfoldable pub committedAt : List ℕ → ℕ → List ℕ
-committedAt ws place = pick (ltb 255 place) ws (pick (ltb (streamAt ws place .«pause_state») 3) ws (putStream ws place (opened true (streamAt ws place))))
+committedAt ws place = pick (ltb 255 place) ws (pick (isResetting (streamAt ws place .«pause_state»)) (putStream ws place (opened true (streamAt ws place))) ws)
 
 -- The first known streams, one after another.
 unfoldable pub committedAll : List ℕ → ℕ → List ℕ

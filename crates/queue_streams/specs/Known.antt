@@ -12,6 +12,7 @@ use Rattle.queue_words.specs.declared.header.Totals.{Totals}
 use Rattle.queue_words.specs.declared.known.Found.{Found}
 use Rattle.queue_words.specs.declared.known.Found.the-variants.{At, Gap, Broken}
 use Rattle.queue_words.specs.declared.streams.OutgoingStream.{OutgoingStream}
+use Rattle.queue_words.specs.declared.streams.PauseState.the-variants.{NotPaused}
 use Rattle.queue_streams.specs.declared.known.Place.{Place}
 use Rattle.queue_streams.specs.declared.known.Place.the-variants.{Row, New, Refused}
 
@@ -19,7 +20,7 @@ use Rattle.queue_streams.specs.declared.known.Place.the-variants.{Row, N
 abbrev pub newStream : Options → OutgoingStream
 newStream o = record {
   priority = o .«default_priority»;
-  «pause_state» = 0;
+  «pause_state» = NotPaused;
   «next_ssn» = record { 0 = 0 };
   «next_unordered_mid» = record { 0 = 0 };
   «next_ordered_mid» = record { 0 = 0 };

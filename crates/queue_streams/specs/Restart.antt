@@ -6,10 +6,11 @@ use lib.Dec.{ltb}
 use Rattle.queue_words.specs.Flags.{pick}
 use Rattle.queue_words.specs.Header.{totalsAt, putTotals}
 use Rattle.queue_words.specs.Known.{knownAt, knownCount}
-use Rattle.queue_words.specs.Streams.{streamAt, putStream}
+use Rattle.queue_words.specs.Streams.{isResetting, streamAt, putStream, withPause}
 use Rattle.queue_words.specs.declared.header.Totals.{Totals}
 use Rattle.queue_words.specs.declared.known.Known.{Known}
 use Rattle.queue_words.specs.declared.streams.OutgoingStream.{OutgoingStream}
+use Rattle.queue_words.specs.declared.streams.PauseState.the-variants.{NotPaused}
 use Rattle.queue_streams.specs.Settings.{Called, called}
 use Rattle.queue_streams.specs.Waiting.{rescheduled, roomFor}
 use Rattle.queue_streams.specs.declared.answers.Call.the-variants.{Accepted, Refused}
@@ -18,7 +19,7 @@ use Rattle.queue_streams.specs.declared.answers.Call.the-variants.{Accep
 abbrev pub opened : Bool → OutgoingStream → OutgoingStream
 opened true s = record {
   priority = s .priority;
-  «pause_state» = 0;
+  «pause_state» = NotPaused;
   «next_ssn» = record { 0 = 0 };
   «next_unordered_mid» = record { 0 = 0 };
   «next_ordered_mid» = record { 0 = 0 };
@@ -27,23 +28,14 @@ opened true s = record {
   first = s .first;
   last = s .last;
 }
-opened false s = record {
-  priority = s .priority;
-  «pause_state» = 0;
-  «next_ssn» = s .«next_ssn»;
-  «next_unordered_mid» = s .«next_unordered_mid»;
-  «next_ordered_mid» = s .«next_ordered_mid»;
-  «buffered_amount» = s .«buffered_amount»;
-  «low_threshold» = s .«low_threshold»;
-  first = s .first;
-  last = s .last;
-}
+opened false s = withPause s NotPaused
 
 -- A resetting stream opened; "both let a stream with messages wait".
 unfoldable pub reopenedIn : Bool → Bool → List ℕ → ℕ → ℕ → OutgoingStream → List ℕ
 reopenedIn zeroed il ws id place s =
-    pick (ltb (s .«pause_state») 3) ws
+    pick (isResetting (s .«pause_state»))
     (pick (ltb (s .first) 1024) (rescheduled (putStream ws place (opened zeroed s)) il id (s .first) (s .priority)) (putStream ws place (opened zeroed s)))
+    ws
 
 -- The known stream at position i; a place outside its table, which the call has ruled out, is passed over.
 unfoldable pub reopenedAt : Bool → Bool → List ℕ → Known → List ℕ

@@ -8,7 +8,7 @@ use lib.Dec.{ltb, eqb}
 use Rattle.queue_words.specs.Flags.{pick}
 use Rattle.queue_words.specs.Header.{totalsAt, putTotals}
 use Rattle.queue_words.specs.Known.{knownAt, knownCount}
-use Rattle.queue_words.specs.Streams.{streamAt, putStream}
+use Rattle.queue_words.specs.Streams.{isResetting, streamAt, putStream}
 use Rattle.queue_words.specs.declared.known.Known.{Known}
 use Rattle.queue_words.specs.declared.streams.OutgoingStream.{OutgoingStream}
 use Rattle.stream_scheduler.specs.Words.{setBytesRemaining}
@@ -22,8 +22,9 @@ rescheduleDone ws il id first p = setBytesRemaining ws id (headSize ws first) (p
 -- A step of commit or rollback (`reopenedIn`, specs/Restart): "both let a stream with messages wait". A resetting stream that is not let wait has no message: its first place is 1,024, and none outside the table.
 unfoldable pub reopenDoneIn : Bool → Bool → List ℕ → ℕ → ℕ → OutgoingStream → Bool
 reopenDoneIn zeroed il ws id place s =
-    pick (ltb (s .«pause_state») 3) true
+    pick (isResetting (s .«pause_state»))
     (pick (ltb (s .first) 1024) (rescheduleDone (putStream ws place (opened zeroed s)) il id (s .first) (s .priority)) (eqb (s .first) 1024))
+    true
 
 -- No known stream is passed over: its place is in its table.
 unfoldable pub reopenDoneAt : Bool → Bool → List ℕ → Known → Bool

@@ -1,17 +1,18 @@
 -- Letting streams wait, on the words. Assumes nothing.
 use Prim.Native.Nat.{ℕ, zero, suc, _+_, _-_}
-use mathlib.Core.Bool.{Bool, true, false}
+use mathlib.Core.Bool.{Bool, true, false, not}
 use mathlib.Core.List.{List}
 use lib.Dec.{ltb, leb, eqb}
 use Rattle.queue_words.specs.Flags.{pick}
 use Rattle.queue_words.specs.Header.{schedulerAt}
 use Rattle.queue_words.specs.Items.{itemAt}
 use Rattle.queue_words.specs.Known.{knownAt, knownCount}
-use Rattle.queue_words.specs.Streams.{streamAt}
+use Rattle.queue_words.specs.Streams.{isResetting, streamAt}
 use Rattle.queue_words.specs.declared.active.SchedulingParameters.{SchedulingParameters}
 use Rattle.queue_words.specs.declared.active.SchedulingParameters.the-variants.{RoundRobin, WeightedFairQueuing}
 use Rattle.queue_words.specs.declared.known.Known.{Known}
 use Rattle.queue_words.specs.declared.streams.OutgoingStream.{OutgoingStream}
+use Rattle.queue_words.specs.declared.streams.PauseState.{PauseState}
 use Rattle.stream_scheduler.specs.Words.{waitsIn, setBytesRemaining}
 use Rattle.queue_streams.specs.declared.waiting.Tally.{Tally}
 
@@ -36,8 +37,8 @@ rescheduled ws il id first p = (setBytesRemaining ws id (headSize ws first) (par
 
 -- A call that lets streams wait anew settles first that their places are in their tables, and that the rows suffice: those that there are, and one for
 -- each stream with messages that has none. Where not all streams count, the resetting ones do.
-unfoldable pub passedOver : Bool → ℕ → Bool
-passedOver all state = pick all false (ltb state 3)
+unfoldable pub passedOver : Bool → PauseState → Bool
+passedOver all state = pick all false (not (isResetting state))
 
 unfoldable pub tallyStream : List ℕ → Bool → ℕ → OutgoingStream → Tally → Tally
 tallyStream ws all id s t =

@@ -18,7 +18,9 @@ fn is_quiet(s: OutgoingStream) -> bool
     if s.first == 1024 {
         return true;
     }
-    s.pause_state < 3
+    let state = s.pause_state;
+    let resetting = state.is_resetting();
+    !resetting
 }
 
 // Whether n known streams have their places among the first n rows, and these rows are quiet.
@@ -66,11 +68,12 @@ fn commit_at(queue: &mut [u64; QUEUE_WORDS], place: u64)
         return;
     }
     let s = load_stream(&*queue, place as usize);
-    if s.pause_state < 3 {
-        return;
+    let state = s.pause_state;
+    let resetting = state.is_resetting();
+    if resetting {
+        let o = open_stream(true, s);
+        store_stream(queue, place as usize, o);
     }
-    let o = open_stream(true, s);
-    store_stream(queue, place as usize, o);
 }
 
 // The first n known streams.

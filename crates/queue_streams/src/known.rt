@@ -13,6 +13,7 @@ use queue_words::known::find_stream;
 use queue_words::known::load_known;
 use queue_words::known::store_known;
 use queue_words::streams::OutgoingStream;
+use queue_words::streams::PauseState;
 use queue_words::streams::store_stream;
 use types::Mid;
 use types::Ssn;
@@ -24,7 +25,7 @@ pub fn new_stream(o: Options) -> OutgoingStream
 {
     OutgoingStream {
         priority: o.default_priority,
-        pause_state: 0,
+        pause_state: PauseState::NotPaused,
         next_ssn: Ssn(0),
         next_unordered_mid: Mid(0),
         next_ordered_mid: Mid(0),

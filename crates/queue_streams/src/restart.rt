@@ -16,8 +16,10 @@ use queue_words::header::store_totals;
 use queue_words::known::Known;
 use queue_words::known::load_known;
 use queue_words::streams::OutgoingStream;
+use queue_words::streams::PauseState;
 use queue_words::streams::load_stream;
 use queue_words::streams::store_stream;
+use queue_words::streams::with_pause;
 use queue_words::whole;
 use types::Mid;
 use types::Ssn;
@@ -28,7 +30,7 @@ pub(crate) fn open_stream(zeroed: bool, s: OutgoingStream) -> OutgoingStream
     if zeroed {
         return OutgoingStream {
             priority: s.priority,
-            pause_state: 0,
+            pause_state: PauseState::NotPaused,
             next_ssn: Ssn(0),
             next_unordered_mid: Mid(0),
             next_ordered_mid: Mid(0),
@@ -38,9 +40,7 @@ pub(crate) fn open_stream(zeroed: bool, s: OutgoingStream) -> OutgoingStream
             last: s.last,
         };
     }
-    let mut o = s;
-    o.pause_state = 0;
-    o
+    with_pause(s, PauseState::NotPaused)
 }
 
 fn reopen_in(
@@ -54,15 +54,16 @@ fn reopen_in(
     requires { ⌜ place < 256 ⌝ }
     ensures { λ _. ⌜ now (queue .exit) ≡ reopenedIn zeroed interleaving (now (queue .entry)) id place s ⌝ }
 {
-    if s.pause_state < 3 {
-        return;
-    }
-    let first = s.first;
-    let priority = s.priority;
-    let o = open_stream(zeroed, s);
-    store_stream(queue, place, o);
-    if first < 1024 {
-        reschedule(queue, interleaving, id, first, priority);
+    let state = s.pause_state;
+    let resetting = state.is_resetting();
+    if resetting {
+        let first = s.first;
+        let priority = s.priority;
+        let o = open_stream(zeroed, s);
+        store_stream(queue, place, o);
+        if first < 1024 {
+            reschedule(queue, interleaving, id, first, priority);
+        }
     }
 }
 

@@ -11,6 +11,7 @@ use queue_words::items::load_item;
 use queue_words::known::Known;
 use queue_words::known::load_known;
 use queue_words::streams::OutgoingStream;
+use queue_words::streams::PauseState;
 use queue_words::streams::load_stream;
 use stream_scheduler::set_bytes_remaining;
 use stream_scheduler::waits;
@@ -70,13 +71,14 @@ pub struct Tally {
 }
 
 // Whether a stream does not count: where not all do, the resetting ones do.
-fn passed_over(all: bool, state: u8) -> bool
+fn passed_over(all: bool, state: PauseState) -> bool
     ensures { λ r. ⌜ r ≡ passedOver all state ⌝ }
 {
     if all {
         return false;
     }
-    state < 3
+    let resetting = state.is_resetting();
+    !resetting
 }
 
 fn tally_stream(
@@ -89,7 +91,8 @@ fn tally_stream(
     requires { ⌜ t .rows < 512 ⌝ }
     ensures { λ r. ⌜ r ≡ tallyStream (now (queue .entry)) all id s t ⌝ }
 {
-    let passed = passed_over(all, s.pause_state);
+    let state = s.pause_state;
+    let passed = passed_over(all, state);
     if passed {
         return Tally {
             fits: t.fits,

@@ -27,6 +27,7 @@ use Rattle.queue_words.specs.Streams.{streamOf, streamWords, streamAt, p
 use Rattle.queue_words.specs.Items.{itemOf, itemWords, itemAt, putItem, FitsItem}
 use Rattle.queue_words.specs.Items.{putNext, putPlace, putLength, withNext, withPlace, withLength}
 use Rattle.queue_words.specs.Active.{activeOf, activeWords, activeAt, putActive, FitsActive}
+use Rattle.queue_words.proofs.Numbers.{pause-state-of-word}
 use Rattle.queue_words.proofs.Rows.{row-put-same, row-put-other, row-put-length, rows-apart, row-set-word, row-word-other}
 
 -- a flag survives its word
@@ -64,7 +65,7 @@ known-words k f = λ p. record { id = record { 0 = mod-eq-of-lt (f .id-fits) p }
 stream-words : (s : OutgoingStream) → FitsStream s → streamOf (streamWords s) ≡ s
 stream-words s f = λ p. record {
   priority = mod-eq-of-lt (f .priority-fits) p;
-  «pause_state» = mod-eq-of-lt (f .pause-state-fits) p;
+  «pause_state» = pause-state-of-word (s .«pause_state») p;
   «next_ssn» = record { 0 = mod-eq-of-lt (f .ssn-fits) p };
   «next_unordered_mid» = record { 0 = mod-eq-of-lt (f .unordered-mid-fits) p };
   «next_ordered_mid» = record { 0 = mod-eq-of-lt (f .ordered-mid-fits) p };
@@ -120,7 +121,6 @@ pub stream-at-fits : (ws : List ℕ) (i : ℕ) → FitsStream (streamAt ws i)
 unfolding streamAt
 stream-at-fits ws i = record {
   priority-fits = mod-lt _ (omega arith);
-  pause-state-fits = mod-lt _ (omega arith);
   ssn-fits = mod-lt _ (omega arith);
   unordered-mid-fits = mod-lt _ (omega arith);
   ordered-mid-fits = mod-lt _ (omega arith);

@@ -1,5 +1,6 @@
 -- The streams: 256 rows of 10 words from word 544 on, 9 of them used. Assumes nothing.
 use Prim.Native.Nat.{ℕ, _+_, _*_, _%_, _<_}
+use mathlib.Core.Bool.{Bool, true, false}
 use mathlib.Core.List.{List, [], _∷_}
 use lib.Dec.{eqb}
 use lib.ListN.{getD, set}
@@ -9,11 +10,47 @@ use Rattle.queue_words.specs.declared.streams.OutgoingStream.{OutgoingSt
 use Rattle.queue_words.specs.declared.streams.PauseState.{PauseState}
 use Rattle.queue_words.specs.declared.streams.PauseState.the-variants.{NotPaused, Pending, Paused, Resetting}
 
+-- the state of a word: 0 to 3 in the order of the type; above 3 it is the last
+abbrev pub pauseStateOf : ℕ → PauseState
+pauseStateOf w = pick (eqb w 0) NotPaused (pick (eqb w 1) Pending (pick (eqb w 2) Paused Resetting))
+
+-- the word of a state
+abbrev pub pauseStateWord : PauseState → ℕ
+pauseStateWord NotPaused = 0
+pauseStateWord Pending = 1
+pauseStateWord Paused = 2
+pauseStateWord Resetting = 3
+
+-- whether a state is this one
+abbrev pub isOpen : PauseState → Bool
+isOpen NotPaused = true
+isOpen Pending = false
+isOpen Paused = false
+isOpen Resetting = false
+
+abbrev pub isPending : PauseState → Bool
+isPending NotPaused = false
+isPending Pending = true
+isPending Paused = false
+isPending Resetting = false
+
+abbrev pub isPaused : PauseState → Bool
+isPaused NotPaused = false
+isPaused Pending = false
+isPaused Paused = true
+isPaused Resetting = false
+
+abbrev pub isResetting : PauseState → Bool
+isResetting NotPaused = false
+isResetting Pending = false
+isResetting Paused = false
+isResetting Resetting = true
+
 -- a stream in nine words
 abbrev pub streamOf : List ℕ → OutgoingStream
 streamOf vs = record {
   priority = getD vs 0 0 % 65536;
-  «pause_state» = getD vs 1 0 % 256;
+  «pause_state» = pauseStateOf (getD vs 1 0);
   «next_ssn» = record { 0 = getD vs 2 0 % 65536 };
   «next_unordered_mid» = record { 0 = getD vs 3 0 % 4294967296 };
   «next_ordered_mid» = record { 0 = getD vs 4 0 % 4294967296 };
@@ -25,7 +62,7 @@ streamOf vs = record {
 
 -- its words
 abbrev pub streamWords : OutgoingStream → List ℕ
-streamWords s = s .priority ∷ s .«pause_state» ∷ s .«next_ssn» .0 ∷ s .«next_unordered_mid» .0 ∷ s .«next_ordered_mid» .0
+streamWords s = s .priority ∷ pauseStateWord (s .«pause_state») ∷ s .«next_ssn» .0 ∷ s .«next_unordered_mid» .0 ∷ s .«next_ordered_mid» .0
     ∷ s .«buffered_amount» ∷ s .«low_threshold» ∷ s .first ∷ s .last ∷ []
 
 -- what load and store do, word by word
@@ -61,21 +98,23 @@ withChain s amount first last = record {
   last = last;
 }
 
+-- a stream in another state
+abbrev pub withPause : OutgoingStream → PauseState → OutgoingStream
+withPause s state = record {
+  priority = s .priority;
+  «pause_state» = state;
+  «next_ssn» = s .«next_ssn»;
+  «next_unordered_mid» = s .«next_unordered_mid»;
+  «next_ordered_mid» = s .«next_ordered_mid»;
+  «buffered_amount» = s .«buffered_amount»;
+  «low_threshold» = s .«low_threshold»;
+  first = s .first;
+  last = s .last;
+}
+
 -- every narrow field is a value of its type
 pub record FitsStream (s : OutgoingStream) : Type 0 where
   pub priority-fits : s .priority < 65536
-  pub pause-state-fits : s .«pause_state» < 256
   pub ssn-fits : s .«next_ssn» .0 < 65536
   pub unordered-mid-fits : s .«next_unordered_mid» .0 < 4294967296
   pub ordered-mid-fits : s .«next_ordered_mid» .0 < 4294967296
-
--- the state of a number; above 3 it is the last
-abbrev pub pauseStateOf : ℕ → PauseState
-pauseStateOf n = pick (eqb n 0) NotPaused (pick (eqb n 1) Pending (pick (eqb n 2) Paused Resetting))
-
--- the number of a state
-abbrev pub pauseStateNumber : PauseState → ℕ
-pauseStateNumber NotPaused = 0
-pauseStateNumber Pending = 1
-pauseStateNumber Paused = 2
-pauseStateNumber Resetting = 3

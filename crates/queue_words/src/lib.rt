@@ -11,7 +11,7 @@
 //     19488 to 20767      ActiveStreamInfo, the active streams       256       5   5
 //
 // A row's words are its struct's fields in their order. A word that is too large for its field is read modulo the field's
-// width, and a word for a flag is true where it is 1. A place is the number of a row; 1024 stands for no message.
+// width, a word for a flag is true where it is 1, and a pause state's word above 3 is resetting. A place is the number of a row; 1024 stands for no message.
 ghost use mathlib.Core.Path.{_≡_};
 ghost use lib.ListN.{length};
 
@@ -59,10 +59,8 @@ pub use known::store_known;
 pub use streams::OutgoingStream;
 pub use streams::PauseState;
 pub use streams::load_stream;
-pub use streams::pause_state_number;
-pub use streams::pause_state_of;
 pub use streams::store_stream;
-pub use streams::stream_fits;
+pub use streams::with_pause;
 
 pub const QUEUE_WORDS: usize = 20768;
 

@@ -1,18 +1,94 @@
 // The streams: 256 rows of 10 words from word 544 on, 9 of them used. A row does not hold its stream's id: the known streams say it.
 ghost use mathlib.Core.Path.{_≡_};
 ghost use Prim.Native.Nat.{_<_};
-ghost use Rattle.queue_words.specs.Streams.{streamOut, streamIn, streamAt, putStream, putChain, FitsStream};
-ghost use Rattle.queue_words.specs.Streams.{pauseStateOf, pauseStateNumber};
+ghost use Rattle.queue_words.specs.Streams.{pauseStateOf, pauseStateWord, isOpen, isPending, isPaused, isResetting};
+ghost use Rattle.queue_words.specs.Streams.{streamOut, streamIn, streamAt, putStream, putChain, withPause};
 use crate::QUEUE_WORDS;
 use types::Mid;
 use types::Ssn;
 
 const BASE: usize = 544;
 
+// "States: open, pending, paused, resetting." Open is the Rust's NotPaused.
+pub enum PauseState {
+    NotPaused,
+    Pending,
+    Paused,
+    Resetting,
+}
+
+impl PauseState {
+    pub fn is_open(self) -> bool
+        ensures { λ r. ⌜ r ≡ isOpen self ⌝ }
+    {
+        match self {
+            PauseState::NotPaused => true,
+            PauseState::Pending => false,
+            PauseState::Paused => false,
+            PauseState::Resetting => false,
+        }
+    }
+
+    pub fn is_pending(self) -> bool
+        ensures { λ r. ⌜ r ≡ isPending self ⌝ }
+    {
+        match self {
+            PauseState::NotPaused => false,
+            PauseState::Pending => true,
+            PauseState::Paused => false,
+            PauseState::Resetting => false,
+        }
+    }
+
+    pub fn is_paused(self) -> bool
+        ensures { λ r. ⌜ r ≡ isPaused self ⌝ }
+    {
+        match self {
+            PauseState::NotPaused => false,
+            PauseState::Pending => false,
+            PauseState::Paused => true,
+            PauseState::Resetting => false,
+        }
+    }
+
+    pub fn is_resetting(self) -> bool
+        ensures { λ r. ⌜ r ≡ isResetting self ⌝ }
+    {
+        match self {
+            PauseState::NotPaused => false,
+            PauseState::Pending => false,
+            PauseState::Paused => false,
+            PauseState::Resetting => true,
+        }
+    }
+}
+
+// The state of a word: 0 to 3 in the order above. A word above 3, which no queue holds, is taken for the last.
+fn pause_state_of(w: u64) -> PauseState
+    ensures { λ r. ⌜ r ≡ pauseStateOf w ⌝ }
+{
+    match w {
+        0 => PauseState::NotPaused,
+        1 => PauseState::Pending,
+        2 => PauseState::Paused,
+        _ => PauseState::Resetting,
+    }
+}
+
+fn pause_state_word(p: PauseState) -> u64
+    ensures { λ r. ⌜ r ≡ pauseStateWord p ⌝ }
+{
+    match p {
+        PauseState::NotPaused => 0,
+        PauseState::Pending => 1,
+        PauseState::Paused => 2,
+        PauseState::Resetting => 3,
+    }
+}
+
 pub struct OutgoingStream {
     pub priority: u16,
-    // A number of PauseState.
-    pub pause_state: u8,
+    pub pause_state: PauseState,
     pub next_ssn: Ssn,
     pub next_unordered_mid: Mid,
     pub next_ordered_mid: Mid,
@@ -28,9 +104,10 @@ fn stream_out(queue: &[u64; QUEUE_WORDS], i: usize) -> OutgoingStream
     ensures { λ r. ⌜ r ≡ streamOut (now (queue .entry)) i ⌝ }
 {
     let at = BASE + i * 10;
+    let state = pause_state_of(queue[at + 1]);
     OutgoingStream {
         priority: (queue[at + 0] % 65536) as u16,
-        pause_state: (queue[at + 1] % 256) as u8,
+        pause_state: state,
         next_ssn: Ssn((queue[at + 2] % 65536) as u16),
         next_unordered_mid: Mid((queue[at + 3] % 4294967296) as u32),
         next_ordered_mid: Mid((queue[at + 4] % 4294967296) as u32),
@@ -45,9 +122,11 @@ fn stream_in(queue: &mut [u64; QUEUE_WORDS], i: usize, s: OutgoingStream)
     requires { ⌜ i < 256 ⌝ }
     ensures { λ _. ⌜ now (queue .exit) ≡ streamIn (now (queue .entry)) i s ⌝ }
 {
+    let state = s.pause_state;
+    let word = pause_state_word(state);
     let at = BASE + i * 10;
     queue[at + 0] = s.priority as u64;
-    queue[at + 1] = s.pause_state as u64;
+    queue[at + 1] = word;
     queue[at + 2] = s.next_ssn.0 as u64;
     queue[at + 3] = s.next_unordered_mid.0 as u64;
     queue[at + 4] = s.next_ordered_mid.0 as u64;
@@ -82,37 +161,19 @@ pub fn store_chain(queue: &mut [u64; QUEUE_WORDS], i: usize, amount: u64, first:
     queue[at + 8] = last;
 }
 
-pub fn stream_fits(s: OutgoingStream)
-    ensures { λ _. ⌜ FitsStream s ⌝ }
-{}
-
-// "States: open, pending, paused, resetting." Open is the Rust's NotPaused.
-pub enum PauseState {
-    NotPaused,
-    Pending,
-    Paused,
-    Resetting,
-}
-
-// The state of a number: 0 to 3 in the order above. A number above 3, which no queue holds, is taken for the last.
-pub fn pause_state_of(n: u8) -> PauseState
-    ensures { λ r. ⌜ r ≡ pauseStateOf n ⌝ }
+// A stream in another state.
+pub fn with_pause(s: OutgoingStream, state: PauseState) -> OutgoingStream
+    ensures { λ r. ⌜ r ≡ withPause s state ⌝ }
 {
-    match n {
-        0 => PauseState::NotPaused,
-        1 => PauseState::Pending,
-        2 => PauseState::Paused,
-        _ => PauseState::Resetting,
-    }
-}
-
-pub fn pause_state_number(p: PauseState) -> u8
-    ensures { λ r. ⌜ r ≡ pauseStateNumber p ⌝ }
-{
-    match p {
-        PauseState::NotPaused => 0,
-        PauseState::Pending => 1,
-        PauseState::Paused => 2,
-        PauseState::Resetting => 3,
+    OutgoingStream {
+        priority: s.priority,
+        pause_state: state,
+        next_ssn: Ssn(s.next_ssn.0),
+        next_unordered_mid: Mid(s.next_unordered_mid.0),
+        next_ordered_mid: Mid(s.next_ordered_mid.0),
+        buffered_amount: s.buffered_amount,
+        low_threshold: s.low_threshold,
+        first: s.first,
+        last: s.last,
     }
 }

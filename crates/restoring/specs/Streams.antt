@@ -8,6 +8,7 @@ use Rattle.queue_words.specs.Header.{optionsAt, totalsAt, putTotals, putSchedul
 use Rattle.queue_words.specs.declared.header.Options.{Options}
 use Rattle.queue_words.specs.declared.header.Totals.{Totals}
 use Rattle.queue_words.specs.declared.streams.OutgoingStream.{OutgoingStream}
+use Rattle.queue_words.specs.declared.streams.PauseState.the-variants.{NotPaused}
 use Rattle.queue_streams.specs.Known.{inserted}
 use Rattle.queue_messages.specs.Create.{freed, newScheduler}
 use Rattle.handover_records.specs.Records.{streamAt}
@@ -33,7 +34,7 @@ emptied ws id = freed (putScheduler (putTotals ws (emptyTotals (totalsAt ws) id)
 abbrev pub restoredStream : Options → HandoverOutgoingStream → OutgoingStream
 restoredStream o r = record {
   priority = r .priority;
-  «pause_state» = 0;
+  «pause_state» = NotPaused;
   «next_ssn» = record { 0 = r .«next_ssn» };
   «next_unordered_mid» = record { 0 = r .«next_unordered_mid» };
   «next_ordered_mid» = record { 0 = r .«next_ordered_mid» };

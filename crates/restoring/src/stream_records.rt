@@ -16,6 +16,7 @@ use queue_words::header::load_totals;
 use queue_words::header::store_scheduler_state;
 use queue_words::header::store_totals;
 use queue_words::streams::OutgoingStream;
+use queue_words::streams::PauseState;
 use types::Mid;
 use types::OutgoingMessageId;
 use types::Ssn;
@@ -60,7 +61,7 @@ fn restored_stream(o: Options, r: HandoverOutgoingStream) -> OutgoingStream
 {
     OutgoingStream {
         priority: r.priority,
-        pause_state: 0,
+        pause_state: PauseState::NotPaused,
         next_ssn: Ssn(r.next_ssn),
         next_unordered_mid: Mid(r.next_unordered_mid),
         next_ordered_mid: Mid(r.next_ordered_mid),

@@ -7,7 +7,7 @@ use native.Mathlib.Omega.{arith}
 use Rattle.queue_words.specs.Flags.{pick}
 use Rattle.queue_words.specs.Header.{totalsAt}
 use Rattle.queue_words.specs.Known.{knownAt}
-use Rattle.queue_restarts.specs.Ready.{allPlacesFit, isPaused, oneMore, collected, refusedReady, Readied, readied, ready, markedAll}
+use Rattle.queue_restarts.specs.Ready.{allPlacesFit, pausedAt, oneMore, collected, refusedReady, Readied, readied, ready, markedAll}
 use Rattle.queue_restarts.specs.declared.ready.ReadyStreams.{ReadyStreams}
 use Rattle.queue_restarts.proofs.Loops.{all-fit}
 
@@ -15,7 +15,7 @@ use Rattle.queue_restarts.proofs.Loops.{all-fit}
 collected-few : (ws : List ℕ) (n : ℕ) → collected ws n .count ≤ n
 unfolding collected
 collected-few ws zero = omega arith
-collected-few ws (suc n) = by (isPaused ws (knownAt ws n .place)) (collected-few ws n)
+collected-few ws (suc n) = by (pausedAt ws (knownAt ws n .place)) (collected-few ws n)
   where
     by : (b : Bool) → collected ws n .count ≤ n → pick b (oneMore (collected ws n) (knownAt ws n .id .0)) (collected ws n) .count ≤ suc n
     by true few = omega arith

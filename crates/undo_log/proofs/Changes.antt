@@ -14,7 +14,7 @@ use Rattle.queue_words.specs.Header.{totalsAt, totalsWords, putTotals, schedule
 use Rattle.queue_words.specs.Active.{activeAt, activeWords, putActive, parametersWord}
 use Rattle.queue_words.specs.Items.{putNext, putLength}
 use Rattle.queue_words.specs.Rows.{row, putRow}
-use Rattle.queue_words.specs.Streams.{streamWords, putStream}
+use Rattle.queue_words.specs.Streams.{isPending, streamWords, putStream}
 use Rattle.queue_words.specs.declared.active.ActiveStreamInfo.{ActiveStreamInfo}
 use Rattle.queue_words.specs.declared.active.SchedulingParameters.{SchedulingParameters}
 use Rattle.queue_words.specs.declared.header.Gaps.{Gaps}
@@ -223,7 +223,7 @@ module _ (row place at : ℕ) where
 
     near-scheduled : (s : OutgoingStream) (next : ℕ) → Near row place at ws (scheduledBehind ws id s next .next)
     unfolding scheduledBehind
-    near-scheduled s next = by (eqb (s .«pause_state») 1)
+    near-scheduled s next = by (isPending (s .«pause_state»))
       where
         by : (t : Bool) → Near row place at ws (pick t (removeStream ws id) (setBytesRemaining ws id (headSize ws next) (parametersFor (totalsAt ws .interleaving) (s .priority))) .next)
         by true = near-removed

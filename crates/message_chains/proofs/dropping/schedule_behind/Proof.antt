@@ -1,6 +1,5 @@
 -- `message_chains::dropping::schedule_behind` meets its contract: each return is what its definition says, by what the calls ensure and the tests taken. Assumes nothing.
 use borrow.Author.Needs.{needs}
-use borrow.Author.Tests.{eq-eqb, ne-eqb}
 use Rattle.message_chains.specs.Dropping.{scheduledBehind}
 use Rattle.message_chains.proofs.dropping.schedule_behind.Statement.{statement}
 use Rattle.message_chains.proofs.dropping.schedule_behind.Tie as tie
@@ -9,7 +8,8 @@ returns : tie.Need-returns
 unfolding scheduledBehind
 returns c =
     rw (
-      eq-eqb _ _ (c .before .before .if1 .taken),
+      ← (c .before .before .before .is-pending .ensures),
+      (c .before .before .if1 .taken),
       ← (c .remove-stream .ensures),
     )
 
@@ -17,7 +17,8 @@ returns-2 : tie.Need-returns-2
 unfolding scheduledBehind
 returns-2 c =
     rw (
-      ne-eqb _ _ (c .before .before .before .before .before .before .before .if1 .left),
+      ← (c .before .before .before .before .before .before .before .before .is-pending .ensures),
+      (c .before .before .before .before .before .before .before .if1 .left),
       ← (c .before .before .before .before .before .load-totals .ensures),
       ← (c .before .before .before .head-size .ensures),
       ← (c .before .before .parameters-for .ensures),
@@ -28,6 +29,7 @@ pub schedule-behind-spec : {M : Type 1} → statement M
 schedule-behind-spec =
     tie.close
     (tie.spec
+    (λ c. search needs)
     (λ c. search needs)
     returns
     (λ c. search needs)

@@ -8,6 +8,7 @@ returns : tie.Need-returns
 unfolding withoutHead
 returns c =
     rw (
+      (c .before .before .with-pause .ensures),
       ← (c .before .minus .ensures),
       ← (c .last-behind .ensures),
     )
@@ -16,6 +17,7 @@ pub without-head-spec : {M : Type 1} → statement M
 without-head-spec =
     tie.close
     (tie.spec
+    (λ c. search needs)
     (λ c. search needs)
     (λ c. search needs)
     returns)

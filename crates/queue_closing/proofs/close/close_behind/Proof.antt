@@ -6,14 +6,7 @@ use Rattle.queue_closing.proofs.close.close_behind.Tie as tie
 
 returns : tie.Need-returns
 unfolding closeBehind
-returns c =
-    rw (
-      ← (c .before .before .before .before .before .before .before .before .before .before .may-sweep .ensures),
-      (c .before .before .before .before .before .before .before .before .before .if1 .taken),
-      ← (c .before .before .before .before .before .before .sweep-chain .ensures),
-      ← (c .before .before .store-next .ensures),
-      ← (c .store-stream .ensures),
-    )
+returns c = rw (← (c .before .before .before .before .before .before .before .before .before .before .before .may-sweep .ensures), (c .before .before .before .before .before .before .before .before .before .before .if1 .taken), ← (c .before .before .before .before .before .before .before .sweep-chain .ensures), ← (c .before .before .before .store-next .ensures), (c .store-stream .ensures), (c .before .before .with-pause .ensures))
 
 returns-2 : tie.Need-returns-2
 unfolding closeBehind
@@ -27,6 +20,7 @@ pub close-behind-spec : {M : Type 1} → statement M
 close-behind-spec =
     tie.close
     (tie.spec
+    (λ c. search needs)
     (λ c. search needs)
     (λ c. search needs)
     (λ c. search needs)

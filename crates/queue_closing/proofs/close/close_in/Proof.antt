@@ -1,6 +1,5 @@
 -- `queue_closing::close::close_in` meets its contract: each return is what its definition says, by what the calls ensure and the tests taken. Assumes nothing.
 use borrow.Author.Needs.{needs}
-use borrow.Author.Tests.{le-ltb, lt-ltb}
 use Rattle.queue_closing.specs.Close.{closeIn}
 use Rattle.queue_closing.proofs.close.close_in.Statement.{statement}
 use Rattle.queue_closing.proofs.close.close_in.Tie as tie
@@ -9,17 +8,19 @@ returns : tie.Need-returns
 unfolding closeIn
 returns c =
     rw (
-      ← (c .before .before .load-stream .ensures),
-      lt-ltb _ _ (c .if1 .taken),
+      ← (c .before .before .before .before .before .before .before .load-stream .ensures),
+      ← (c .before .before .before .before .before .before .is-open .ensures),
+      (c .before .before .before .before .before .if1 .taken),
+      ← (c .before .before .close-open .ensures),
     )
 
 returns-2 : tie.Need-returns-2
 unfolding closeIn
 returns-2 c =
     rw (
-      ← (c .before .before .before .before .before .before .before .load-stream .ensures),
-      le-ltb _ _ (c .before .before .before .before .before .if1 .left),
-      ← (c .before .before .close-open .ensures),
+      ← (c .before .before .load-stream .ensures),
+      ← (c .before .is-open .ensures),
+      (c .if1 .left),
     )
 
 pub close-in-spec : {M : Type 1} → statement M
@@ -27,7 +28,8 @@ close-in-spec =
     tie.close
     (tie.spec
     (λ c. search needs)
+    (λ c. search needs)
+    (λ c. search needs)
+    (λ c. search needs)
     returns
-    (λ c. search needs)
-    (λ c. search needs)
     returns-2)

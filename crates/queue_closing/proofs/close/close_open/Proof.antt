@@ -15,12 +15,7 @@ returns c =
 
 returns-2 : tie.Need-returns-2
 unfolding closeOpen
-returns-2 c =
-    rw (
-      le-ltb _ _ (c .before .before .before .before .if1 .left),
-      eq-eqb _ _ (c .before .before .if2 .taken),
-      ← (c .store-stream .ensures),
-    )
+returns-2 c = rw (le-ltb _ _ (c .before .before .before .before .before .if1 .left), eq-eqb _ _ (c .before .before .before .if2 .taken), (c .store-stream .ensures), (c .before .before .with-pause .ensures))
 
 returns-3 : tie.Need-returns-3
 unfolding closeOpen
@@ -49,6 +44,7 @@ close-open-spec =
     tie.close
     (tie.spec
     returns
+    (λ c. search needs)
     (λ c. search needs)
     returns-2
     (λ c. search needs)

@@ -7,15 +7,7 @@ use Rattle.queue_closing.proofs.close.close_whole.Tie as tie
 
 returns : tie.Need-returns
 unfolding closeWhole
-returns c =
-    rw (
-      ← (c .before .before .before .before .before .before .before .before .before .before .before .may-sweep .ensures),
-      (c .before .before .before .before .before .before .before .before .before .before .if1 .taken),
-      ← (c .before .before .before .before .before .before .before .before .remove-stream .ensures),
-      (c .before .before .before .before .before .before .before .if2 .taken),
-      ← (c .before .before .before .before .sweep-chain .ensures),
-      ← (c .store-stream .ensures),
-    )
+returns c = rw (← (c .before .before .before .before .before .before .before .before .before .before .before .before .may-sweep .ensures), (c .before .before .before .before .before .before .before .before .before .before .before .if1 .taken), ← (c .before .before .before .before .before .before .before .before .before .remove-stream .ensures), (c .before .before .before .before .before .before .before .before .if2 .taken), ← (c .before .before .before .before .before .sweep-chain .ensures), (c .store-stream .ensures), (c .before .before .with-pause .ensures))
 
 returns-2 : tie.Need-returns-2
 returns-2 c = whole-refused _ _ _ _ _ _ _ _ (c .before .before .before .before .may-sweep .ensures) (c .before .before .before .if1 .taken) (c .before .remove-stream .ensures) (c .if2 .left)
@@ -32,6 +24,7 @@ pub close-whole-spec : {M : Type 1} → statement M
 close-whole-spec =
     tie.close
     (tie.spec
+    (λ c. search needs)
     (λ c. search needs)
     (λ c. search needs)
     (λ c. search needs)

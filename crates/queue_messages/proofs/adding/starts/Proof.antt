@@ -1,6 +1,5 @@
 -- `queue_messages::adding::starts` meets its contract: each return is what its definition says, by what the calls ensure and the tests taken. Assumes nothing.
 use borrow.Author.Needs.{needs}
-use borrow.Author.Tests.{le-ltb, lt-ltb}
 use Rattle.queue_messages.specs.Add.{starts}
 use Rattle.queue_messages.proofs.adding.starts.Statement.{statement}
 use Rattle.queue_messages.proofs.adding.starts.Tie as tie
@@ -8,22 +7,23 @@ use Rattle.queue_messages.proofs.adding.starts.Tie as tie
 returns : tie.Need-returns
 unfolding starts
 returns c =
-    rw
-    (
-    lt-ltb _ _ (c .if1 .taken)
+    rw (
+      ← (c .before .before .may-start .ensures),
+      (c .before .if1 .taken),
     )
 
 returns-2 : tie.Need-returns-2
 unfolding starts
 returns-2 c =
-    rw
-    (
-    le-ltb _ _ (c .before .if1 .left)
+    rw (
+      ← (c .before .may-start .ensures),
+      (c .if1 .left),
     )
 
 pub starts-spec : {M : Type 1} → statement M
 starts-spec =
     tie.close
     (tie.spec
+    (λ c. search needs)
     returns
     returns-2)

@@ -1,7 +1,8 @@
 -- `queue_questions::questions::ready_among` meets its contract: what is asked is whether a stream is paused from position i on. Assumes nothing.
-use mathlib.Core.Path.{_≡_}
+use mathlib.Core.Path.{_≡_, sym, _∙_}
 use Prim.Native.Nat.{_≤_, _-_}
 use native.Mathlib.Omega.{arith}
+use borrow.Author.Needs.{needs}
 use Rattle.queue_questions.specs.Questions.{readyAmong}
 use Rattle.queue_questions.proofs.Exits.{ready-start, ready-broken, ready-here, ready-next, ready-end}
 use Rattle.queue_questions.proofs.questions.ready_among.Statement.{statement}
@@ -20,10 +21,10 @@ returns : tie.Need-returns Inv-loop μ-loop
 returns c = ready-broken _ _ _ (c .before .before .before .before .loop .inv .1) (c .before .before .before .loop-test .taken) _ (c .before .before .load-known .ensures) (c .if1 .taken)
 
 returns-2 : tie.Need-returns-2 Inv-loop μ-loop
-returns-2 c = ready-here _ _ _ (c .before .before .before .before .before .before .before .loop .inv .1) (c .before .before .before .before .before .before .loop-test .taken) _ (c .before .before .before .before .before .load-known .ensures) (c .before .before .before .if1 .left) _ (c .before .before .load-stream .ensures) (c .if2 .taken)
+returns-2 c = ready-here _ _ _ (c .before .before .before .before .before .before .before .loop .inv .1) (c .before .before .before .before .before .before .loop-test .taken) _ (c .before .before .before .before .before .load-known .ensures) (c .before .before .before .if1 .left) _ (c .before .before .load-stream .ensures) (sym (c .before .is-paused .ensures) ∙ c .if2 .taken)
 
 loop-again : tie.Need-loop-again Inv-loop μ-loop
-loop-again c = (omega arith, ready-next _ _ _ (c .before .before .before .before .before .before .before .loop .inv .1) (c .before .before .before .before .before .before .loop-test .taken) _ (c .before .before .before .before .before .load-known .ensures) (c .before .before .before .if1 .left) _ (c .before .before .load-stream .ensures) (c .if2 .left))
+loop-again c = (omega arith, ready-next _ _ _ (c .before .before .before .before .before .before .before .loop .inv .1) (c .before .before .before .before .before .before .loop-test .taken) _ (c .before .before .before .before .before .load-known .ensures) (c .before .before .before .if1 .left) _ (c .before .before .load-stream .ensures) (sym (c .before .is-paused .ensures) ∙ c .if2 .left))
 
 returns-3 : tie.Need-returns-3 Inv-loop μ-loop
 returns-3 c = ready-end _ _ _ (c .before .loop .inv .1) (c .loop-test .left)
@@ -38,6 +39,7 @@ ready-among-spec =
     (λ c κs. omega arith)
     returns
     (λ c κs. omega arith)
+    (λ c κs. search needs)
     returns-2
     (λ c. omega arith)
     (λ c. omega arith)

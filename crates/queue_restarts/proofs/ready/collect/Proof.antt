@@ -38,8 +38,8 @@ loop-again c =
       omega arith,
       ⊎-elim (λ w. omega (arith, w .2, (inv .1))) (λ w. omega (arith, w .2, (inv .1))) (c .if2 .came),
       ⊎-elim
-          (λ w. ap₂ gathered (w .2) (w .1) ∙ collected-more _ _ _ _ (inv .2) _ (b .load-known .ensures) _ (c .before .is-paused .ensures) (w .0 .taken))
-          (λ w. ap₂ gathered (w .2) (w .1) ∙ collected-same _ _ _ _ (inv .2) _ (b .load-known .ensures) _ (c .before .is-paused .ensures) (w .0 .left))
+          (λ w. ap₂ gathered (w .2) (w .1) ∙ collected-more _ _ _ _ (inv .2) _ (b .load-known .ensures) _ (c .before .paused-at .ensures) (w .0 .taken))
+          (λ w. ap₂ gathered (w .2) (w .1) ∙ collected-same _ _ _ _ (inv .2) _ (b .load-known .ensures) _ (c .before .paused-at .ensures) (w .0 .left))
           (c .if2 .came),
       fit-next _ _ _ (inv .3) (b .before .loop-test .taken) _ (b .load-known .ensures) (omega (arith, c .before .before .if1 .left)),
     )

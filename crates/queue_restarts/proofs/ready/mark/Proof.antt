@@ -1,6 +1,6 @@
 -- `queue_restarts::ready::mark` meets its contract: each return is what its definition says, by what the calls ensure and the tests taken. Assumes nothing.
 use borrow.Author.Needs.{needs}
-use borrow.Author.Tests.{eq-eqb, le-ltb, lt-ltb, ne-eqb}
+use borrow.Author.Tests.{le-ltb, lt-ltb}
 use Rattle.queue_restarts.specs.Ready.{marked}
 use Rattle.queue_restarts.proofs.ready.mark.Statement.{statement}
 use Rattle.queue_restarts.proofs.ready.mark.Tie as tie
@@ -15,13 +15,7 @@ returns c =
 
 returns-2 : tie.Need-returns-2
 unfolding marked
-returns-2 c =
-    rw (
-      le-ltb _ _ (c .before .before .before .before .before .before .if1 .left),
-      ← (c .before .before .before .before .load-stream .ensures),
-      eq-eqb _ _ (c .before .before .if2 .taken),
-      ← (c .store-stream .ensures),
-    )
+returns-2 c = rw (le-ltb _ _ (c .before .before .before .before .before .before .before .if1 .left), ← (c .before .before .before .before .before .load-stream .ensures), ← (c .before .before .before .before .is-paused .ensures), (c .before .before .before .if2 .taken), (c .store-stream .ensures), (c .before .before .with-pause .ensures))
 
 returns-3 : tie.Need-returns-3
 unfolding marked
@@ -29,7 +23,8 @@ returns-3 c =
     rw (
       le-ltb _ _ (c .before .before .before .before .if1 .left),
       ← (c .before .before .load-stream .ensures),
-      ne-eqb _ _ (c .if2 .left),
+      ← (c .before .is-paused .ensures),
+      (c .if2 .left),
     )
 
 pub mark-spec : {M : Type 1} → statement M
@@ -37,6 +32,8 @@ mark-spec =
     tie.close
     (tie.spec
     returns
+    (λ c. search needs)
+    (λ c. search needs)
     (λ c. search needs)
     (λ c. search needs)
     returns-2

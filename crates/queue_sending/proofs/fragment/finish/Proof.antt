@@ -10,6 +10,7 @@ use Rattle.queue_words.specs.declared.active.SchedulingParameters.{SchedulingPa
 use Rattle.queue_words.specs.declared.header.Totals.{Totals}
 use Rattle.queue_words.specs.declared.items.Item.{Item}
 use Rattle.queue_words.specs.declared.streams.OutgoingStream.{OutgoingStream}
+use Rattle.queue_words.specs.declared.streams.PauseState.{PauseState}
 use Rattle.stream_scheduler.specs.Anew.{acceptLast}
 use Rattle.stream_scheduler.specs.Words.{Outcome, outcome}
 use Rattle.queue_streams.specs.Waiting.{headSize, parametersFor}
@@ -20,15 +21,15 @@ use Rattle.queue_sending.proofs.fragment.finish.Statement.{statement}
 use Rattle.queue_sending.proofs.fragment.finish.Tie as tie
 
 -- Over plain values.
-the-end : (ws : List ℕ) (at id row : ℕ) (s : OutgoingStream) (m : Item) (n state : ℕ) (t : Totals) (first bytes : ℕ) (p : SchedulingParameters) (r : Bool) (u v : List ℕ) (o : OutgoingStream) (w : List ℕ)
+the-end : (ws : List ℕ) (at id row : ℕ) (s : OutgoingStream) (m : Item) (n : ℕ) (state : PauseState) (t : Totals) (first bytes : ℕ) (p : SchedulingParameters) (r : Bool) (u v : List ℕ) (o : OutgoingStream) (w : List ℕ)
     → state ≡ endPending (s .«pause_state») → t ≡ totalsAt ws → first ≡ nextFirst state (m .next) → bytes ≡ headSize ws first → p ≡ parametersFor (t .interleaving) (s .priority)
     → outcome r u ≡ acceptLast ws at id n bytes p → v ≡ released u (s .first) n → o ≡ withoutHead s state (m .next) n → w ≡ putStream v row o → w ≡ finished ws at id row s m n
 unfolding finished waitingOn
 the-end ws at id row s m n state t first bytes p r u v o w es et ef eb ep eu ev eo ew =
-    let b : bytes ≡ headSize ws (nextFirst (endPending (s .«pause_state»)) (m .next)) = eb ∙ ap (headSize ws) (ef ∙ ap (λ (x : ℕ). nextFirst x (m .next)) es) in
+    let b : bytes ≡ headSize ws (nextFirst (endPending (s .«pause_state»)) (m .next)) = eb ∙ ap (headSize ws) (ef ∙ ap (λ (x : PauseState). nextFirst x (m .next)) es) in
     let q : p ≡ parametersFor (totalsAt ws .interleaving) (s .priority) = ep ∙ ap (λ (x : Totals). parametersFor (x .interleaving) (s .priority)) et in
     let a : u ≡ waitingOn ws at id s (m .next) n = ap (λ (x : Outcome). x .next) eu ∙ ap₂ (λ (x : ℕ) (y : SchedulingParameters). (acceptLast ws at id n x y) .next) b q in
-    ew ∙ ap₂ (λ (x : List ℕ) (y : OutgoingStream). putStream x row y) (ev ∙ ap (λ (x : List ℕ). released x (s .first) n) a) (eo ∙ ap (λ (x : ℕ). withoutHead s x (m .next) n) es)
+    ew ∙ ap₂ (λ (x : List ℕ) (y : OutgoingStream). putStream x row y) (ev ∙ ap (λ (x : List ℕ). released x (s .first) n) a) (eo ∙ ap (λ (x : PauseState). withoutHead s x (m .next) n) es)
 
 returns : tie.Need-returns
 returns c =
@@ -47,5 +48,5 @@ finish-spec =
     (λ c. search needs)
     (λ c. search needs)
     (λ c. search needs)
-    (λ c. search needs)
+    (λ c κs. c .before .before .before .before .before .before .before .before .before .before .before .before .before .pre .0)
     returns)

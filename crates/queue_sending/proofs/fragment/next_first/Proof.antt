@@ -1,5 +1,5 @@
 -- `queue_sending::fragment::next_first` meets its contract: each return is what its definition says, by what the calls ensure and the tests taken. Assumes nothing.
-use borrow.Author.Tests.{eq-eqb, ne-eqb}
+use borrow.Author.Needs.{needs}
 use Rattle.queue_sending.specs.Fragment.{nextFirst}
 use Rattle.queue_sending.proofs.fragment.next_first.Statement.{statement}
 use Rattle.queue_sending.proofs.fragment.next_first.Tie as tie
@@ -7,22 +7,23 @@ use Rattle.queue_sending.proofs.fragment.next_first.Tie as tie
 returns : tie.Need-returns
 unfolding nextFirst
 returns c =
-    rw
-    (
-    eq-eqb _ _ (c .if1 .taken)
+    rw (
+      ← (c .before .is-paused .ensures),
+      (c .if1 .taken),
     )
 
 returns-2 : tie.Need-returns-2
 unfolding nextFirst
 returns-2 c =
-    rw
-    (
-    ne-eqb _ _ (c .if1 .left)
+    rw (
+      ← (c .before .is-paused .ensures),
+      (c .if1 .left),
     )
 
 pub next-first-spec : {M : Type 1} → statement M
 next-first-spec =
     tie.close
     (tie.spec
+    (λ c. search needs)
     returns
     returns-2)

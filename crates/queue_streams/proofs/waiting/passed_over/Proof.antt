@@ -1,14 +1,29 @@
--- `queue_streams::waiting::passed_over` meets its contract: each return is a case of `passedOver` (proofs/Waits.antt). Assumes nothing.
+-- `queue_streams::waiting::passed_over` meets its contract: each return is what its definition says, by what the calls ensure and the tests taken. Assumes nothing.
 use borrow.Author.Needs.{needs}
-use Rattle.queue_streams.proofs.Waits.{counts-all, counts-state}
+use Rattle.queue_streams.specs.Waiting.{passedOver}
 use Rattle.queue_streams.proofs.waiting.passed_over.Statement.{statement}
 use Rattle.queue_streams.proofs.waiting.passed_over.Tie as tie
 
 returns : tie.Need-returns
-returns c = counts-all _ _ (c .if1 .taken)
+unfolding passedOver
+returns c =
+    rw
+    (
+    (c .if1 .taken)
+    )
 
 returns-2 : tie.Need-returns-2
-returns-2 c = counts-state _ _ (c .if1 .left)
+unfolding passedOver
+returns-2 c =
+    rw (
+      (c .before .if1 .left),
+      ← (c .is-resetting .ensures),
+    )
 
 pub passed-over-spec : {M : Type 1} → statement M
-passed-over-spec = tie.close (tie.spec returns returns-2)
+passed-over-spec =
+    tie.close
+    (tie.spec
+    returns
+    (λ c. search needs)
+    returns-2)
