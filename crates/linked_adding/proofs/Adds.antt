@@ -65,7 +65,7 @@ retransmissions-fit : (r : MaxRetransmissions) → Option·getD (retransmissions
 retransmissions-fit retr.Unlimited h = omega arith
 retransmissions-fit (retr.Limited n) h = h
 
-item-fits : (ws : List ℕ) (time : ℕ) (m : Message) (bs : List ℕ) → MessageTyped (messageOf m bs) → FitsItem (newItem time (totalsAt ws .«next_message_id») m)
+pub item-fits : (ws : List ℕ) (time : ℕ) (m : Message) (bs : List ℕ) → MessageTyped (messageOf m bs) → FitsItem (newItem time (totalsAt ws .«next_message_id») m)
 unfolding newItem
 item-fits ws time m bs t = record {
   ssn-fits = omega arith;

@@ -11,3 +11,4 @@ pub mod Refuses
 pub mod Adds
 pub mod Fitting
 pub mod Meets
+pub mod Settled

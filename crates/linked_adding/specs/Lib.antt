@@ -2,3 +2,4 @@
 pub mod Create
 pub mod Message
 pub mod Add
+pub mod Settled
