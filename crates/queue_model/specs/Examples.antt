@@ -5,13 +5,14 @@ use mathlib.Core.List.{List, [], _∷_, _++_, map}
 use mathlib.Core.Option.{Option, none, some}
 use Prim.Native.Nat.{ℕ}
 use lib.ListN.{length, replicate}
-use Rattle.queue_model.specs.Types.{Item, Counters, weighted, Queue, Event, Answer, refused, done, number, flag, ids, fragment, nothing-waits, filled, Outcome}
+use Rattle.queue_model.specs.Types.{Item, Counters, round-robin, weighted, Queue, Event, Answer, refused, done, number, flag, ids, fragment, nothing-waits, filled, Outcome}
 use Rattle.queue_model.specs.Scheduler.{cost}
 use Rattle.queue_model.specs.Streams.{new-queue}
 use Rattle.queue_model.specs.Add.{expiry, new-item}
 use Rattle.queue_model.specs.Produce.{give-numbers}
 use Rattle.queue_model.specs.Questions.{readiness}
-use Rattle.queue_model.specs.Image.{bit, ms-left-at, write-image}
+use Rattle.queue_model.specs.Image.{bit, ms-left-at, write-image, save}
+use Rattle.queue_model.specs.Answers.{saving-number}
 use Rattle.queue_model.specs.Run.{Call, add, produce, discard, close, ready-ids, commit, rollback, reset, set-threshold, set-priority, set-interleaving, restore, ask-priority, ask-amount, ask-threshold, ask-total, ask-empty, ask-has-data, ask-streams-ready, ask-ready-count, run, after}
 
 -- A queue with payload limit 1,000 and stream thresholds 0; the default priority, the total's threshold, handover with waiting data and the strict rule of a restart as given.
@@ -188,7 +189,7 @@ unfolding put get
 halves = set-interleaving true ∷ put 7 40 0 none ∷ get 0 10 ∷ put 5 20 0 none ∷ get 0 10 ∷ put 3 10 0 none ∷ []
 
 pub facts : List Row
-unfolding shows fires fires-at thrice put get begun ended noted ready-with strictly image-after other-image half halves
+unfolding shows fires fires-at thrice put get begun ended noted ready-with strictly image-after other-image half halves after-message cost save queue
 facts =
     -- "a remaining half-sent one makes the stream pending"; "When a pending stream's message ends or is discarded, it is paused."
     (shows (put 5 1500 0 none ∷ get 0 1000 ∷ close 2305 5 ∷ ready-ids ∷ get 0 1000 ∷ ready-ids ∷ []) gives (begun 5 ++ ended 5 ++ (5 ∷ [])))
@@ -247,7 +248,14 @@ facts =
     ∷ (shows (put 5 10 0 none ∷ get 0 6 ∷ close 2305 5 ∷ ask-ready-count ∷ get 0 4 ∷ ask-ready-count ∷ []) gives (5 ∷ 6 ∷ 1 ∷ 0 ∷ 0 ∷ 0 ∷ 0 ∷ 0 ∷ 5 ∷ 4 ∷ 0 ∷ 1 ∷ 0 ∷ 0 ∷ 1 ∷ 1 ∷ []))
     ∷ (shows (put 5 10 0 none ∷ put 3 20 0 none ∷ set-threshold 2305 5 4 ∷ ask-amount 5 ∷ ask-total ∷ ask-threshold 5 ∷ ask-threshold 3 ∷ ask-priority 3 ∷ []) gives (10 ∷ 30 ∷ 4 ∷ 0 ∷ 256 ∷ []))
     -- "Readiness is 2 if handover with waiting data is off and the total is above 0, else 0."
-    ∷ ((ready-with [] ∷ ready-with (put 5 10 0 none ∷ []) ∷ []) gives (0 ∷ 2 ∷ []))
+    ∷ ((ready-with [] ∷ ready-with (put 5 1 0 none ∷ []) ∷ ready-with (put 5 10 0 none ∷ []) ∷ []) gives (0 ∷ 2 ∷ 2 ∷ []))
+    -- "Cost without interleaving is 1".
+    ∷ ((cost round-robin 7 ∷ []) gives (1 ∷ []))
+    -- "ordered and unordered counting separately in each stream; only ordered ones get an SSN": each counter grows from what it was.
+    ∷ (after-message false 5 7 9 gives (6 ∷ 7 ∷ 10 ∷ []))
+    ∷ (after-message true 5 7 9 gives (5 ∷ 8 ∷ 9 ∷ []))
+    -- 11: "The image buffer is shorter than the image": a new queue's has 20 bytes.
+    ∷ ((saving-number (save 100000 19 1 queue) ∷ saving-number (save 100000 20 1 queue) ∷ []) gives (11 ∷ 0 ∷ []))
     -- "the first that applies is given": of 2, 3, 4, 9 and 10; of 4 and 5.
     ∷ (shows (produce 1 0 0 4611686018427387904 262145 ∷ produce 100000 0 0 4611686018427387904 262145 ∷ produce 100000 2305 0 4611686018427387904 262145 ∷ produce 100000 2305 0 0 262145 ∷ produce 100000 2305 0 0 1 ∷ [])
     gives (999 ∷ 2 ∷ 999 ∷ 3 ∷ 999 ∷ 4 ∷ 999 ∷ 9 ∷ 999 ∷ 10 ∷ []))
