@@ -10,3 +10,4 @@ pub mod Passing
 pub mod Numbers
 pub mod Produces
 pub mod After
+pub mod Settled

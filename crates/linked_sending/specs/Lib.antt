@@ -1,2 +1,3 @@
 -- What the next fragment means. Assumes nothing.
 pub mod Meaning
+pub mod Settled
