@@ -14,6 +14,7 @@ mod depth;
 mod dropping;
 mod expired;
 mod images;
+mod packets;
 mod planning;
 mod resets;
 mod sending;
@@ -33,6 +34,7 @@ fn main() {
     sending::growth();
     planning::planning();
     wire::chunks();
+    packets::packets();
     resets::resets();
     expired::passing();
     depth::depth();
