@@ -23,6 +23,7 @@ use send_queue::Produced;
 use send_queue::QUEUE_WORDS;
 use send_queue::buffered_amount;
 use send_queue::buffered_amount_low_threshold;
+use send_queue::count_streams_ready_to_reset;
 use send_queue::get_handover_readiness;
 use send_queue::get_priority;
 use send_queue::get_streams_ready_to_reset;
@@ -91,7 +92,7 @@ fn flag_of(f: Flag) -> Call {
     }
 }
 
-// The questions have the letters 1 to 8. The last three are never refused.
+// The questions have the letters 1 to 9. Those of 6 to 8 are never refused.
 fn question(queue: &[u64; QUEUE_WORDS], letter: u8, id: u16) -> Call {
     match letter {
         b'1' => number_of(buffered_amount(queue, id)),
@@ -99,6 +100,7 @@ fn question(queue: &[u64; QUEUE_WORDS], letter: u8, id: u16) -> Call {
         b'3' => number_of(get_priority(queue, id)),
         b'4' => flag_of(has_data_to_send(queue)),
         b'5' => flag_of(has_streams_ready_to_be_reset(queue)),
+        b'9' => number_of(count_streams_ready_to_reset(queue)),
         _ => plain_question(queue, letter),
     }
 }
@@ -136,7 +138,7 @@ pub(crate) fn call(
         b'P' => produce_call(queue, &*store, events, fragment, state),
         b'D' | b'C' | b'T' => lent_event_call(queue, events, &*state),
         b'G' => ready_call(queue),
-        b'1'..=b'8' => question(&*queue, letter, low16(state[STREAM])),
+        b'1'..=b'9' => question(&*queue, letter, low16(state[STREAM])),
         _ => plain_call(queue, &*state),
     }
 }

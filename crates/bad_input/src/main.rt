@@ -23,6 +23,7 @@ use settle::mark_fragment;
 use settle::settle;
 use state::CREATED;
 use state::EVENT_BUFFER;
+use state::FILL_CALLS;
 use state::FILLING;
 use state::FRAGMENT;
 use state::LETTER;
@@ -70,11 +71,11 @@ fn stops(refusal: u64, state: &mut [u64; STATE]) -> bool {
     false
 }
 
-// The calls of a line: as many as it says, and where words are filled 20 for each time.
+// The calls of a line: as many as it says, and where words are filled each of all calls for each time.
 fn turns(state: &[u64; STATE]) -> u64 {
     let times = state[TIMES] % 1000000;
     if state[FILLING] == 1 {
-        return times * 20;
+        return times * FILL_CALLS;
     }
     times
 }

@@ -3,6 +3,7 @@ ghost use Prim.Native.Nat.{_<_};
 use crate::state::BELOW;
 use crate::state::CREATED;
 use crate::state::EVENT_LIST;
+use crate::state::FILL_CALLS;
 use crate::state::FILLING;
 use crate::state::FRAGMENT_BYTES;
 use crate::state::INTERLEAVE;
@@ -177,12 +178,12 @@ pub(crate) fn prepare(
     if state[FILLING] == 0 {
         return;
     }
-    let turn = state[TURN] % 20;
+    let turn = state[TURN] % FILL_CALLS;
     if turn == 0 {
         fill(queue, good, state);
         *kept = *queue;
     }
     draw_arguments(state);
-    state[LETTER] = letter_at(b"12345678PADCTYIGKBRN", turn);
+    state[LETTER] = letter_at(b"123456789PADCTYIGKBRN", turn);
     state[TURN] = turn + 1;
 }

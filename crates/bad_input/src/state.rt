@@ -88,6 +88,9 @@ pub const FILLING: usize = 51;
 
 pub const TURN: usize = 52;
 
+// The calls made on each fill.
+pub const FILL_CALLS: u64 = 21;
+
 // The lengths of the arrays. Each has more than a call is lent, so that a write past that shows.
 pub const EVENT_BUFFER: usize = EVENT_WORDS + 2;
 
