@@ -1,0 +1,4 @@
+-- The link of a receiver's words to the model. Assumes nothing.
+pub mod Found
+pub mod Walks
+pub mod Back

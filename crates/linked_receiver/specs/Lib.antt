@@ -1,0 +1,2 @@
+-- What the words of a receiver stand for. Assumes nothing.
+pub mod Rows
