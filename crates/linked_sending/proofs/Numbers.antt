@@ -3,7 +3,7 @@ use Prim.Native.Nat.{ℕ}
 use mathlib.Core.Path.{_≡_, refl, ap, _∙_}
 use mathlib.Core.List.{List, map}
 use lib.ListN.{length}
-use Rattle.queue_model.specs.Types.{Answer, refused, done, number, flag, ids, fragment, nothing-waits, Step}
+use Rattle.queue_model.specs.Types.{Answer, refused, done, number, flag, ids, fragment, nothing-waits, filled, Step}
 use Rattle.queue_model.specs.Answers.{answer-number, answer-events, fragments-in}
 use Rattle.queue_sending.specs.Data.{ProducedWith, producedNumber, producedEvents, producedData}
 use Rattle.linked_sending.specs.Meaning.{dataOf, producedOf, Sends, TellsFragment}
@@ -16,6 +16,7 @@ number-of (flag b) k = refl
 number-of (ids l) k = refl
 number-of (fragment f) k = refl
 number-of nothing-waits k = refl
+number-of (filled bs n) k = refl
 
 events-of : (a : Answer) (k : ℕ) → producedEvents (producedOf a k) ≡ answer-events a k
 events-of (refused n) k = refl
@@ -25,6 +26,7 @@ events-of (flag b) k = refl
 events-of (ids l) k = refl
 events-of (fragment f) k = refl
 events-of nothing-waits k = refl
+events-of (filled bs n) k = refl
 
 data-of : (a : Answer) (k : ℕ) → producedData (producedOf a k) ≡ map dataOf (fragments-in a)
 data-of (refused n) k = refl
@@ -34,6 +36,7 @@ data-of (flag b) k = refl
 data-of (ids l) k = refl
 data-of (fragment f) k = refl
 data-of nothing-waits k = refl
+data-of (filled bs n) k = refl
 
 pub tells-of : {s : Step} {st es bs : List ℕ} {p : ProducedWith} → Sends s st es bs p → TellsFragment (s .outcome) (p .answer)
 tells-of {s} d = record {

@@ -3,7 +3,7 @@ use Prim.Native.Nat.{ℕ}
 use mathlib.Core.Path.{_≡_, refl, ap, _∙_}
 use mathlib.Core.List.{List}
 use lib.ListN.{length}
-use Rattle.queue_model.specs.Types.{Answer, refused, done, number, flag, ids, fragment, nothing-waits}
+use Rattle.queue_model.specs.Types.{Answer, refused, done, number, flag, ids, fragment, nothing-waits, filled}
 use Rattle.queue_model.specs.Answers.{answer-number, answer-value, answer-events}
 use Rattle.queue_model.specs.Run as run
 use Rattle.queue_streams.specs.Answers.{callNumber, callEvents, numberNumber, numberValue}
@@ -18,6 +18,7 @@ call-number (flag b) k = refl
 call-number (ids l) k = refl
 call-number (fragment f) k = refl
 call-number nothing-waits k = refl
+call-number (filled bs n) k = refl
 
 call-events : (a : Answer) (k : ℕ) → callEvents (callOf a k) ≡ answer-events a k
 call-events (refused n) k = refl
@@ -27,6 +28,7 @@ call-events (flag b) k = refl
 call-events (ids l) k = refl
 call-events (fragment f) k = refl
 call-events nothing-waits k = refl
+call-events (filled bs n) k = refl
 
 pub number-number : (a : Answer) → numberNumber (numberOf a) ≡ answer-number a
 number-number (refused n) = refl
@@ -36,6 +38,7 @@ number-number (flag b) = refl
 number-number (ids l) = refl
 number-number (fragment f) = refl
 number-number nothing-waits = refl
+number-number (filled bs n) = refl
 
 pub number-value : (a : Answer) → numberValue (numberOf a) ≡ answer-value a
 number-value (refused n) = refl
@@ -45,6 +48,7 @@ number-value (flag b) = refl
 number-value (ids l) = refl
 number-value (fragment f) = refl
 number-value nothing-waits = refl
+number-value (filled bs n) = refl
 
 -- Of a call.
 pub tells : {c : run.Call} {ws st : List ℕ} {a : Call} {ws′ st′ : List ℕ} → Does c ws st a ws′ st′ → Tells (shown c ws st) a
