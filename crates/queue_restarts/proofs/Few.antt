@@ -11,7 +11,7 @@ use Rattle.queue_words.specs.Known.{knownAt}
 use Rattle.queue_streams.specs.declared.answers.Call.{Call}
 use Rattle.queue_streams.specs.declared.answers.Call.the-variants.{Accepted, Refused}
 use Rattle.queue_streams.specs.declared.answers.Number.the-variants as number
-use Rattle.queue_restarts.specs.Ready.{allPlacesFit, isPaused, oneMore, collected, refusedReady, markedAll, readied, ready, countOf, readyCount}
+use Rattle.queue_restarts.specs.Ready.{allPlacesFit, pausedAt, oneMore, collected, refusedReady, markedAll, readied, ready, countOf, readyCount}
 use Rattle.queue_restarts.specs.declared.ready.ReadyStreams.{ReadyStreams}
 use Rattle.queue_restarts.proofs.Loops.{all-fit}
 
@@ -23,7 +23,7 @@ pub record Few (n : ℕ) (r : ReadyStreams) : Type 0 where
 collected-few : (ws : List ℕ) (n : ℕ) → Few n (collected ws n)
 unfolding collected
 collected-few ws zero = record { count-few = omega arith; ids-long = length-replicate {A = ℕ} 256 0 }
-collected-few ws (suc n) = by (isPaused ws (knownAt ws n .place)) (collected-few ws n)
+collected-few ws (suc n) = by (pausedAt ws (knownAt ws n .place)) (collected-few ws n)
   where
     by : (b : Bool) → Few n (collected ws n) → Few (suc n) (pick b (oneMore (collected ws n) (knownAt ws n .id .0)) (collected ws n))
     by true f = let l = f .count-few in record { count-few = omega arith; ids-long = length-set (collected ws n .ids) (collected ws n .count) (knownAt ws n .id .0) ∙ f .ids-long }
