@@ -11,6 +11,7 @@ use crate::output::put_broken;
 use crate::output::put_byte;
 use crate::output::put_number;
 use crate::output::put_text;
+use crate::packet::answer_fill;
 use crate::payload::sum_of;
 use crate::plan::answer_plan;
 use crate::ranges::NEW_WITH_RULE;
@@ -396,6 +397,7 @@ pub(crate) fn answer(
         b'g' => answer_ready(queue, kept, output, state),
         b'q' => answer_questions(&*queue, output, state),
         b'k' | b'b' | b'r' | b'y' | b'i' => answer_plain(queue, kept, output, state),
+        b'F' => answer_fill(queue, kept, &*store, events, output, state),
         b'P' => answer_plan(output, state),
         b'W' => answer_write(payload, output, state),
         b'R' => answer_read(&*payload, output, state),

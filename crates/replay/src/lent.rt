@@ -47,7 +47,7 @@ use send_queue::set_priority;
 pub const TOO_SHORT: u8 = 99;
 
 // The words of so many places of the event list.
-fn event_words(places: u64) -> usize {
+pub fn event_words(places: u64) -> usize {
     if places > MOST_PLACES as u64 {
         return EVENT_BUFFER;
     }

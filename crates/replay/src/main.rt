@@ -8,6 +8,7 @@ mod input;
 mod lent;
 mod marks;
 mod output;
+mod packet;
 mod parse;
 mod payload;
 mod plan;

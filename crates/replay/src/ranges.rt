@@ -35,6 +35,7 @@ fn count_of(letter: u8) -> u64 {
         b'Q' => 3,
         b'v' => 4,
         b'n' => NEW,
+        b'F' => 7,
         b'a' => 11,
         b'W' => MOST_NUMBERS,
         _ => NO_CALL,
@@ -79,6 +80,15 @@ fn most_write(k: usize) -> u64 {
     }
 }
 
+fn most_fill(k: usize) -> u64 {
+    match k {
+        2 => 70000,
+        3 | 4 => BITS16,
+        5 | 6 => BITS32,
+        _ => ANY,
+    }
+}
+
 fn most_request(k: usize) -> u64 {
     match k {
         0 => 70000,
@@ -113,6 +123,7 @@ fn most(letter: u8, k: usize) -> u64 {
         b'v' => most_lent(k),
         b'a' => most_add(k),
         b'W' => most_write(k),
+        b'F' => most_fill(k),
         b'Q' => most_request(k),
         b'S' => BITS32,
         b'd' => most_discard(k),
