@@ -2,3 +2,6 @@
 pub mod Lies
 pub mod Steps
 pub mod Exits
+pub mod Orders
+pub mod Packs
+pub mod Laws

@@ -4,3 +4,5 @@ pub mod Packing
 pub mod Putting
 pub mod Reading
 pub mod Dropping
+pub mod Good
+pub mod Promise
