@@ -3,11 +3,12 @@
 // No payload lies from `end` up to `limit`, nor from `from` up to `upto`, and the two gaps are apart. Where messages leave in
 // the order in which they came, the payload dropped begins at `limit` or at `upto`, and the gaps grow with it: the store is a
 // ring, and nothing is searched or moved. A payload dropped elsewhere begins the second gap anew: so it is with those behind a
-// message that stays, and the gap that grows there is taken once the other is used up. A second gap that is longer, and will
-// be wanted soon, stays: so it is with messages of many lengths.
+// message that stays, and the gap that grows there is taken once the other is used up. A second gap that a search has
+// found, that is longer and will be wanted soon, stays: so it is with messages of many lengths.
 ghost use mathlib.Core.Path.{_≡_};
 ghost use Prim.Native.Nat.{_≤_};
 ghost use Rattle.payload_store.specs.Gaps.{gapsWrong, near, gapFor, keeps, gapsLeft};
+use crate::searching::PIECE;
 use crate::searching::less;
 use queue_words::header::Gaps;
 
@@ -63,10 +64,17 @@ pub fn gap_for(g: Gaps, n: u64) -> Gaps
     turned
 }
 
-// Does the second gap stay, where a payload of n bytes is dropped elsewhere? It has as many bytes, and more than half of the first one's.
+// Does the second gap stay, where a payload of n bytes is dropped elsewhere? It was found by a search, so that it begins with a piece,
+// has as many bytes, and more than half of the first one's.
 fn keeps(g: Gaps, n: u64) -> bool
     ensures { λ r. ⌜ r ≡ keeps g n ⌝ }
 {
+    if g.from == 0 {
+        return false;
+    }
+    if g.from % PIECE > 0 {
+        return false;
+    }
     let spare = less(g.upto, g.from);
     if spare < n {
         return false;

@@ -11,7 +11,7 @@ use queue_words::header::Gaps;
 use queue_words::items::load_length;
 use queue_words::items::load_place;
 
-const PIECE: u64 = 8192;
+pub const PIECE: u64 = 8192;
 
 // A store that has so many pieces, or more, is not searched.
 const PIECES: usize = 256;
