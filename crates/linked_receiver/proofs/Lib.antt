@@ -2,3 +2,4 @@
 pub mod Found
 pub mod Walks
 pub mod Back
+pub mod Turns
