@@ -195,7 +195,7 @@ fn the_lengths_and_places_are_the_proved_ones() {
 
 /// The layout, and a sum over what the header declares. Whoever changes a declaration decides whether a host compiled before would be wrong
 /// with it. Then the layout moves, here and in the header, limits.rs and send_queue_c. What is only added has a new sum and no new layout.
-const LAYOUT: (u64, u32) = (4, 3_248_408_036);
+const LAYOUT: (u64, u32) = (4, 2_166_233_182);
 
 #[test]
 fn the_layout_goes_with_what_the_header_declares() {
