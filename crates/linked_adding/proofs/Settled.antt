@@ -2,7 +2,7 @@
 use mathlib.Core.Path.{_≡_, refl, sym, ap, _∙_, subst}
 use mathlib.Core.Bool.{Bool, true, false}
 use mathlib.Core.List.{List}
-use Prim.Native.Nat.{ℕ, _+_, _-_, _≤_, _<_}
+use Prim.Native.Nat.{ℕ, zero, suc, _-_, _≤_, _<_}
 use native.Mathlib.Omega.{arith}
 use borrow.Author.Tests.{le-ltb, lt-ltb, ne-eqb, eq-eqb, ltb-false, ltb-true}
 use lib.Dec.{ltb, leb, eqb}
@@ -25,10 +25,9 @@ use Rattle.payload_store.specs.Words.{placeOf, sizeOf, usedOf, gapsOf}
 use Rattle.payload_store.specs.Gaps.{gaps, room, gapFor, gapsWrong}
 use Rattle.payload_store.specs.Moving.{together}
 use Rattle.payload_store.specs.Searching.{found}
-use Rattle.payload_store.specs.Putting.{Outcome, allFit, putCode, putElsewhere, putPayload, placed}
-use Rattle.payload_store.proofs.Cases.{by-index, by-lt, pick-else, pick-then, false-true}
-use Rattle.payload_store.proofs.Sums.{sum-same}
-use Rattle.payload_store.proofs.Tests.{Sound, PutOk, all-true, true-all, put-zero, put-one}
+use Rattle.payload_store.specs.Putting.{Outcome, tally, rowFits, fitsTo, allFit, putCode, putElsewhere, putPayload, placed}
+use Rattle.payload_store.proofs.Cases.{by-index, by-lt, pick-else, pick-then, pick-both, false-true}
+use Rattle.payload_store.proofs.Tests.{PutOk, put-zero, put-one}
 use Rattle.payload_store.proofs.Frames.{put-frame}
 use Rattle.stream_scheduler.specs.Words.{setIn, beginWaiting}
 use Rattle.queue_streams.specs.Known.{newStream, inserted}
@@ -62,7 +61,7 @@ code-grows false false false false false false false b′ f h = absurd (omega ar
 -- a put whose test passes is done
 elsewhere-done : (us st : List ℕ) (i : ℕ) (bs : List ℕ) → putElsewhere us st i bs .answer ≡ 0
 unfolding putElsewhere placed
-elsewhere-done us st i bs = go (leb (length bs) (room (found us (length st)))) (placed us st (found us (length st)) i bs) (placed (together us st .words) (together us st .store) (gaps (usedOf (together us st .words)) (length st) 0 0) i bs) refl refl
+elsewhere-done us st i bs = go (leb (length bs) (room (found us (usedOf us) (length st)))) (placed us st (found us (usedOf us) (length st)) i bs) (placed (together us st .words) (together us st .store) (gaps (usedOf (together us st .words)) (length st) 0 0) i bs) refl refl
   where
     go : (b : Bool) (x y : Outcome) → x .answer ≡ 0 → y .answer ≡ 0 → pick b x y .answer ≡ 0
     go true x y h k = h
@@ -73,6 +72,23 @@ unfolding putPayload placed
 put-done us st i bs c = by-index (putCode us (length st) i (length bs)) 0
     (λ e. rw (eq-eqb (putCode us (length st) i (length bs)) 0 e))
     (λ ne. rw (ne-eqb (putCode us (length st) i (length bs)) 0 ne, eq-eqb (putCode us (length st) i (length bs)) 1 (omega arith)) (elsewhere-done us st i bs))
+
+-- What a row of n bytes leaves of two tallies with as much left, by the four tests: as much again, and the first is as good as the second; also where only the second fails the third test, of a row without bytes.
+kept-still : (a b c d : Bool) (n k l : ℕ) (x y : Bool) → k ≡ l → (y ≡ true → x ≡ true)
+    → ((pick a (tally x k) (pick b (tally false l) (pick c (tally false l) (pick d (tally false l) (tally x (l - n)))))) .left ≡ (pick a (tally y l) (pick b (tally false l) (pick c (tally false l) (pick d (tally false l) (tally y (l - n)))))) .left)
+    × ((pick a (tally y l) (pick b (tally false l) (pick c (tally false l) (pick d (tally false l) (tally y (l - n)))))) .ok ≡ true → (pick a (tally x k) (pick b (tally false l) (pick c (tally false l) (pick d (tally false l) (tally x (l - n)))))) .ok ≡ true)
+kept-still true b c d n k l x y e h = (e, h)
+kept-still false true c d n k l x y e h = (refl, λ z. z)
+kept-still false false true d n k l x y e h = (refl, λ z. z)
+kept-still false false false true n k l x y e h = (refl, λ z. z)
+kept-still false false false false n k l x y e h = (refl, h)
+
+own-still : (a c : Bool) (k l : ℕ) (x y : Bool) → k ≡ l → (y ≡ true → x ≡ true)
+    → ((pick a (tally x k) (tally x (l - 0))) .left ≡ (pick a (tally y l) (pick c (tally false l) (tally y (l - 0)))) .left)
+    × ((pick a (tally y l) (pick c (tally false l) (tally y (l - 0)))) .ok ≡ true → (pick a (tally x k) (tally x (l - 0))) .ok ≡ true)
+own-still true c k l x y e h = (e, h)
+own-still false true k l x y e h = (omega arith, λ z. false-true z)
+own-still false false k l x y e h = (refl, h)
 
 -- Words with the same messages, the same bytes in use and gaps, the same first free place and scheduler.
 record Same (ws vs : List ℕ) : Type 0 where
@@ -108,16 +124,29 @@ module _ (ws vs st : List ℕ) (same : Same ws vs) (p : ℕ) (m : Item) (bs : Li
   gaps-is = ap (λ (t : Totals). t .gaps) (Laws.totals-put-item vs p m) ∙ same .gaps-are
 
   -- the new message's row points to the store's start, every other row to where it did
-  inside : (len x : ℕ) → placeOf ws x + sizeOf ws x ≤ len → placeOf us x + sizeOf us x ≤ len
-  inside len x f = by-index p x
-      (λ e. subst (λ (y : ℕ). placeOf us y + sizeOf us y ≤ len) e (let a : placeOf us p ≡ 0 = ap (λ (k : Item). k .place) own ∙ no-place in omega (arith, own-size)))
-      (λ ne. let a : placeOf us x ≡ placeOf ws x = ap (λ (k : Item). k .place) (other x ne) in omega (arith, sizes x))
+  places : (x : ℕ) → (p ≡ x → ⊥) → placeOf us x ≡ placeOf ws x
+  places x ne = ap (λ (k : Item). k .place) (other x ne)
 
-  sound : (len n : ℕ) → Sound ws len n → Sound us len n
-  sound len n s = record { fits = record { inside = λ x l. inside len x (s .fits .inside x l) }; sum = sum-same (sizeOf ws) (sizeOf us) 1024 (λ j l. sizes j) ∙ s .sum }
+  own-place : placeOf us p ≡ 0
+  own-place = ap (λ (k : Item). k .place) own ∙ no-place
+
+  fits-still : (len used n : ℕ) → (fitsTo us len used n .left ≡ fitsTo ws len used n .left) × (fitsTo ws len used n .ok ≡ true → fitsTo us len used n .ok ≡ true)
+  unfolding fitsTo rowFits
+  fits-still len used zero = (refl, λ h. refl)
+  fits-still len used (suc n) =
+      let q = fits-still len used n in
+      by-index p n
+      (λ e. rw (q .0, sizes n, subst (λ (y : ℕ). sizeOf ws y ≡ 0) e dead, subst (λ (y : ℕ). placeOf us y ≡ 0) e own-place, le-ltb len 0 (omega arith), le-ltb (len - 0) 0 (omega arith), le-ltb (fitsTo ws len used n .left) 0 (omega arith))
+          (own-still (eqb (fitsTo ws len used n .left) 0) (ltb (len - 0) (placeOf ws n)) (fitsTo ws len used n .left) (fitsTo ws len used n .left) (fitsTo us len used n .ok) (fitsTo ws len used n .ok) refl (q .1)))
+      (λ ne. rw (q .0, sizes n, places n ne)
+          (kept-still (eqb (fitsTo ws len used n .left) 0) (ltb len (sizeOf ws n)) (ltb (len - sizeOf ws n) (placeOf ws n)) (ltb (fitsTo ws len used n .left) (sizeOf ws n)) (sizeOf ws n) (fitsTo ws len used n .left) (fitsTo ws len used n .left) (fitsTo us len used n .ok) (fitsTo ws len used n .ok) refl (q .1)))
 
   fit-still : allFit ws (length st) (usedOf ws) ≡ true → allFit us (length st) (usedOf ws) ≡ true
-  fit-still e = true-all us (length st) (usedOf ws) (sound (length st) (usedOf ws) (all-true ws (length st) (usedOf ws) e))
+  unfolding allFit
+  fit-still e =
+      let q = fits-still (length st) (usedOf ws) 1024 in
+      let b = pick-both (fitsTo ws (length st) (usedOf ws) 1024 .ok) (eqb (fitsTo ws (length st) (usedOf ws) 1024 .left) 0) e in
+      rw (q .1 (b .0), q .0) (b .1)
 
   put-still : putCode ws (length st) p (length bs) ≤ 1 → putCode us (length st) p (length bs) ≤ 1
   unfolding putCode
@@ -202,7 +231,7 @@ settled ws vs st item bs row s same fits no-place no-length e =
     }
 
 new-fits : (ws : List ℕ) → FitsStream (newStream (optionsAt ws))
-new-fits ws = record { priority-fits = Laws.options-at-fits ws .priority-fits; pause-state-fits = omega arith; ssn-fits = omega arith; unordered-mid-fits = omega arith; ordered-mid-fits = omega arith }
+new-fits ws = record { priority-fits = Laws.options-at-fits ws .priority-fits; ssn-fits = omega arith; unordered-mid-fits = omega arith; ordered-mid-fits = omega arith }
 
 pub add-settled : AddSettled
 unfolding newItem
