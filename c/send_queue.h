@@ -11,8 +11,8 @@
  *   - No two arguments of a call overlap, and nobody else writes to them while it runs.
  *   - The words of a queue, from creation on, and the bytes of its store are changed by these functions only, and each call gets both
  *     as the last one left them. The words hold no pointer: between two calls words and store may be moved or copied.
- *   - 256 KB of stack for dsq_produce alone: where more than 128 messages have expired it takes 252 KB, since it keeps a copy of the words
- *     and of the events, up to 128 of them 36 KB, and up to 17 of them 6 KB (measured: c/stack.c); give a thread more.
+ *   - 256 KB of stack for dsq_produce or dsq_fill_packet alone: where more than 128 messages have expired it takes 252 KB, since it keeps a
+ *     copy of the words and of the events, up to 128 of them 36 KB, and up to 17 of them 6 KB (dsq_produce, measured: c/stack.c); give a thread more.
  *
  * Lengths count elements: events_length counts words, of which DSQ_EVENT_WORDS are asked for.
  * The library and this header belong together: a host asks once whether dsq_layout() is DSQ_LAYOUT.
@@ -121,8 +121,8 @@ enum dsq_refusal {
 
 /* The places of an out-array. An accepted call writes those that are named at it; the others stay. */
 enum dsq_out {
-    DSQ_OUT_VALUE = 0,  /* a question's answer; 1 for a fragment, 0 for none; an image's or a chunk's length; the count of ready ids or of
-                         * a packet's chunks */
+    DSQ_OUT_VALUE = 0,  /* a question's answer; 1 for a fragment, 0 for none; the length of an image, a chunk or a reset request; what a
+                         * response led to; the count of ready ids or of a packet's chunks */
     DSQ_OUT_EVENTS = 1, /* how many events the call wrote, from the list's start on */
     /* What goes with a fragment. */
     DSQ_OUT_LENGTH = 2,               /* its bytes, at the buffer's start; of a packet, all its bytes */

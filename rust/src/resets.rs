@@ -15,7 +15,9 @@ use crate::refusal::Refusal;
 /// [`get_streams_ready_to_reset`](SendQueue::get_streams_ready_to_reset), [`commit_reset_streams`](SendQueue::commit_reset_streams),
 /// [`rollback_reset_streams`](SendQueue::rollback_reset_streams) and [`reset`](SendQueue::reset) called only by it, exactly the streams of
 /// the request underway are being reset, none without one.
-#[derive(Clone, Debug, Eq, PartialEq)]
+///
+/// It is not `Clone`: a copy that has a request underway would take its response a second time.
+#[derive(Debug)]
 pub struct StreamResetHandler {
     numbers: HandlerNumbers,
 }
@@ -39,6 +41,11 @@ impl StreamResetHandler {
         let mut numbers = [0; HANDLER_NUMBERS];
         accepted(ffi::start_reset_handler(&mut numbers, first_number));
         StreamResetHandler { numbers }
+    }
+
+    /// The number that the next request gets.
+    pub fn next_number(&self) -> u32 {
+        self.numbers[0]
     }
 
     /// The number of the request underway.

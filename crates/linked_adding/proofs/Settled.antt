@@ -137,9 +137,9 @@ module _ (ws vs st : List ℕ) (same : Same ws vs) (p : ℕ) (m : Item) (bs : Li
       let q = fits-still len used n in
       by-index p n
       (λ e. rw (q .0, sizes n, subst (λ (y : ℕ). sizeOf ws y ≡ 0) e dead, subst (λ (y : ℕ). placeOf us y ≡ 0) e own-place, le-ltb len 0 (omega arith), le-ltb (len - 0) 0 (omega arith), le-ltb (fitsTo ws len used n .left) 0 (omega arith))
-          (own-still (eqb (fitsTo ws len used n .left) 0) (ltb (len - 0) (placeOf ws n)) (fitsTo ws len used n .left) (fitsTo ws len used n .left) (fitsTo us len used n .ok) (fitsTo ws len used n .ok) refl (q .1)))
+      (own-still (eqb (fitsTo ws len used n .left) 0) (ltb (len - 0) (placeOf ws n)) (fitsTo ws len used n .left) (fitsTo ws len used n .left) (fitsTo us len used n .ok) (fitsTo ws len used n .ok) refl (q .1)))
       (λ ne. rw (q .0, sizes n, places n ne)
-          (kept-still (eqb (fitsTo ws len used n .left) 0) (ltb len (sizeOf ws n)) (ltb (len - sizeOf ws n) (placeOf ws n)) (ltb (fitsTo ws len used n .left) (sizeOf ws n)) (sizeOf ws n) (fitsTo ws len used n .left) (fitsTo ws len used n .left) (fitsTo us len used n .ok) (fitsTo ws len used n .ok) refl (q .1)))
+      (kept-still (eqb (fitsTo ws len used n .left) 0) (ltb len (sizeOf ws n)) (ltb (len - sizeOf ws n) (placeOf ws n)) (ltb (fitsTo ws len used n .left) (sizeOf ws n)) (sizeOf ws n) (fitsTo ws len used n .left) (fitsTo ws len used n .left) (fitsTo us len used n .ok) (fitsTo ws len used n .ok) refl (q .1)))
 
   fit-still : allFit ws (length st) (usedOf ws) ≡ true → allFit us (length st) (usedOf ws) ≡ true
   unfolding allFit

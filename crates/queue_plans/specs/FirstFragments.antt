@@ -6,7 +6,7 @@ use mathlib.Core.Option.{Option, none, some}
 use Rattle.types.specs.Keys.{key-id}
 use Rattle.queue_sending.specs.declared.data.Produced.{Produced}
 use Rattle.queue_sending.specs.declared.data.Produced.the-variants as produced
-use Rattle.queue_runs.specs.Calls.{Answer, called, sent, readied, number, flag, count, truth, Shown}
+use Rattle.queue_runs.specs.Calls.{Answer, called, sent, filled, readied, number, flag, count, truth, Shown}
 use Rattle.priority_plan.specs.Turns.{and-shown, ServedInTurn}
 
 -- The stream of the fragment that an answer gives, and whether it says that nothing waits.
@@ -18,6 +18,7 @@ streamSent (produced.Refused n) = none
 abbrev pub streamOf : Answer → Option ℕ
 streamOf (called a) = none
 streamOf (sent a) = streamSent a
+streamOf (filled a) = none
 streamOf (readied r) = none
 streamOf (number a) = none
 streamOf (flag a) = none
@@ -32,6 +33,7 @@ nothingSent (produced.Refused n) = false
 abbrev pub saysNothing : Answer → Bool
 saysNothing (called a) = false
 saysNothing (sent a) = nothingSent a
+saysNothing (filled a) = false
 saysNothing (readied r) = false
 saysNothing (number a) = false
 saysNothing (flag a) = false
