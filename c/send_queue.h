@@ -299,14 +299,14 @@ uint8_t dsq_read_chunk(const uint8_t *bytes, size_t bytes_length, uint64_t out[D
 #define DSQ_MIN_PACKET_LIMIT 36
 #define DSQ_MAX_PACKET_LIMIT 65535
 
-/* Fills a packet of at most packet_limit bytes, from the buffer's start on: the common header with checksum 0 (RFC 9653), then a chunk for
+/* Fills a packet of at most limit bytes, from the buffer's start on: the common header with checksum 0 (RFC 9653), then a chunk for
  * each fragment, I-DATA while interleaving is on, else DATA, with consecutive TSNs from tsn on. Each chunk is what one dsq_produce gives at
  * this time, asked for as many bytes as the packet has left for a payload, rounded down to a multiple of 4, at most the payload limit; its
  * payload goes from the store to its place. The buffer behind the packet stays as it was. Tells VALUE, the number of chunks; EVENTS, of
  * all those calls together; LENGTH, the packet's bytes. Where nothing waits no packet is written, VALUE and LENGTH are 0, and the buffer
  * stays; expired messages are dropped and their events written all the same. Stack: as dsq_produce. (20, 21, 2, 3, 4, 16) */
 uint8_t dsq_fill_packet(uint64_t queue[DSQ_QUEUE_WORDS], const uint8_t *store, size_t store_length, uint64_t *events, size_t events_length,
-                        uint8_t *packet, size_t packet_length, uint64_t out[DSQ_OUT_WORDS], uint64_t time, uint64_t packet_limit,
+                        uint8_t *packet, size_t packet_length, uint64_t out[DSQ_OUT_WORDS], uint64_t time, uint64_t limit,
                         uint16_t source_port, uint16_t destination_port, uint32_t verification_tag, uint32_t tsn);
 
 /* ---------------------------------------------------------------- reset requests to the peer (RFC 6525)

@@ -138,7 +138,7 @@ mod c {
             packet_length: usize,
             out: *mut u64,
             time: u64,
-            packet_limit: u64,
+            limit: u64,
             source_port: u16,
             destination_port: u16,
             verification_tag: u32,

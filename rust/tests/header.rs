@@ -99,7 +99,7 @@ fn of_parameter(name: &str, kind: &str, list: &mut Vec<String>) {
 
 fn of_source() -> Functions {
     let mut functions = Functions::new();
-    for file in ["images", "layout", "messages", "planning", "questions", "resets", "sending", "streams", "wire"] {
+    for file in ["images", "layout", "messages", "packing", "planning", "questions", "resets", "sending", "streams", "wire"] {
         for part in text(&format!("../crates/send_queue_c/src/{file}.rt")).split("pub extern \"C\" fn ").skip(1) {
             let (name, rest) = part.split_once('(').unwrap();
             let (parameters, rest) = rest.split_once(") -> ").unwrap();
@@ -195,7 +195,7 @@ fn the_lengths_and_places_are_the_proved_ones() {
 
 /// The layout, and a sum over what the header declares. Whoever changes a declaration decides whether a host compiled before would be wrong
 /// with it. Then the layout moves, here and in the header, limits.rs and send_queue_c. What is only added has a new sum and no new layout.
-const LAYOUT: (u64, u32) = (4, 2_166_233_182);
+const LAYOUT: (u64, u32) = (4, 2_152_842_549);
 
 #[test]
 fn the_layout_goes_with_what_the_header_declares() {
