@@ -2,8 +2,8 @@
 //!
 //! First the heads get their first packets in a wanted order, a closed head whose half-sent profile runs out of time is ready at once, a
 //! queue without interleaving is carried to a second host in the middle of a profile, and a head restarts in the middle of one. Then comes the job: the heads' backlogs run low and
-//! are topped up, a head's job is closed in the middle of a profile and its stream reset by a request that the head answers, and half-way the queue is carried to a second host as an image. Every
-//! fragment goes over the wire as a chunk, and the heads read chunks. At the end every profile is compared byte for byte with what was queued.
+//! are topped up, a head's job is closed in the middle of a profile and its stream reset by a request that the head answers, and half-way the queue is carried to a second host as an image. The
+//! fragments go over the wire in packets, each filled by one call, and the heads read the chunks in them. At the end every profile is compared byte for byte with what was queued.
 
 use desqariy::*;
 use std::collections::BTreeMap;
@@ -11,9 +11,12 @@ use std::error::Error;
 use std::time::Duration;
 
 const STREAMS: std::ops::RangeInclusive<u16> = 1..=8;
+/// The most bytes of a packet, and of a fragment's payload.
 const PACKET: usize = 1_200;
-/// The longest chunk: the header of an I-DATA chunk and a packet's payload.
-const CHUNK: usize = 20 + PACKET;
+/// Both ports and the verification tag of the common header.
+const PORT: u16 = 5_000;
+const TAG: u32 = 0x0102_0304;
+const COMMON_HEADER: usize = 12;
 const MARK: usize = 3_000;
 /// So many packets are shown.
 const SHOWN: u64 = 10;
@@ -45,13 +48,30 @@ struct Receiver {
 }
 
 impl Receiver {
-    fn read(&mut self, bytes: &[u8]) -> Outcome<()> {
+    /// Reads a packet: the common header, with checksum 0, and chunk by chunk up to its end. The heads that they are for.
+    fn unpack(&mut self, packet: &[u8]) -> Outcome<Vec<StreamId>> {
+        let (header, mut rest) = packet.split_at_checked(COMMON_HEADER).ok_or("no packet")?;
+        if header != [&PORT.to_be_bytes()[..], &PORT.to_be_bytes(), &TAG.to_be_bytes(), &[0; 4]].concat() {
+            return Err("another common header".into());
+        }
+        let mut heads = Vec::new();
+        while !rest.is_empty() {
+            let length = usize::from(u16::from_be_bytes([rest[2], rest[3]]));
+            let (chunk, behind) = rest.split_at_checked(length.next_multiple_of(4)).ok_or("a chunk is cut")?;
+            heads.push(self.read(chunk)?);
+            rest = behind;
+        }
+        Ok(heads)
+    }
+
+    fn read(&mut self, bytes: &[u8]) -> Outcome<StreamId> {
         let chunk = read_chunk(bytes)?;
         if chunk.tsn != self.next {
             return Err(format!("chunk {} comes where {} should", chunk.tsn, self.next).into());
         }
         self.next = chunk.tsn.add_to(1);
-        self.take(&chunk.fragment)
+        self.take(&chunk.fragment)?;
+        Ok(chunk.fragment.data.stream_key.id())
     }
 
     /// Answers a reset request (RFC 6525): first that it is at it (6), when it is asked again that it has reset the streams (1).
@@ -92,7 +112,8 @@ struct Feeder {
     resets: StreamResetHandler,
     link: Receiver,
     now: SocketTime,
-    fragments: u64,
+    packets: u64,
+    fragments: usize,
     tsn: Tsn,
     /// A head's next profile, which waits outside the queue until the head's backlog is low.
     next: BTreeMap<StreamId, u64>,
@@ -110,34 +131,37 @@ impl Feeder {
         Ok(bytes.len())
     }
 
-    /// Sends packets, at most so many; how many there were.
-    fn send(&mut self, packets: usize) -> Outcome<usize> {
-        let (mut packet, mut chunk) = ([0; PACKET], [0; CHUNK]);
-        for sent in 0..packets {
+    /// Sends packets, at most so many.
+    fn send(&mut self, packets: usize) -> Outcome<()> {
+        let mut buffer = [0; PACKET];
+        for _ in 0..packets {
             self.now = self.now + Duration::from_micros(100);
-            let fragment = self.queue.produce_into(self.now, &mut packet)?;
-            if let Some(d) = &fragment {
-                let n = write_chunk(&mut chunk, ChunkKind::IData, self.tsn, &d.data)?;
-                self.link.read(&chunk[..n])?;
-                self.tsn = self.tsn.add_to(1);
-                self.fragments += 1;
-                if self.fragments <= SHOWN {
-                    let (stream, data) = (d.data.stream_key.id(), &d.data);
-                    println!(
-                        "  packet {}: head {stream}, fragment {}, {} bytes; an I-DATA chunk of {n}",
-                        self.fragments,
-                        data.fsn,
-                        data.payload.len()
-                    );
+            let wanted = Packet {
+                limit: PACKET,
+                source_port: PORT,
+                destination_port: PORT,
+                verification_tag: TAG,
+                tsn: self.tsn,
+            };
+            let filled = self.queue.fill_packet(self.now, &mut buffer, &wanted)?;
+            if let Some(Filled { bytes, chunks }) = filled {
+                let heads = self.link.unpack(&buffer[..bytes])?;
+                self.tsn = self.tsn.add_to(chunks as u32);
+                self.packets += 1;
+                self.fragments += chunks;
+                if heads.len() != chunks {
+                    return Err("the packet has another number of chunks".into());
+                }
+                if self.packets <= SHOWN {
+                    println!("  packet {}: {bytes} bytes, I-DATA chunks for the heads {heads:?}", self.packets);
                 }
             }
-            let nothing = fragment.is_none();
             self.tell()?;
-            if nothing {
-                return Ok(sent);
+            if filled.is_none() {
+                return Ok(());
             }
         }
-        Ok(packets)
+        Ok(())
     }
 
     /// Asks the other end to reset the closed head's stream, and takes its responses: it is at it, then it has done so.
@@ -310,6 +334,7 @@ fn main() -> Outcome<()> {
         resets: StreamResetHandler::new(u32::MAX),
         link: Receiver::default(),
         now: SocketTime::zero(),
+        packets: 0,
         fragments: 0,
         tsn: Tsn(0),
         next: STREAMS.map(|stream| (StreamId(stream), number(stream, 4))).collect(),
@@ -364,7 +389,7 @@ fn main() -> Outcome<()> {
     // Head 5 counts from 0 again; a new job for it.
     feeder.add(new, None)?;
     feeder.send(usize::MAX)?;
-    println!("second host: nothing waits; {} packets in all", feeder.fragments);
+    println!("second host: nothing waits; {} packets in all, with {} chunks", feeder.packets, feeder.fragments);
 
     check(&feeder)
 }
