@@ -11,8 +11,8 @@
  *   - No two arguments of a call overlap, and nobody else writes to them while it runs.
  *   - The words of a queue, from creation on, and the bytes of its store are changed by these functions only, and each call gets both
  *     as the last one left them. The words hold no pointer: between two calls words and store may be moved or copied.
- *   - 256 KB of stack for dsq_produce or dsq_fill_packet alone: where more than 128 messages have expired it takes 252 KB, since it keeps a
- *     copy of the words and of the events, up to 128 of them 36 KB, and up to 17 of them 6 KB (dsq_produce, measured: c/stack.c); give a thread more.
+ *   - 256 KB of stack for dsq_produce or dsq_fill_packet alone: where more than 128 messages have expired each takes 253 KB, since it keeps a
+ *     copy of the words and of the events, up to 128 of them 37 KB, and up to 17 of them 7 KB (measured: c/stack.c); give a thread more.
  *
  * Lengths count elements: events_length counts words, of which DSQ_EVENT_WORDS are asked for.
  * The library and this header belong together: a host asks once whether dsq_layout() is DSQ_LAYOUT.

@@ -94,7 +94,7 @@ impl SendQueue {
     ///
     /// Its bytes are lent until the next call; [`produce_into`](SendQueue::produce_into) writes them straight to the caller's buffer.
     ///
-    /// Where it drops up to 17 messages it takes 6 KB of stack, up to 128 of them 36 KB, and 252 KB to drop more in one call (measured):
+    /// Where it drops up to 17 messages it takes 7 KB of stack, up to 128 of them 37 KB, and 253 KB to drop more in one call (measured):
     /// give a thread more.
     ///
     /// Refused: [`Refusal::TimeLate`], [`Refusal::SizeWrong`].
