@@ -1,6 +1,7 @@
-/* The send queue for a host in C99 or C++: link it with libsend_queue_c.a, which `rt staticlib send_queue_c` makes for x86-64. Of the
- * C library it uses memcpy, memmove and memset. It allocates nothing and keeps nothing: all of a queue is in the words and the store that
- * the host lends to each call.
+/* The send queue for a host in C99 or C++: link it with libsend_queue_c.a and, where dsq_fill_packet is called, with libpackets_c.a beside
+ * it; that one function is in the second, all others are in the first. `scripts/libraries` makes both for x86-64. Of the C library they use
+ * memcpy, memmove and memset. They allocate nothing and keep nothing: all of a queue is in the words and the store that the host lends to
+ * each call.
  *
  * The functions are proved: on any words, any store and any buffers they return, they read and write inside what is lent to them
  * only, and a refused call changes nothing, in no array. What a host must keep, since no proof of theirs can see it:
@@ -15,7 +16,7 @@
  *     copy of the words and of the events, up to 128 of them 37 KB, and up to 17 of them 7 KB (measured: c/stack.c); give a thread more.
  *
  * Lengths count elements: events_length counts words, of which DSQ_EVENT_WORDS are asked for.
- * The library and this header belong together: a host asks once whether dsq_layout() is DSQ_LAYOUT.
+ * The libraries and this header belong together: a host asks once whether dsq_layout() is DSQ_LAYOUT.
  * A flag that is passed in is 0 for no and anything else for yes; one that is told is 0 or 1. Times are counts of nanoseconds. */
 #ifndef DSQ_SEND_QUEUE_H
 #define DSQ_SEND_QUEUE_H
@@ -293,7 +294,7 @@ uint8_t dsq_write_chunk(uint8_t *output, size_t output_length, const uint8_t *pa
  * chunk-array. (19) */
 uint8_t dsq_read_chunk(const uint8_t *bytes, size_t bytes_length, uint64_t out[DSQ_OUT_WORDS], uint64_t chunk[DSQ_CHUNK_WORDS]);
 
-/* ---------------------------------------------------------------- packets on the wire */
+/* ---------------------------------------------------------------- packets on the wire: libpackets_c.a */
 
 /* The least and the greatest packet limit. */
 #define DSQ_MIN_PACKET_LIMIT 36

@@ -1,9 +1,9 @@
-//! Links the proved queue, a static library with C functions.
+//! Links the proved queue, two static libraries with C functions.
 
 use std::env;
 use std::path::PathBuf;
 
-const NAME: &str = "libsend_queue_c.a";
+const NAMES: [&str; 2] = ["send_queue_c", "packets_c"];
 
 fn main() {
     println!("cargo::rerun-if-env-changed=DSQ_LIB_DIR");
@@ -14,16 +14,17 @@ fn main() {
             PathBuf::from(here).join("../target/staticlib")
         }
     };
-    let library = folder.join(NAME);
-    println!("cargo::rerun-if-changed={}", library.display());
-    if !library.is_file() {
-        println!(
-            "cargo::error={} is not there. `rt staticlib send_queue_c`, run in the repository's folder, makes it \
-             (target/staticlib/{NAME}); DSQ_LIB_DIR names another folder",
-            library.display()
-        );
-        return;
-    }
     println!("cargo::rustc-link-search=native={}", folder.display());
-    println!("cargo::rustc-link-lib=static=send_queue_c");
+    for name in NAMES {
+        let library = folder.join(format!("lib{name}.a"));
+        println!("cargo::rerun-if-changed={}", library.display());
+        if !library.is_file() {
+            println!(
+                "cargo::error={} is not there. `scripts/libraries`, run in the repository's folder, makes it \
+                 (target/staticlib/lib{name}.a); DSQ_LIB_DIR names another folder",
+                library.display()
+            );
+        }
+        println!("cargo::rustc-link-lib=static={name}");
+    }
 }

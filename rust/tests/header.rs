@@ -97,10 +97,24 @@ fn of_parameter(name: &str, kind: &str, list: &mut Vec<String>) {
     }
 }
 
+/// The files of both libraries that have functions for C.
+const SOURCES: [&str; 10] = [
+    "packets_c/src/lib",
+    "send_queue_c/src/images",
+    "send_queue_c/src/layout",
+    "send_queue_c/src/messages",
+    "send_queue_c/src/planning",
+    "send_queue_c/src/questions",
+    "send_queue_c/src/resets",
+    "send_queue_c/src/sending",
+    "send_queue_c/src/streams",
+    "send_queue_c/src/wire",
+];
+
 fn of_source() -> Functions {
     let mut functions = Functions::new();
-    for file in ["images", "layout", "messages", "packing", "planning", "questions", "resets", "sending", "streams", "wire"] {
-        for part in text(&format!("../crates/send_queue_c/src/{file}.rt")).split("pub extern \"C\" fn ").skip(1) {
+    for file in SOURCES {
+        for part in text(&format!("../crates/{file}.rt")).split("pub extern \"C\" fn ").skip(1) {
             let (name, rest) = part.split_once('(').unwrap();
             let (parameters, rest) = rest.split_once(") -> ").unwrap();
             let mut list = Vec::new();
@@ -135,7 +149,7 @@ fn the_lengths_and_places_are_the_proved_ones() {
     let options = text("src/options.rs");
     let words = text("../crates/queue_words/src/lib.rt");
     let events = text("../crates/queue_streams/src/events.rt");
-    let places = text("../crates/send_queue_c/src/numbers.rt");
+    let places = text("../crates/out_array/src/lib.rt");
     let lists = text("../crates/priority_plan/src/lists.rt");
     let layout = text("../crates/send_queue_c/src/layout.rt");
     let wire = text("../crates/send_queue_c/src/wire.rt");

@@ -1,5 +1,4 @@
 -- What the proofs of several functions use. Assumes nothing.
 pub mod Gives
 pub mod Ids
-pub mod Packets
 pub mod Handler

@@ -4,4 +4,3 @@ pub mod Chunks
 pub mod Given
 pub mod Handler
 pub mod Layout
-pub mod Packets

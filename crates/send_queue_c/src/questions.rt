@@ -4,9 +4,9 @@ ghost use Rattle.queue_questions.specs.Questions.{priorityOf, amountOf, thresho
 ghost use Rattle.queue_restarts.specs.Ready.{readyCount};
 ghost use Rattle.queue_words.specs.Flags.{bit};
 ghost use Rattle.send_queue_c.specs.Given.{GivesNumber, GivesFlag};
-use crate::numbers::OUT_WORDS;
 use crate::numbers::tell_flag;
 use crate::numbers::tell_number;
+use out_array::OUT_WORDS;
 use send_queue::QUEUE_WORDS;
 use send_queue::buffered_amount;
 use send_queue::buffered_amount_low_threshold;

@@ -1,8 +1,8 @@
--- `send_queue_c::packing::dsq_fill_packet` meets its contract: what the call promises of the words, told as numbers. Assumes nothing.
+-- `packets_c::dsq_fill_packet` meets its contract: what the call promises of the words, told as numbers. Assumes nothing.
 use borrow.Author.Needs.{needs}
-use Rattle.send_queue_c.proofs.Packets.{gives-packet}
-use Rattle.send_queue_c.proofs.packing.dsq_fill_packet.Statement.{statement}
-use Rattle.send_queue_c.proofs.packing.dsq_fill_packet.Tie as tie
+use Rattle.packets_c.proofs.Packets.{gives-packet}
+use Rattle.packets_c.proofs.dsq_fill_packet.Statement.{statement}
+use Rattle.packets_c.proofs.dsq_fill_packet.Tie as tie
 
 returns : tie.Need-returns
 returns c = gives-packet _ _ _ _ _ _ _ _ (c .before .before .before .before .before .before .fill-packet .ensures .words) (c .tell-filled .ensures)

@@ -1,8 +1,8 @@
--- `send_queue_c::packing::tell_filled` meets its contract: each return is what its definition says, by the arms matched. Assumes nothing.
+-- `packets_c::tell_filled` meets its contract: each return is what its definition says, by the arms matched. Assumes nothing.
 use borrow.Author.Needs.{needs}
 use mathlib.Core.Path.{refl}
-use Rattle.send_queue_c.proofs.packing.tell_filled.Statement.{statement}
-use Rattle.send_queue_c.proofs.packing.tell_filled.Tie as tie
+use Rattle.packets_c.proofs.tell_filled.Statement.{statement}
+use Rattle.packets_c.proofs.tell_filled.Tie as tie
 
 returns : tie.Need-returns
 returns c = rw (c .before .a .given .1) (refl, refl)

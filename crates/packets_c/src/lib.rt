@@ -1,16 +1,17 @@
-// Filling a packet.
+// Filling a packet, for a host in C or Rust (header: c/send_queue.h): a library of its own, so that the next fragment has one caller in its library
+// (send_queue_c) and is compiled into dsq_produce.
 ghost use mathlib.Core.Path.{_≡_};
 ghost use Rattle.packets.specs.Filling.{filledNumber, fillPacket};
-ghost use Rattle.send_queue_c.specs.Packets.{packetWith, filledOut};
-ghost use Rattle.send_queue_c.specs.Packets.{GivesPacket};
-use crate::numbers::EVENTS;
-use crate::numbers::LENGTH;
-use crate::numbers::OUT_WORDS;
-use crate::numbers::VALUE;
-use send_queue::Packet;
-use send_queue::PacketFilled;
-use send_queue::QUEUE_WORDS;
-use send_queue::fill_packet;
+ghost use Rattle.packets_c.specs.Packets.{packetWith, filledOut};
+ghost use Rattle.packets_c.specs.Packets.{GivesPacket};
+use linked_packets::fill_packet;
+use out_array::EVENTS;
+use out_array::LENGTH;
+use out_array::OUT_WORDS;
+use out_array::VALUE;
+use packets::Packet;
+use packets::PacketFilled;
+use queue_words::QUEUE_WORDS;
 
 // The value is the number of chunks, the length that of the packet; both are 0 without a fragment.
 fn tell_filled(out: &mut [u64; OUT_WORDS], a: PacketFilled) -> u8
