@@ -34,6 +34,7 @@ use Rattle.packets.proofs.Places.{wrote-none, wrote-before}
 use Rattle.linked_sending.specs.Meaning.{bufferOf}
 use Rattle.linked_packets.specs.Meaning.{filledOf, Fills, FillMeets, fillCall}
 use Rattle.linked_packets.proofs.Calls.{chunks-long, Linked, filling-link}
+use Rattle.linked_packets.proofs.Numbers.{tells-of}
 
 -- ------------------------------------------------------------------ the packet
 
@@ -206,7 +207,7 @@ module _ (ws st es bs : List ℕ) (time : ℕ) (p : Packet) (g : Good ws st) whe
 
 -- What the contract asks.
 pub fill-meets : (ws st es bs : List ℕ) (time : ℕ) (p : Packet) (r : PacketFilled) (ws′ es′ bs′ : List ℕ) → filledWith r ws′ es′ bs′ ≡ fillPacket ws st es bs time p → FillMeets ws st es bs time p r ws′ es′ bs′
-fill-meets ws st es bs time p r ws′ es′ bs′ e = record {
-  words = e;
-  model = λ g. subst (Fills (run.step (fillCall st es bs time p) (model ws st)) st es bs) (sym e) (fill-link ws st es bs time p g);
-}
+fill-meets ws st es bs time p r ws′ es′ bs′ e = record { words = e; model = fills; tells = λ g. tells-of (fills g) }
+  where
+    fills : Good ws st → Fills (run.step (fillCall st es bs time p) (model ws st)) st es bs (filledWith r ws′ es′ bs′)
+    fills g = subst (Fills (run.step (fillCall st es bs time p) (model ws st)) st es bs) (sym e) (fill-link ws st es bs time p g)

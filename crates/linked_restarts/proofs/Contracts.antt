@@ -10,6 +10,7 @@ use Rattle.queue_model.specs.Answers.{answer-number, answer-ids}
 use Rattle.queue_model.specs.Run as run
 use Rattle.queue_streams.specs.Settings.{Called, called}
 use Rattle.queue_streams.specs.Restart.{reopen, setInterleaving}
+use Rattle.queue_streams.specs.Answers.{numberNumber, numberValue}
 use Rattle.queue_streams.specs.declared.answers.Call.{Call}
 use Rattle.queue_streams.specs.declared.answers.Number.{Number}
 use Rattle.queue_restarts.specs.Ready.{Readied, readied, ready, readyNumber, readyList, countOf, readyCount}
@@ -18,7 +19,7 @@ use Rattle.queue_restarts.specs.declared.ready.ReadyStreams.{ReadyStreams}
 use Rattle.queue_restarts.proofs.Few.{Few, ready-few, count-is, counted}
 use Rattle.queue_state.specs.Good.{Good}
 use Rattle.queue_state.specs.Promise.{shown, Does}
-use Rattle.queue_state.proofs.Numbers.{tells}
+use Rattle.queue_state.proofs.Numbers.{tells, number-number, number-value}
 use Rattle.linked_restarts.specs.Ids.{readyOf, Readies}
 use Rattle.linked_restarts.specs.Contracts.{Meets, CommitMeets, RollbackMeets, SwitchMeets, ResetMeets, ReadyMeets, CountMeets}
 use Rattle.linked_restarts.proofs.Reopens.{commit-link, rollback-link}
@@ -88,6 +89,8 @@ pub count-meets : (ws : List ℕ) (r : Number) → r ≡ readyCount ws → Count
 count-meets ws r e = record {
   words = e;
   model = λ st g. e ∙ count-link ws st g;
+  number = λ st g. ap numberNumber (e ∙ count-link ws st g) ∙ number-number (shown run.ask-ready-count ws st .answer);
+  value = λ st g. ap numberValue (e ∙ count-link ws st g) ∙ number-value (shown run.ask-ready-count ws st .answer);
   few = λ n h. (let c = counted (ready ws .answer .answer) (ready ws .answer .count) n (sym (count-is ws) ∙ sym e ∙ h) in let f = (ready-few ws) .count-few in omega arith);
   as-taken = λ t ws′ m. e ∙ count-is ws ∙ ap (λ (x : Readied). countOf (x .answer .answer) (x .answer .count)) (sym (m .words));
 }

@@ -4,13 +4,14 @@ use mathlib.Core.Path.{_≡_}
 use mathlib.Core.Bool.{Bool, true, false}
 use mathlib.Core.List.{List}
 use lib.ListN.{length}
-use Rattle.queue_model.specs.Answers.{answer-number, answer-ids}
+use Rattle.queue_model.specs.Answers.{answer-number, answer-value, answer-ids}
 use Rattle.queue_model.specs.Run as run
 use Rattle.queue_streams.specs.Settings.{Called, called}
 use Rattle.queue_streams.specs.Restart.{reopen, setInterleaving}
+use Rattle.queue_streams.specs.Answers.{numberNumber, numberValue}
 use Rattle.queue_streams.specs.declared.answers.Call.{Call}
 use Rattle.queue_streams.specs.declared.answers.Number.{Number}
-use Rattle.queue_streams.specs.declared.answers.Number.the-variants as number
+use Rattle.queue_streams.specs.declared.answers.Number.the-variants as numbers
 use Rattle.queue_restarts.specs.Ready.{readied, ready, readyNumber, readyList, countOf, readyCount}
 use Rattle.queue_restarts.specs.Reset.{resetQueue}
 use Rattle.queue_restarts.specs.declared.ready.ReadyStreams.{ReadyStreams}
@@ -52,5 +53,7 @@ pub record ReadyMeets (ws : List ℕ) (r : ReadyStreams) (ws′ : List ℕ) : Ty
 pub record CountMeets (ws : List ℕ) (r : Number) : Type 0 where
   pub words : r ≡ readyCount ws
   pub model : (st : List ℕ) → Good ws st → r ≡ numberOf (shown run.ask-ready-count ws st .answer)
-  pub few : (n : ℕ) → r ≡ number.Value n → n ≤ 256
+  pub number : (st : List ℕ) → Good ws st → numberNumber r ≡ answer-number (shown run.ask-ready-count ws st .answer)
+  pub value : (st : List ℕ) → Good ws st → numberValue r ≡ answer-value (shown run.ask-ready-count ws st .answer)
+  pub few : (n : ℕ) → r ≡ numbers.Value n → n ≤ 256
   pub as-taken : (t : ReadyStreams) (ws′ : List ℕ) → ReadyMeets ws t ws′ → r ≡ countOf (t .answer) (t .count)

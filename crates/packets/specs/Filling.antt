@@ -138,3 +138,16 @@ fillPacket ws st es bs time p =
 abbrev pub filledNumber : PacketFilled → ℕ
 filledNumber (packet.Filled k bytes chunks) = 0
 filledNumber (packet.Refused n) = n
+
+-- Its values: how many events it tells, "the bytes and chunks written".
+abbrev pub filledEvents : PacketFilled → ℕ
+filledEvents (packet.Filled k bytes chunks) = k
+filledEvents (packet.Refused n) = 0
+
+abbrev pub filledBytes : PacketFilled → ℕ
+filledBytes (packet.Filled k bytes chunks) = bytes
+filledBytes (packet.Refused n) = 0
+
+abbrev pub filledChunks : PacketFilled → ℕ
+filledChunks (packet.Filled k bytes chunks) = chunks
+filledChunks (packet.Refused n) = 0
