@@ -1,11 +1,12 @@
 -- What the code's queues show over calls and changeovers is what the model's show: document 02's 10/13 on fragments. Assumes nothing.
 use mathlib.Core.Path.{_≡_, refl, sym, ap, ap₂, _∙_, subst}
-use mathlib.Core.Bool.{Bool, false}
-use mathlib.Core.List.{List, [], _∷_, _++_, map}
+use mathlib.Core.Bool.{Bool, true, false}
+use mathlib.Core.List.{List, [], _∷_, _++_, map, append-assoc, append-nil}
 use mathlib.Core.Option.{Option, none, some}
 use Prim.Native.Nat.{ℕ, _≤_, _<_, _^_}
 use native.Mathlib.Omega.{arith}
 use lib.ListN.{length, take}
+use Rattle.queue_words.specs.Flags.{pick}
 use Rattle.types.specs.Keys.{key-of}
 use Rattle.queue_model.specs.Types as plain
 use Rattle.queue_model.specs.Types.{Queue, Fragment}
@@ -21,17 +22,22 @@ use Rattle.queue_model.specs.Unbroken.{Behind, UnbrokenBehind}
 use Rattle.queue_model.proofs.Invariant.Unbroken as unbroken
 use Rattle.queue_sending.specs.declared.data.DataToSend.{DataToSend}
 use Rattle.linked_sending.specs.Meaning.{dataOf}
-use Rattle.queue_runs.specs.Calls.{Call, restore, callOf, Typed}
+use Rattle.packets.specs.declared.packet.Packet.{Packet}
+use Rattle.queue_runs.specs.Calls.{Call, produce, fill, restore, callOf, Typed}
 use Rattle.queue_runs.specs.Fragments.{dataIn}
+use Rattle.queue_runs.specs.Run as runs
 use Rattle.queue_runs.specs.Run.{State, step}
 use Rattle.queue_runs.specs.Creation.{Arguments, optionsWith, newState}
-use Rattle.queue_runs.specs.Meaning.{queueOf, Good}
+use Rattle.queue_runs.specs.Meaning.{queueOf, Good, AllTyped}
+use Rattle.queue_runs.specs.Refusals.{refusal}
 use Rattle.queue_runs.proofs.Steps.{step-link, typed-call, store-small, meant}
 use Rattle.queue_runs.proofs.News.{new-link}
 use Rattle.queue_runs.proofs.Fragments.{data-append, step-data}
 use Rattle.queue_runs.proofs.MidMessage.{uninterleaved}
+use Rattle.queue_fillings.specs.Expanded.{separately, sizesAsked, instead}
+use Rattle.queue_fillings.proofs.Expanded.{stands-call}
 use Rattle.queue_images.specs.Demand2.{Saves, freshState}
-use Rattle.queue_images.specs.Unbroken.{Continues, starts, Onward, New, as-created, as-chosen, Sends, begins, goes-on, changes-over, Request10-unbroken, Request10-together}
+use Rattle.queue_images.specs.Unbroken.{Continues, starts, allIn, Onward, New, as-created, as-chosen, Sends, begins, goes-on, packs, changes-over, Request10-unbroken, Request10-together}
 use Rattle.queue_images.proofs.Demand2 as images
 
 -- ---- what a queue has sent
@@ -79,6 +85,38 @@ gone-on a len s ds h c t u =
       shown-as = ap₂ (λ (xs ys : List DataToSend). xs ++ ys) (h .shown-as) (step-data c s (h .good) t) ∙ sym (data-append (h .fragments) gs);
     }
 
+-- The separate calls of a filling, one after another.
+separately-on : (a : Arguments) (len : ℕ) (es bs : List ℕ) (time : ℕ) (ns : List ℕ) (s : State) (ds : List DataToSend) → Stands a len s ds → AllTyped (separately es bs time ns)
+    → Stands a len (runs.after (separately es bs time ns) s) (ds ++ allIn (runs.run (separately es bs time ns) s))
+unfolding runs.after runs.run allIn
+separately-on a len es bs time [] s ds h t = subst (Stands a len s) (sym (append-nil ds)) h
+separately-on a len es bs time (n ∷ ns) s ds h t =
+    let c : Call = produce es (take n bs) time n in
+    let s′ : State = step c s .next in
+    let es′ : List DataToSend = dataIn (step c s .shows .answer) in
+    subst (Stands a len (runs.after (separately es bs time ns) s′)) (append-assoc ds es′ (allIn (runs.run (separately es bs time ns) s′)))
+    (separately-on a len es bs time ns s′ (ds ++ es′) (gone-on a len s ds h c (t .0) tt) (t .1))
+
+packed : (a : Arguments) (len : ℕ) (s : State) (ds : List DataToSend) → Stands a len s ds → (es bs : List ℕ) (time : ℕ) (p : Packet) → Typed (fill es bs time p)
+    → Stands a len (step (fill es bs time p) s .next) (ds ++ allIn (runs.run (instead (fill es bs time p) s) s))
+unfolding runs.after runs.run allIn
+packed a len s ds h es bs time p t =
+    let c : Call = fill es bs time p in
+    let k = stands-call c s (h .good) t in
+    let x = chosen (refusal (step c s .shows .answer)) (k .typed) in
+    record {
+      good = k .leads .good′;
+      store-is = sym (k .leads .stores) ∙ x .store-is;
+      fragments = x .fragments;
+      sends = subst (λ (q : Queue). model.Sends (optionsWith a len) q (x .fragments)) (k .leads .queues) (x .sends);
+      shown-as = x .shown-as;
+    }
+  where
+    chosen : (b : Bool) → AllTyped (pick b [] (separately es bs time (sizesAsked es time p s)))
+        → Stands a len (runs.after (pick b [] (separately es bs time (sizesAsked es time p s))) s) (ds ++ allIn (runs.run (pick b [] (separately es bs time (sizesAsked es time p s))) s))
+    chosen true u = subst (Stands a len s) (sym (append-nil ds)) h
+    chosen false u = separately-on a len es bs time (sizesAsked es time p s) s ds h u
+
 changed-over : (a : Arguments) (len : ℕ) (s t : State) (ds : List DataToSend) → Stands a len s ds → (saved time size : ℕ) (buffer after : List ℕ)
     → Saves s saved buffer after size → New a len t → time ≤ 4611686018427387903 → Stands a len (step (restore time (take size after)) t .next) ds
 changed-over a len s t ds h at time size buffer after v c ht =
@@ -100,6 +138,7 @@ changed-over a len s t ds h at time size buffer after v c ht =
 stands : {a : Arguments} {len : ℕ} {s : State} {ds : List DataToSend} → Sends a len s ds → Stands a len s ds
 stands {a} {len} {s} (begins c) = begun a len s c
 stands {a} {len} (goes-on {s = s} {ds = ds} x c t u) = gone-on a len s ds (stands x) c t u
+stands {a} {len} (packs {s = s} {ds = ds} x es bs time p t) = packed a len s ds (stands x) es bs time p t
 stands {a} {len} (changes-over {s = s} {t = t} {ds = ds} x at time size buffer after v c ht) = changed-over a len s t ds (stands x) at time size buffer after v c ht
 
 -- ---- THE THEOREM
