@@ -14,6 +14,13 @@ use handover_records::records::Trailer;
 use image_reader::read_message;
 use image_reader::read_stream;
 use image_reader::read_trailer;
+use queue_words::limits::MESSAGES;
+use queue_words::limits::STREAMS;
+
+// "passes 256 streams, 1,024 messages", as the trailer counts them.
+const MAX_STREAM_RECORDS: u16 = STREAMS as u16;
+
+const MAX_MESSAGE_RECORDS: u16 = MESSAGES as u16;
 
 // The payload bytes of n message records from `start` on, which fill `size` bytes.
 fn payload_bytes(image: &[u8], start: usize, size: usize, n: usize) -> u64
@@ -137,10 +144,10 @@ fn amounts_fit(image: &[u8], t: Trailer, store_length: u64) -> bool
     requires { ⌜ rulesKept false (now image) t ≡ true ⌝ }
     ensures { λ r. ⌜ r ≡ amountsFit (now (image .entry)) t «store_length» ⌝ }
 {
-    if t.streams > 256 {
+    if t.streams > MAX_STREAM_RECORDS {
         return false;
     }
-    if t.messages > 1024 {
+    if t.messages > MAX_MESSAGE_RECORDS {
         return false;
     }
     let bytes = payload_bytes(
@@ -159,7 +166,7 @@ fn amounts_fit(image: &[u8], t: Trailer, store_length: u64) -> bool
         t.messages_size as usize,
         t.messages as usize,
     );
-    if t.streams as u64 + more > 256 {
+    if t.streams as u64 + more > STREAMS {
         return false;
     }
     true

@@ -11,6 +11,10 @@ use handover_records::records::HandoverStreamMessage;
 use handover_records::records::Trailer;
 use image_reader::read_message;
 use image_reader::read_stream;
+use queue_words::limits::MAX_PAYLOAD;
+
+// "Payload length is 1 to 262,144", as the record has it.
+const MAX_LENGTH: u32 = MAX_PAYLOAD as u32;
 
 // "form 2 (= 1)"; "All must agree and fill the image."
 pub fn trailer_right(t: Trailer, size: usize) -> bool
@@ -82,7 +86,7 @@ fn numbers_right(m: HandoverStreamMessage) -> bool
         if m.length < 1 {
             return false;
         }
-        if m.length > 262144 {
+        if m.length > MAX_LENGTH {
             return false;
         }
         return m.offset < m.length;

@@ -16,6 +16,7 @@ use queue_words::header::load_totals;
 use queue_words::header::store_totals;
 use queue_words::items::Item;
 use queue_words::items::store_next;
+use queue_words::limits::NO_MESSAGE;
 use queue_words::streams::OutgoingStream;
 use queue_words::streams::PauseState;
 use queue_words::streams::store_stream;
@@ -41,7 +42,7 @@ pub fn head_code(
     if t.waiting == 0 {
         return 16;
     }
-    if next > 1024 {
+    if next > NO_MESSAGE {
         return 16;
     }
     drop_code(queue, place)
@@ -65,10 +66,10 @@ pub fn release(queue: &mut [u64; QUEUE_WORDS], place: usize, n: u64)
 fn last_behind(next: u64, last: u64) -> u64
     ensures { λ r. ⌜ r ≡ lastBehind next last ⌝ }
 {
-    if next < 1024 {
+    if next < NO_MESSAGE {
         return last;
     }
-    1024
+    NO_MESSAGE
 }
 
 // A stream in a state without its head and the head's n bytes.

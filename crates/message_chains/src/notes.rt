@@ -3,16 +3,18 @@
 ghost use mathlib.Core.Path.{_≡_};
 ghost use Rattle.message_chains.specs.Notes.{notes, noted, lowNoted, lifecycleNoted};
 use queue_streams::events::EVENT_WORDS;
+use queue_streams::events::LAST_EVENT;
+use queue_streams::events::TOO_MANY_EVENTS;
 use queue_streams::events::put_event;
 
 pub fn note(events: &mut [u64], k: usize, kind: u64, number: u64, amount: u64) -> usize
     ensures { λ r. ⌜ notes (now (events .exit)) r ≡ noted (now (events .entry)) k kind number amount ⌝ }
 {
-    if k > 2304 {
-        return 2306;
+    if k > LAST_EVENT {
+        return TOO_MANY_EVENTS;
     }
     if events.len() < EVENT_WORDS {
-        return 2306;
+        return TOO_MANY_EVENTS;
     }
     put_event(events, k, kind, number, amount);
     k + 1

@@ -35,6 +35,7 @@ use queue_words::items::load_length;
 use queue_words::items::load_place;
 use queue_words::items::store_length;
 use queue_words::items::store_place;
+use queue_words::limits::MESSAGE_ROWS;
 use queue_words::whole;
 use searching::find_gaps;
 use searching::lies;
@@ -62,7 +63,7 @@ fn choose_row(queue: &[u64; QUEUE_WORDS], cursor: u64, best: usize, i: usize) ->
     if place < cursor {
         return best;
     }
-    if best >= 1024 {
+    if best >= MESSAGE_ROWS {
         return i;
     }
     let other = load_place(queue, best);
@@ -96,7 +97,7 @@ fn move_all(queue: &mut [u64; QUEUE_WORDS], store: &mut [u8], kept: &mut [u64]) 
     let mut k = 0;
     while k < len {
         let r = next_row(&*queue, cursor, kept);
-        if r >= 1024 {
+        if r >= MESSAGE_ROWS {
             return cursor;
         }
         let from = load_place(queue, r);
@@ -170,7 +171,7 @@ fn all_fit(queue: &[u64; QUEUE_WORDS], len: u64, used: u64) -> bool
         left: used,
     };
     let mut i = 0;
-    while i < 1024 {
+    while i < MESSAGE_ROWS {
         if t.left == 0 {
             return t.ok;
         }
@@ -187,7 +188,7 @@ fn all_fit(queue: &[u64; QUEUE_WORDS], len: u64, used: u64) -> bool
 pub fn put_code(queue: &[u64; QUEUE_WORDS], len: u64, i: usize, n: u64) -> u8
     ensures { λ r. ⌜ r ≡ putCode (now (queue .entry)) len i n ⌝ }
 {
-    if i >= 1024 {
+    if i >= MESSAGE_ROWS {
         return 16;
     }
     let size = load_length(queue, i);
@@ -311,7 +312,7 @@ fn read_part(dst: &mut [u8], store: &[u8], at: usize, n: usize)
 pub fn read_code(queue: &[u64; QUEUE_WORDS], len: u64, i: usize, off: u64, n: u64, room: u64) -> u8
     ensures { λ r. ⌜ r ≡ readCode (now (queue .entry)) len i off n room ⌝ }
 {
-    if i >= 1024 {
+    if i >= MESSAGE_ROWS {
         return 16;
     }
     let size = load_length(queue, i);
@@ -360,7 +361,7 @@ pub fn read_payload(
 pub fn drop_code(queue: &[u64; QUEUE_WORDS], i: usize) -> u8
     ensures { λ r. ⌜ r ≡ dropCode (now (queue .entry)) i ⌝ }
 {
-    if i >= 1024 {
+    if i >= MESSAGE_ROWS {
         return 16;
     }
     let size = load_length(queue, i);

@@ -6,13 +6,15 @@ ghost use Rattle.payload_store.specs.Moving.{leastIn, better, least, Hin
 use crate::choose_row;
 use queue_words::QUEUE_WORDS;
 use queue_words::items::load_place;
+use queue_words::limits::MESSAGE_ROWS;
+use queue_words::limits::MESSAGES;
 
 pub const GROUPS: usize = 32;
 
 pub const GROUP: usize = 32;
 
 // What is kept of a group whose least row is not known; 1024 stands for no row.
-pub const UNKNOWN: u64 = 1025;
+pub const UNKNOWN: u64 = MESSAGES + 1;
 
 // The row of group g whose payload comes first at or above the cursor; 1024 for none.
 fn least_in(queue: &[u64; QUEUE_WORDS], cursor: u64, g: usize) -> usize
@@ -20,7 +22,7 @@ fn least_in(queue: &[u64; QUEUE_WORDS], cursor: u64, g: usize) -> usize
     ensures { λ r. ⌜ r ≡ leastIn (now (queue .entry)) cursor (g * 32) 32 ⌝ }
 {
     let first = g * GROUP;
-    let mut best = 1024;
+    let mut best = MESSAGE_ROWS;
     let mut i = 0;
     while i < GROUP {
         best = choose_row(queue, cursor, best, first + i);
@@ -33,10 +35,10 @@ fn least_in(queue: &[u64; QUEUE_WORDS], cursor: u64, g: usize) -> usize
 fn better(queue: &[u64; QUEUE_WORDS], b: usize, c: usize) -> usize
     ensures { λ r. ⌜ r ≡ better (now (queue .entry)) b c ⌝ }
 {
-    if c >= 1024 {
+    if c >= MESSAGE_ROWS {
         return b;
     }
-    if b >= 1024 {
+    if b >= MESSAGE_ROWS {
         return c;
     }
     let place = load_place(queue, c);
@@ -52,10 +54,10 @@ fn renewed(queue: &[u64; QUEUE_WORDS], cursor: u64, g: usize, b: usize) -> usize
     requires { ⌜ (g < 32) × Hint (now queue) cursor g b ⌝ }
     ensures { λ r. ⌜ r ≡ leastIn (now (queue .entry)) cursor (g * 32) 32 ⌝ }
 {
-    if b > 1024 {
+    if b > MESSAGE_ROWS {
         return least_in(queue, cursor, g);
     }
-    if b == 1024 {
+    if b == MESSAGE_ROWS {
         return b;
     }
     let place = load_place(queue, b);
@@ -70,7 +72,7 @@ pub fn next_row(queue: &[u64; QUEUE_WORDS], cursor: u64, kept: &mut [u64]) -> us
     requires { ⌜ Hints (now queue) cursor (now kept) ⌝ }
     ensures { λ r. ⌜ (r ≡ least (now (queue .entry)) cursor 1024) × Exact (now (queue .entry)) cursor 32 (now (kept .exit)) ⌝ }
 {
-    let mut best = 1024;
+    let mut best = MESSAGE_ROWS;
     let mut g = 0;
     while g < GROUPS {
         let b = renewed(queue, cursor, g, kept[g] as usize);

@@ -10,6 +10,7 @@ use queue_words::QUEUE_WORDS;
 use queue_words::header::Gaps;
 use queue_words::items::load_length;
 use queue_words::items::load_place;
+use queue_words::limits::MESSAGE_ROWS;
 
 pub const PIECE: u64 = 8192;
 
@@ -81,7 +82,7 @@ fn reach_all(queue: &[u64; QUEUE_WORDS], used: u64, reach: &mut [u64])
 {
     let mut left = used;
     let mut i = 0;
-    while i < 1024 {
+    while i < MESSAGE_ROWS {
         if left == 0 {
             return;
         }

@@ -3,11 +3,10 @@ ghost use mathlib.Core.Path.{_≡_};
 ghost use Prim.Native.Nat.{_<_};
 ghost use lib.ListN.{length};
 ghost use Rattle.priority_plan.specs.Lists.{named-later, named-twice, size-outside, list-wrong};
+use queue_words::limits::MAX_PAYLOAD;
 
 // "up to 32 heads".
 pub const MAX_PLANNED: usize = 32;
-// "a size is outside 1 to 262,144".
-const MAX_PAYLOAD: u64 = 262144;
 
 // Whether the id at a place is named again behind it.
 fn named_later(ids: &[u16], at: usize) -> bool

@@ -13,9 +13,8 @@ use crate::least::least_priority;
 use crate::lists::MAX_PLANNED;
 use crate::lists::list_wrong;
 use queue_streams::answers::Call;
+use queue_words::limits::MAX_PAYLOAD_LIMIT;
 
-// "the payload limit is outside 1 to 65,535".
-const MAX_LIMIT: u64 = 65535;
 // "priorities from 1 to 65,535".
 const MAX_PRIORITY: u64 = 65535;
 // Above every finish time.
@@ -78,7 +77,7 @@ pub fn plan_priorities(payload_limit: u64, ids: &[u16], sizes: &[u64]) -> Planne
     if payload_limit < 1 {
         return refused(1);
     }
-    if MAX_LIMIT < payload_limit {
+    if MAX_PAYLOAD_LIMIT < payload_limit {
         return refused(1);
     }
     let wrong = list_wrong(ids, sizes);

@@ -23,6 +23,9 @@ use queue_words::header::load_totals;
 use queue_words::items::Item;
 use queue_words::items::load_item;
 use queue_words::items::store_next;
+use queue_words::limits::LAST_MESSAGE;
+use queue_words::limits::MESSAGE_ROWS;
+use queue_words::limits::NO_MESSAGE;
 use queue_words::streams::OutgoingStream;
 use queue_words::streams::PauseState;
 use queue_words::streams::load_stream;
@@ -45,7 +48,7 @@ fn walk_failed(w: Walk) -> Walk
 {
     let mut o = w;
     o.fits = false;
-    o.place = 1024;
+    o.place = NO_MESSAGE;
     o
 }
 
@@ -94,8 +97,8 @@ fn walk_chain(queue: &[u64; QUEUE_WORDS], start: Walk) -> Walk
 {
     let mut w = start;
     let mut i: usize = 0;
-    while i < 1024 {
-        if w.place > 1023 {
+    while i < MESSAGE_ROWS {
+        if w.place > LAST_MESSAGE {
             return w;
         }
         let m = load_item(queue, w.place as usize);
@@ -122,7 +125,7 @@ fn may_sweep(queue: &[u64; QUEUE_WORDS], place: u64, amount: u64) -> bool
         },
     );
     if w.fits {
-        return w.place == 1024;
+        return w.place == NO_MESSAGE;
     }
     false
 }
@@ -189,8 +192,8 @@ fn sweep_chain(
 {
     let mut w = start;
     let mut i: usize = 0;
-    while i < 1024 {
-        if w.place > 1023 {
+    while i < MESSAGE_ROWS {
+        if w.place > LAST_MESSAGE {
             return w;
         }
         w = sweep_item(queue, events, id, threshold, w.place as usize, w);
@@ -227,8 +230,8 @@ fn close_whole(
             );
             let mut o = with_pause(s, PauseState::Paused);
             o.buffered_amount = w.amount;
-            o.first = 1024;
-            o.last = 1024;
+            o.first = NO_MESSAGE;
+            o.last = NO_MESSAGE;
             store_stream(queue, row, o);
             return Call::Accepted(w.count);
         }
@@ -261,7 +264,7 @@ fn close_behind(
                 amount: s.buffered_amount,
             },
         );
-        store_next(queue, s.first as usize, 1024);
+        store_next(queue, s.first as usize, NO_MESSAGE);
         let mut o = with_pause(s, PauseState::Pending);
         o.buffered_amount = w.amount;
         o.last = s.first;
@@ -283,10 +286,10 @@ fn close_open(
     requires { ⌜ row < 256 ⌝ }
     ensures { λ r. ⌜ calledWith r (now (queue .exit)) (now (events .exit)) ≡ closeOpen (now (queue .entry)) (now (events .entry)) id row s ⌝ }
 {
-    if s.first > 1024 {
+    if s.first > NO_MESSAGE {
         return Call::Refused(16);
     }
-    if s.first == 1024 {
+    if s.first == NO_MESSAGE {
         let o = with_pause(s, PauseState::Paused);
         store_stream(queue, row, o);
         return Call::Accepted(0);

@@ -28,15 +28,16 @@ use queue_words::header::store_totals;
 use queue_words::items::load_next;
 use queue_words::items::store_item;
 use queue_words::items::store_next;
+use queue_words::limits::LAST_MESSAGE;
+use queue_words::limits::MAX_PAYLOAD;
+use queue_words::limits::MAX_TIME;
+use queue_words::limits::NO_MESSAGE;
+use queue_words::limits::STREAMS;
 use queue_words::streams::OutgoingStream;
 use queue_words::streams::PauseState;
 use queue_words::streams::load_stream;
 use queue_words::streams::store_chain;
 use stream_scheduler::begin_waiting;
-
-const MAX_TIME: u64 = 4611686018427387903;
-
-const MAX_PAYLOAD: u64 = 262144;
 
 // The refusals that the arguments decide: 2, 4, 4, 5, or 0.
 fn arguments_code(queue: &[u64; QUEUE_WORDS], len: u64, time: u64, lifetime: Lifetime, n: u64) -> u8
@@ -67,7 +68,7 @@ fn full_code(queue: &[u64; QUEUE_WORDS], len: u64, n: u64) -> u8
     ensures { λ r. ⌜ r ≡ fullCode (now (queue .entry)) len n ⌝ }
 {
     let t = load_totals(queue);
-    if t.waiting > 1023 {
+    if t.waiting > LAST_MESSAGE {
         return 7;
     }
     let free = minus(len, t.used);
@@ -96,7 +97,7 @@ fn starts(s: OutgoingStream) -> bool
     let state = s.pause_state;
     let may = may_start(state);
     if may {
-        return s.first > 1023;
+        return s.first > LAST_MESSAGE;
     }
     false
 }
@@ -108,7 +109,7 @@ fn has_room(queue: &[u64; QUEUE_WORDS], s: OutgoingStream) -> bool
     let begins = starts(s);
     if begins {
         let c = load_scheduler_state(queue);
-        return c.active < 256;
+        return c.active < STREAMS;
     }
     true
 }
@@ -117,20 +118,20 @@ fn has_room(queue: &[u64; QUEUE_WORDS], s: OutgoingStream) -> bool
 fn places_code(queue: &[u64; QUEUE_WORDS], s: OutgoingStream, free: u64) -> u8
     ensures { λ r. ⌜ r ≡ placesCode (now (queue .entry)) s free ⌝ }
 {
-    if free > 1023 {
+    if free > LAST_MESSAGE {
         return 16;
     }
     let next = load_next(queue, free as usize);
-    if next > 1024 {
+    if next > NO_MESSAGE {
         return 16;
     }
-    if s.first > 1024 {
+    if s.first > NO_MESSAGE {
         return 16;
     }
-    if s.first == 1024 {
+    if s.first == NO_MESSAGE {
         return 0;
     }
-    if s.last > 1023 {
+    if s.last > LAST_MESSAGE {
         return 16;
     }
     0
@@ -193,11 +194,11 @@ pub fn link_last(queue: &mut [u64; QUEUE_WORDS], row: usize, s: OutgoingStream, 
     ensures { λ _. ⌜ now (queue .exit) ≡ linkedLast (now (queue .entry)) row s place n ⌝ }
 {
     let amount = plus(s.buffered_amount, n);
-    if s.first > 1023 {
+    if s.first > LAST_MESSAGE {
         store_chain(queue, row, amount, place, place);
         return;
     }
-    if s.last > 1023 {
+    if s.last > LAST_MESSAGE {
         store_chain(queue, row, amount, s.first, place);
         return;
     }
@@ -269,7 +270,7 @@ fn append(
     ensures { λ _. ⌜ stored (now (queue .exit)) (now (store .exit)) ≡ appended (now (queue .entry)) (now (store .entry)) time m (now (payload .entry)) row s ⌝ }
 {
     let t = load_totals(&*queue);
-    if t.free > 1023 {
+    if t.free > LAST_MESSAGE {
         return;
     }
     let place = t.free as usize;

@@ -16,6 +16,9 @@ use queue_words::header::store_totals;
 use queue_words::items::store_length;
 use queue_words::items::store_next;
 use queue_words::items::store_place;
+use queue_words::limits::MAX_PAYLOAD_LIMIT;
+use queue_words::limits::MAX_STORE;
+use queue_words::limits::MESSAGE_ROWS;
 use types::OutgoingMessageId;
 
 // Creation's refusal, 0 for none.
@@ -25,13 +28,13 @@ fn create_code(payload_limit: u64, store_length: u64) -> u8
     if payload_limit == 0 {
         return 1;
     }
-    if payload_limit > 65535 {
+    if payload_limit > MAX_PAYLOAD_LIMIT {
         return 1;
     }
     if store_length == 0 {
         return 2;
     }
-    if store_length > 2000000 {
+    if store_length > MAX_STORE {
         return 2;
     }
     0
@@ -42,7 +45,7 @@ pub fn free_all(queue: &mut [u64; QUEUE_WORDS])
     ensures { λ _. ⌜ now (queue .exit) ≡ freed (now (queue .entry)) 1024 ⌝ }
 {
     let mut i = 0;
-    while i < 1024 {
+    while i < MESSAGE_ROWS {
         store_length(queue, i, 0);
         store_place(queue, i, 0);
         store_next(queue, i, (i + 1) as u64);

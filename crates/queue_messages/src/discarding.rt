@@ -11,6 +11,7 @@ use queue_words::QUEUE_WORDS;
 use queue_words::items::load_item;
 use queue_words::known::Found;
 use queue_words::known::find_stream;
+use queue_words::limits::NO_MESSAGE;
 use queue_words::streams::load_stream;
 
 fn discard_in(
@@ -24,10 +25,10 @@ fn discard_in(
     ensures { λ r. ⌜ calledWith r (now (queue .exit)) (now (events .exit)) ≡ discardIn (now (queue .entry)) (now (events .entry)) id «message_id» row (streamAt (now (queue .entry)) row) ⌝ }
 {
     let s = load_stream(&*queue, row);
-    if s.first > 1024 {
+    if s.first > NO_MESSAGE {
         return Call::Refused(16);
     }
-    if s.first == 1024 {
+    if s.first == NO_MESSAGE {
         return Call::Accepted(0);
     }
     let m = load_item(&*queue, s.first as usize);

@@ -3,6 +3,7 @@ ghost use mathlib.Core.Path.{_≡_};
 ghost use Prim.Native.Nat.{_≤_};
 ghost use Rattle.queue_messages.specs.Message.{retransmissions, isLimited, nanoseconds, expiry, newItem};
 use queue_words::items::Item;
+use queue_words::limits::NO_MESSAGE;
 use types::Fsn;
 use types::Mid;
 use types::OutgoingMessageId;
@@ -97,6 +98,6 @@ pub fn new_item(time: u64, id: OutgoingMessageId, m: Message) -> Item
         place: 0,
         length: 0,
         offset: 0,
-        next: 1024,
+        next: NO_MESSAGE,
     }
 }

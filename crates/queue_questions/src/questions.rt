@@ -11,6 +11,8 @@ use queue_words::header::load_totals;
 use queue_words::known::Found;
 use queue_words::known::find_stream;
 use queue_words::known::load_known;
+use queue_words::limits::LAST_STREAM;
+use queue_words::limits::STREAMS;
 use queue_words::streams::OutgoingStream;
 use queue_words::streams::load_stream;
 use stream_scheduler::Peeked;
@@ -103,7 +105,7 @@ fn ready_among(queue: &[u64; QUEUE_WORDS], n: usize) -> Flag
     let mut i = 0;
     while i < n {
         let k = load_known(queue, i);
-        if k.place > 255 {
+        if k.place > LAST_STREAM {
             return Flag::Refused(16);
         }
         let s = load_stream(queue, k.place as usize);
@@ -122,7 +124,7 @@ pub fn has_streams_ready_to_be_reset(queue: &[u64; QUEUE_WORDS]) -> Flag
     ensures { λ r. ⌜ r ≡ readyOf (now (queue .entry)) ⌝ }
 {
     let t = load_totals(queue);
-    if t.known > 256 {
+    if t.known > STREAMS {
         return Flag::Refused(16);
     }
     ready_among(queue, t.known as usize)

@@ -8,6 +8,9 @@ use queue_streams::answers::is_accepted;
 use queue_words::QUEUE_WORDS;
 use queue_words::header::load_totals;
 use queue_words::known::load_known;
+use queue_words::limits::LAST_STREAM;
+use queue_words::limits::STREAM_ROWS;
+use queue_words::limits::STREAMS;
 use queue_words::streams::PauseState;
 use queue_words::streams::load_stream;
 use queue_words::streams::store_stream;
@@ -17,7 +20,7 @@ use queue_words::streams::with_pause;
 pub struct ReadyStreams {
     pub answer: Call,
     pub count: usize,
-    pub ids: [u16; 256],
+    pub ids: [u16; STREAM_ROWS],
 }
 
 // 16, and no id.
@@ -27,14 +30,14 @@ fn refused_ready() -> ReadyStreams
     ReadyStreams {
         answer: Call::Refused(16),
         count: 0,
-        ids: [0u16; 256],
+        ids: [0u16; STREAM_ROWS],
     }
 }
 
 fn paused_at(queue: &[u64; QUEUE_WORDS], place: u64) -> bool
     ensures { λ r. ⌜ r ≡ pausedAt (now (queue .entry)) place ⌝ }
 {
-    if place > 255 {
+    if place > LAST_STREAM {
         return false;
     }
     let s = load_stream(queue, place as usize);
@@ -47,12 +50,12 @@ fn collect(queue: &[u64; QUEUE_WORDS], n: usize) -> ReadyStreams
     requires { ⌜ n ≤ 256 ⌝ }
     ensures { λ r. ⌜ r ≡ collectedOr16 (now (queue .entry)) n ⌝ }
 {
-    let mut ids = [0u16; 256];
+    let mut ids = [0u16; STREAM_ROWS];
     let mut count = 0;
     let mut i = 0;
     while i < n {
         let k = load_known(queue, i);
-        if k.place > 255 {
+        if k.place > LAST_STREAM {
             return refused_ready();
         }
         let paused = paused_at(queue, k.place);
@@ -73,7 +76,7 @@ fn collect(queue: &[u64; QUEUE_WORDS], n: usize) -> ReadyStreams
 fn mark(queue: &mut [u64; QUEUE_WORDS], place: u64)
     ensures { λ _. ⌜ now (queue .exit) ≡ marked (now (queue .entry)) place ⌝ }
 {
-    if place > 255 {
+    if place > LAST_STREAM {
         return;
     }
     let s = load_stream(&*queue, place as usize);
@@ -102,7 +105,7 @@ pub fn get_streams_ready_to_reset(queue: &mut [u64; QUEUE_WORDS]) -> ReadyStream
     ensures { λ r. ⌜ readied r (now (queue .exit)) ≡ ready (now (queue .entry)) ⌝ }
 {
     let t = load_totals(&*queue);
-    if t.known > 256 {
+    if t.known > STREAMS {
         return refused_ready();
     }
     let r = collect(&*queue, t.known as usize);
@@ -119,7 +122,7 @@ pub fn count_streams_ready_to_reset(queue: &[u64; QUEUE_WORDS]) -> Number
     ensures { λ r. ⌜ r ≡ readyCount (now (queue .entry)) ⌝ }
 {
     let t = load_totals(queue);
-    if t.known > 256 {
+    if t.known > STREAMS {
         return Number::Refused(16);
     }
     let r = collect(queue, t.known as usize);

@@ -17,6 +17,9 @@ use queue_words::items::Item;
 use queue_words::items::load_item;
 use queue_words::items::store_item;
 use queue_words::known::load_known;
+use queue_words::limits::LAST_MESSAGE;
+use queue_words::limits::LAST_STREAM;
+use queue_words::limits::NO_MESSAGE;
 use queue_words::streams::OutgoingStream;
 use queue_words::streams::PauseState;
 use queue_words::streams::load_stream;
@@ -28,7 +31,7 @@ use types::Ssn;
 fn put_back(queue: &[u64; QUEUE_WORDS], first: u64) -> u64
     ensures { λ r. ⌜ r ≡ putBack (now (queue .entry)) first ⌝ }
 {
-    if first > 1023 {
+    if first > LAST_MESSAGE {
         return 0;
     }
     let m = load_item(queue, first as usize);
@@ -61,7 +64,7 @@ fn sum_stream(s: OutgoingStream, back: u64, t: Sum) -> Sum
 fn sum_known(queue: &[u64; QUEUE_WORDS], place: u64, t: Sum) -> Sum
     ensures { λ r. ⌜ r ≡ sumKnown (now (queue .entry)) place t ⌝ }
 {
-    if place > 255 {
+    if place > LAST_STREAM {
         return Sum {
             fits: false,
             total: t.total,
@@ -145,7 +148,7 @@ fn reset_in(
     let back = put_back(&*queue, s.first);
     let o = reset_stream(s, back);
     store_stream(queue, place, o);
-    if s.first < 1024 {
+    if s.first < NO_MESSAGE {
         whole_head(queue, strict, s.first as usize);
         reschedule(queue, interleaving, id, s.first, s.priority);
     }
@@ -154,7 +157,7 @@ fn reset_in(
 fn reset_at(queue: &mut [u64; QUEUE_WORDS], strict: bool, interleaving: bool, id: u16, place: u64)
     ensures { λ _. ⌜ now (queue .exit) ≡ resetAt strict (now (queue .entry)) interleaving id place ⌝ }
 {
-    if place > 255 {
+    if place > LAST_STREAM {
         return;
     }
     let s = load_stream(&*queue, place as usize);

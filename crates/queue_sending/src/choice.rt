@@ -8,6 +8,8 @@ use queue_words::items::Item;
 use queue_words::items::load_item;
 use queue_words::known::Found;
 use queue_words::known::find_stream;
+use queue_words::limits::LAST_MESSAGE;
+use queue_words::limits::LAST_STREAM_ROW;
 use queue_words::streams::load_stream;
 use stream_scheduler::Peeked;
 use stream_scheduler::peek;
@@ -37,7 +39,7 @@ fn look_at(queue: &[u64; QUEUE_WORDS], time: u64, at: usize, id: u16, row: usize
     ensures { λ r. ⌜ r ≡ lookAt (now (queue .entry)) time at id row ⌝ }
 {
     let s = load_stream(queue, row);
-    if s.first > 1023 {
+    if s.first > LAST_MESSAGE {
         return Look::Broken;
     }
     let m = load_item(queue, s.first as usize);
@@ -65,7 +67,7 @@ pub fn look_ahead(queue: &[u64; QUEUE_WORDS], time: u64) -> Look
     let p = peek(queue);
     match p {
         Peeked::At(at) => {
-            if at > 255 {
+            if at > LAST_STREAM_ROW {
                 return Look::Broken;
             }
             let a = load_active(queue, at);

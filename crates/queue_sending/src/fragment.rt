@@ -18,6 +18,7 @@ use message_chains::heads::sent_events;
 use message_chains::heads::without_head;
 use payload_store::read_code;
 use payload_store::read_payload;
+use queue_streams::events::EVENT_PLACES;
 use queue_streams::waiting::head_size;
 use queue_streams::waiting::parameters_for;
 use queue_words::QUEUE_WORDS;
@@ -27,12 +28,18 @@ use queue_words::header::store_totals;
 use queue_words::items::Item;
 use queue_words::items::load_item;
 use queue_words::items::store_item;
+use queue_words::limits::LAST_MESSAGE;
+use queue_words::limits::LAST_STREAM_ROW;
+use queue_words::limits::NO_MESSAGE;
 use queue_words::streams::OutgoingStream;
 use queue_words::streams::PauseState;
 use queue_words::streams::load_stream;
 use queue_words::streams::store_stream;
 use stream_scheduler::accept;
 use stream_scheduler::anew::accept_last;
+
+// The most events before a fragment, which adds two at most.
+const MOST_BEFORE_FRAGMENT: usize = EVENT_PLACES - 2;
 
 fn least(a: u64, b: u64) -> u64
     ensures { λ r. ⌜ r ≡ leastOf a b ⌝ }
@@ -72,7 +79,7 @@ fn next_first(state: PauseState, next: u64) -> u64
 {
     let paused = state.is_paused();
     if paused {
-        return 1024;
+        return NO_MESSAGE;
     }
     next
 }
@@ -177,17 +184,17 @@ pub fn chosen_code(
 ) -> u8
     ensures { λ r. ⌜ r ≡ chosenCode (now (queue .entry)) len room size k at row ⌝ }
 {
-    if k > 2303 {
+    if k > MOST_BEFORE_FRAGMENT {
         return 16;
     }
-    if at > 255 {
+    if at > LAST_STREAM_ROW {
         return 16;
     }
-    if row > 255 {
+    if row > LAST_STREAM_ROW {
         return 16;
     }
     let s = load_stream(queue, row);
-    if s.first > 1023 {
+    if s.first > LAST_MESSAGE {
         return 16;
     }
     let m = load_item(queue, s.first as usize);

@@ -5,6 +5,7 @@ use crate::choice::Look;
 use crate::choice::look_ahead;
 use crate::fragment::chosen_code;
 use queue_streams::answers::Call;
+use queue_streams::events::EVENT_PLACES;
 use queue_words::QUEUE_WORDS;
 
 // It is refused; it says that nothing waits; or it hands out from a head, by the scheduler's row, its stream's id and row. The last two
@@ -49,7 +50,7 @@ pub fn next_found(
 {
     match found {
         Look::Nothing => {
-            if k > 2305 {
+            if k > EVENT_PLACES {
                 return Next::Refused(16);
             }
             Next::Nothing(k)

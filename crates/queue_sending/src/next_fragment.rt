@@ -14,14 +14,14 @@ use crate::data::Produced;
 use crate::fragment::hand_out;
 use crate::next::Next;
 use crate::past::pass_from;
+use queue_streams::events::EVENT_PLACES;
 use queue_streams::events::EVENT_WORDS;
 use queue_words::QUEUE_WORDS;
 use queue_words::header::load_options;
 use queue_words::header::load_totals;
-
-const MAX_TIME: u64 = 4611686018427387903;
-
-const MAX_SIZE: u64 = 262144;
+use queue_words::limits::MAX_PAYLOAD;
+use queue_words::limits::MAX_TIME;
+use queue_words::limits::MESSAGES;
 
 // The refusals that the arguments decide: 2, 3, 4, 9, 10, or 0.
 fn produce_code(
@@ -47,7 +47,7 @@ fn produce_code(
     if size == 0 {
         return 9;
     }
-    if size > MAX_SIZE {
+    if size > MAX_PAYLOAD {
         return 9;
     }
     if room < size {
@@ -72,7 +72,7 @@ fn pass_waiting(
     ensures { λ r. ⌜ Leads r (now (queue .exit)) (now (store .entry)) (now (events .exit)) (now (buffer .entry)) size (producedPast (now (queue .entry)) (now (store .entry)) (now (events .entry)) (now (buffer .entry)) time size k) ⌝ }
 {
     let t = load_totals(&*queue);
-    if t.waiting > 1024 {
+    if t.waiting > MESSAGES {
         return Next::Refused(16);
     }
     pass_from(
@@ -116,7 +116,7 @@ fn next_looked(
             row,
         ),
         Look::Nothing => {
-            if k > 2305 {
+            if k > EVENT_PLACES {
                 return Next::Refused(16);
             }
             Next::Nothing(k)

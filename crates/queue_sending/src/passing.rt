@@ -13,6 +13,8 @@ use crate::choice::look_ahead;
 use message_chains::dropping::drop_first;
 use queue_streams::answers::Call;
 use queue_words::QUEUE_WORDS;
+use queue_words::limits::LAST_MESSAGE;
+use queue_words::limits::LAST_STREAM_ROW;
 use queue_words::streams::load_stream;
 use queue_words::whole;
 use undo_log::keep_drop;
@@ -27,11 +29,11 @@ fn drop_expired(
 ) -> Call
     ensures { λ r. ⌜ calledWith r (now (queue .exit)) (now (events .exit)) ≡ expiredDropped (now (queue .entry)) (now (events .entry)) k id row ⌝ }
 {
-    if row > 255 {
+    if row > LAST_STREAM_ROW {
         return Call::Refused(16);
     }
     let s = load_stream(&*queue, row);
-    if s.first > 1023 {
+    if s.first > LAST_MESSAGE {
         return Call::Refused(16);
     }
     drop_first(queue, events, k, id, row)

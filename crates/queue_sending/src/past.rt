@@ -18,26 +18,33 @@ use crate::passing::Passing;
 use crate::passing::pass_over;
 use crate::passing::pass_some;
 use queue_streams::events::EVENT_WORDS;
+use queue_streams::events::PLACE_WORDS;
 use queue_words::QUEUE_WORDS;
 use undo_log::ENTRY;
 use undo_log::HEADER;
 use undo_log::undo;
 
-// The words of the four events that one drop writes at most.
-const FIRST_EVENTS: usize = 12;
+// The events that one drop writes at most, and their words.
+const DROP_EVENTS: usize = 4;
 
-// How many drops a longer log has room for, the words of it, and those of their events and of the ones before.
+const FIRST_EVENTS: usize = DROP_EVENTS * PLACE_WORDS;
+
+// How many drops a longer log has room for, the words of it, the most events before it, and the words of those and of its drops' events.
 const MORE: usize = 16;
 
-const MORE_LOG: usize = 320;
+const MORE_LOG: usize = MORE * ENTRY;
 
-const MORE_EVENTS: usize = 204;
+const MORE_BEFORE: usize = DROP_EVENTS;
+
+const MORE_EVENTS: usize = (MORE_BEFORE + MORE * DROP_EVENTS) * PLACE_WORDS;
 
 const MANY: usize = 111;
 
-const MANY_LOG: usize = 2220;
+const MANY_LOG: usize = MANY * ENTRY;
 
-const MANY_EVENTS: usize = 1536;
+const MANY_BEFORE: usize = MORE_BEFORE + MORE * DROP_EVENTS;
+
+const MANY_EVENTS: usize = (MANY_BEFORE + MANY * DROP_EVENTS) * PLACE_WORDS;
 
 // The first n words of one list go to another.
 fn copy_words(to: &mut [u64], from: &[u64], n: usize)
@@ -193,7 +200,7 @@ fn pass_on(
     requires { ⌜ (eventWords ≤ length (now events)) × (Expired id row ≡ lookAhead (now queue) time) ⌝ }
     ensures { λ r. ⌜ Leads r (now (queue .exit)) (now (store .entry)) (now (events .exit)) (now (buffer .entry)) size (pastFrom (now (queue .entry)) (now (store .entry)) (now (events .entry)) (now (buffer .entry)) time size waiting k) ⌝ }
 {
-    if k > 68 {
+    if k > MANY_BEFORE {
         let n = pass_copied(queue, store, events, buffer, time, size, waiting, k);
         return handed_on(n);
     }
@@ -294,7 +301,7 @@ fn next_past(
     let found = p.found;
     match found {
         Look::Expired(id, row) => {
-            if p.count > 4 {
+            if p.count > MORE_BEFORE {
                 let n = pass_on(
                     queue,
                     store,
@@ -375,7 +382,7 @@ pub fn pass_from(
     requires { ⌜ (eventWords ≤ length (now events)) × (Expired id row ≡ lookAhead (now queue) time) ⌝ }
     ensures { λ r. ⌜ Leads r (now (queue .exit)) (now (store .entry)) (now (events .exit)) (now (buffer .entry)) size (pastFrom (now (queue .entry)) (now (store .entry)) (now (events .entry)) (now (buffer .entry)) time size waiting k) ⌝ }
 {
-    if k > 4 {
+    if k > MORE_BEFORE {
         let n = pass_on(
             queue,
             store,

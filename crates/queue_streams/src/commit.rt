@@ -7,6 +7,9 @@ use queue_words::QUEUE_WORDS;
 use queue_words::header::load_scheduler_state;
 use queue_words::header::load_totals;
 use queue_words::known::load_known;
+use queue_words::limits::LAST_STREAM;
+use queue_words::limits::NO_MESSAGE;
+use queue_words::limits::STREAMS;
 use queue_words::streams::OutgoingStream;
 use queue_words::streams::load_stream;
 use queue_words::streams::store_stream;
@@ -15,7 +18,7 @@ use queue_words::streams::store_stream;
 fn is_quiet(s: OutgoingStream) -> bool
     ensures { λ r. ⌜ r ≡ quietStream s ⌝ }
 {
-    if s.first == 1024 {
+    if s.first == NO_MESSAGE {
         return true;
     }
     let state = s.pause_state;
@@ -50,11 +53,11 @@ pub(crate) fn nothing_starts(queue: &[u64; QUEUE_WORDS]) -> bool
     ensures { λ r. ⌜ r ≡ nothingStarts (now (queue .entry)) ⌝ }
 {
     let s = load_scheduler_state(queue);
-    if s.active > 256 {
+    if s.active > STREAMS {
         return false;
     }
     let t = load_totals(queue);
-    if t.known > 256 {
+    if t.known > STREAMS {
         return false;
     }
     all_quiet(queue, t.known as usize)
@@ -64,7 +67,7 @@ pub(crate) fn nothing_starts(queue: &[u64; QUEUE_WORDS]) -> bool
 fn commit_at(queue: &mut [u64; QUEUE_WORDS], place: u64)
     ensures { λ _. ⌜ now (queue .exit) ≡ committedAt (now (queue .entry)) place ⌝ }
 {
-    if place > 255 {
+    if place > LAST_STREAM {
         return;
     }
     let s = load_stream(&*queue, place as usize);

@@ -8,6 +8,11 @@ ghost use Rattle.queue_streams.specs.Events.{eventWords, putEvent};
 // The places that the list must have.
 pub const EVENT_PLACES: usize = 2305;
 
+// The last of them, and the count that stands for more events than they hold.
+pub const LAST_EVENT: usize = EVENT_PLACES - 1;
+
+pub const TOO_MANY_EVENTS: usize = EVENT_PLACES + 1;
+
 // The words of a place: kind, number and amount.
 pub const PLACE_WORDS: usize = 3;
 

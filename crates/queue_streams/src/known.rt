@@ -12,6 +12,8 @@ use queue_words::known::Known;
 use queue_words::known::find_stream;
 use queue_words::known::load_known;
 use queue_words::known::store_known;
+use queue_words::limits::LAST_STREAM;
+use queue_words::limits::NO_MESSAGE;
 use queue_words::streams::OutgoingStream;
 use queue_words::streams::PauseState;
 use queue_words::streams::store_stream;
@@ -31,8 +33,8 @@ pub fn new_stream(o: Options) -> OutgoingStream
         next_ordered_mid: Mid(0),
         buffered_amount: 0,
         low_threshold: o.default_threshold,
-        first: 1024,
-        last: 1024,
+        first: NO_MESSAGE,
+        last: NO_MESSAGE,
     }
 }
 
@@ -52,7 +54,7 @@ pub fn look_up(queue: &[u64; QUEUE_WORDS], id: u16) -> Place
         Found::At(_, row) => Place::Row(row),
         Found::Gap(position) => {
             let t = load_totals(queue);
-            if t.known > 255 {
+            if t.known > LAST_STREAM {
                 return Place::Refused(6);
             }
             Place::New(position)

@@ -15,6 +15,8 @@ use queue_words::header::load_totals;
 use queue_words::header::store_totals;
 use queue_words::known::Known;
 use queue_words::known::load_known;
+use queue_words::limits::LAST_STREAM;
+use queue_words::limits::NO_MESSAGE;
 use queue_words::streams::OutgoingStream;
 use queue_words::streams::PauseState;
 use queue_words::streams::load_stream;
@@ -61,7 +63,7 @@ fn reopen_in(
         let priority = s.priority;
         let o = open_stream(zeroed, s);
         store_stream(queue, place, o);
-        if first < 1024 {
+        if first < NO_MESSAGE {
             reschedule(queue, interleaving, id, first, priority);
         }
     }
@@ -70,7 +72,7 @@ fn reopen_in(
 fn reopen_at(queue: &mut [u64; QUEUE_WORDS], zeroed: bool, interleaving: bool, k: Known)
     ensures { λ _. ⌜ now (queue .exit) ≡ reopenedAt zeroed interleaving (now (queue .entry)) k ⌝ }
 {
-    if k.place > 255 {
+    if k.place > LAST_STREAM {
         return;
     }
     let place = k.place as usize;
@@ -126,7 +128,7 @@ pub fn rollback_reset_streams(queue: &mut [u64; QUEUE_WORDS]) -> Call
 fn switch_at(queue: &mut [u64; QUEUE_WORDS], interleaving: bool, k: Known)
     ensures { λ _. ⌜ now (queue .exit) ≡ switchedAt interleaving (now (queue .entry)) k ⌝ }
 {
-    if k.place > 255 {
+    if k.place > LAST_STREAM {
         return;
     }
     let s = load_stream(&*queue, k.place as usize);

@@ -10,6 +10,9 @@ use queue_words::header::load_totals;
 use queue_words::items::load_item;
 use queue_words::known::Known;
 use queue_words::known::load_known;
+use queue_words::limits::LAST_STREAM;
+use queue_words::limits::NO_MESSAGE;
+use queue_words::limits::STREAMS;
 use queue_words::streams::OutgoingStream;
 use queue_words::streams::PauseState;
 use queue_words::streams::load_stream;
@@ -32,7 +35,7 @@ fn remaining_at(queue: &[u64; QUEUE_WORDS], i: usize) -> u64
 pub fn head_size(queue: &[u64; QUEUE_WORDS], first: u64) -> u64
     ensures { λ r. ⌜ r ≡ headSize (now (queue .entry)) first ⌝ }
 {
-    if first < 1024 {
+    if first < NO_MESSAGE {
         return remaining_at(queue, first as usize);
     }
     0
@@ -99,13 +102,13 @@ fn tally_stream(
             rows: t.rows,
         };
     }
-    if s.first > 1024 {
+    if s.first > NO_MESSAGE {
         return Tally {
             fits: false,
             rows: t.rows,
         };
     }
-    if s.first == 1024 {
+    if s.first == NO_MESSAGE {
         return Tally {
             fits: t.fits,
             rows: t.rows,
@@ -128,7 +131,7 @@ fn tally_known(queue: &[u64; QUEUE_WORDS], all: bool, k: Known, t: Tally) -> Tal
     requires { ⌜ t .rows < 512 ⌝ }
     ensures { λ r. ⌜ r ≡ tallyKnown (now (queue .entry)) all k t ⌝ }
 {
-    if k.place > 255 {
+    if k.place > LAST_STREAM {
         return Tally {
             fits: false,
             rows: t.rows,
@@ -160,16 +163,16 @@ pub fn room_for(queue: &[u64; QUEUE_WORDS], all: bool) -> bool
     ensures { λ r. ⌜ r ≡ roomFor (now (queue .entry)) all ⌝ }
 {
     let t = load_totals(queue);
-    if t.known > 256 {
+    if t.known > STREAMS {
         return false;
     }
     let s = load_scheduler_state(queue);
-    if s.active > 256 {
+    if s.active > STREAMS {
         return false;
     }
     let sum = tally_all(queue, all, s.active, t.known as usize);
     if sum.fits {
-        return sum.rows <= 256;
+        return sum.rows <= STREAMS;
     }
     false
 }

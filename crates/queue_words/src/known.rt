@@ -5,6 +5,8 @@ ghost use Rattle.queue_words.specs.Known.{knownOut, knownIn, knownAt, pu
 ghost use Rattle.queue_words.specs.Find.{probed, all, probes, findStream};
 use crate::QUEUE_WORDS;
 use crate::header::load_totals;
+use crate::limits::LAST_STREAM;
+use crate::limits::STREAMS;
 use types::StreamId;
 
 const BASE: usize = 32;
@@ -106,7 +108,7 @@ pub fn find_stream(queue: &[u64; QUEUE_WORDS], id: u16) -> Found
     ensures { λ r. ⌜ r ≡ findStream (now (queue .entry)) id ⌝ }
 {
     let t = load_totals(queue);
-    if t.known > 256 {
+    if t.known > STREAMS {
         return Found::Broken;
     }
     let known = t.known as usize;
@@ -119,7 +121,7 @@ pub fn find_stream(queue: &[u64; QUEUE_WORDS], id: u16) -> Found
     if row.id.0 != id {
         return Found::Gap(at);
     }
-    if row.place > 255 {
+    if row.place > LAST_STREAM {
         return Found::Broken;
     }
     Found::At(at, row.place as usize)

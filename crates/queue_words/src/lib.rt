@@ -19,6 +19,7 @@ pub mod active;
 pub mod header;
 pub mod items;
 pub mod known;
+pub mod limits;
 pub mod streams;
 
 pub use active::ActiveStreamInfo;

@@ -19,6 +19,8 @@ use queue_words::header::store_totals;
 use queue_words::items::Item;
 use queue_words::items::load_next;
 use queue_words::items::store_item;
+use queue_words::limits::LAST_MESSAGE;
+use queue_words::limits::NO_MESSAGE;
 use queue_words::streams::OutgoingStream;
 use queue_words::streams::load_stream;
 use types::Fsn;
@@ -57,7 +59,7 @@ fn restored_item(time: u64, r: HandoverStreamMessage) -> Item
         place: 0,
         length: 0,
         offset: r.offset as u64,
-        next: 1024,
+        next: NO_MESSAGE,
     }
 }
 
@@ -120,7 +122,7 @@ fn hang(
     ensures { λ r. ⌜ restored (now (queue .exit)) (now (store .exit)) r ≡ hung (now (queue .entry)) (now (store .entry)) row s m (now (payload .entry)) n at ⌝ }
 {
     let t = load_totals(&*queue);
-    if t.free > 1023 {
+    if t.free > LAST_MESSAGE {
         return at;
     }
     let place = t.free as usize;

@@ -8,6 +8,8 @@ use queue_words::header::store_scheduler_state;
 use queue_words::items::load_item;
 use queue_words::known::Known;
 use queue_words::known::load_known;
+use queue_words::limits::LAST_STREAM;
+use queue_words::limits::NO_MESSAGE;
 use queue_words::streams::load_stream;
 
 // No stream.
@@ -17,11 +19,11 @@ const NONE: u64 = 65536;
 fn is_half_sent(queue: &[u64; QUEUE_WORDS], k: Known) -> bool
     ensures { λ r. ⌜ r ≡ halfSentAt (now (queue .entry)) k ⌝ }
 {
-    if k.place > 255 {
+    if k.place > LAST_STREAM {
         return false;
     }
     let s = load_stream(queue, k.place as usize);
-    if s.first < 1024 {
+    if s.first < NO_MESSAGE {
         let m = load_item(queue, s.first as usize);
         return 0 < m.offset;
     }

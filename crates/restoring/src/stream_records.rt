@@ -15,6 +15,8 @@ use queue_words::header::load_options;
 use queue_words::header::load_totals;
 use queue_words::header::store_scheduler_state;
 use queue_words::header::store_totals;
+use queue_words::limits::LAST_STREAM;
+use queue_words::limits::NO_MESSAGE;
 use queue_words::streams::OutgoingStream;
 use queue_words::streams::PauseState;
 use types::Mid;
@@ -67,8 +69,8 @@ fn restored_stream(o: Options, r: HandoverOutgoingStream) -> OutgoingStream
         next_ordered_mid: Mid(r.next_ordered_mid),
         buffered_amount: 0,
         low_threshold: o.default_threshold,
-        first: 1024,
-        last: 1024,
+        first: NO_MESSAGE,
+        last: NO_MESSAGE,
     }
 }
 
@@ -83,7 +85,7 @@ fn restore_stream(queue: &mut [u64; QUEUE_WORDS], image: &[u8], at: usize)
         return;
     }
     let t = load_totals(&*queue);
-    if t.known > 255 {
+    if t.known > LAST_STREAM {
         return;
     }
     let r = read_stream(image, at);

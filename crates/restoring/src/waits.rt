@@ -6,16 +6,18 @@ use queue_streams::reschedule;
 use queue_words::QUEUE_WORDS;
 use queue_words::known::Known;
 use queue_words::known::load_known;
+use queue_words::limits::LAST_STREAM;
+use queue_words::limits::NO_MESSAGE;
 use queue_words::streams::load_stream;
 
 fn wait_at(queue: &mut [u64; QUEUE_WORDS], interleaving: bool, k: Known)
     ensures { λ _. ⌜ now (queue .exit) ≡ waitsAt interleaving (now (queue .entry)) k ⌝ }
 {
-    if k.place > 255 {
+    if k.place > LAST_STREAM {
         return;
     }
     let s = load_stream(&*queue, k.place as usize);
-    if s.first < 1024 {
+    if s.first < NO_MESSAGE {
         reschedule(queue, interleaving, k.id.0, s.first, s.priority);
     }
 }

@@ -16,6 +16,7 @@ use handover_records::records::put_trailer;
 use queue_words::QUEUE_WORDS;
 use queue_words::header::load_options;
 use queue_words::header::load_totals;
+use queue_words::limits::MAX_TIME;
 
 // The image's length, which stands at the start of the lent buffer, or the refusal's number.
 pub enum Saved {
@@ -57,7 +58,7 @@ pub fn save(queue: &[u64; QUEUE_WORDS], store: &[u8], image: &mut [u8], time: u6
     if len != o.store_length {
         return Saved::Refused(2);
     }
-    if time > 4611686018427387903 {
+    if time > MAX_TIME {
         return Saved::Refused(4);
     }
     let t = tally_queue(queue, len);

@@ -8,6 +8,13 @@ use queue_words::header::load_totals;
 use queue_words::items::Item;
 use queue_words::items::load_item;
 use queue_words::known::load_known;
+use queue_words::limits::CHAIN_STEPS;
+use queue_words::limits::LAST_MESSAGE;
+use queue_words::limits::LAST_STREAM;
+use queue_words::limits::MAX_PAYLOAD;
+use queue_words::limits::MESSAGES;
+use queue_words::limits::NO_MESSAGE;
+use queue_words::limits::STREAMS;
 use queue_words::streams::OutgoingStream;
 use queue_words::streams::load_stream;
 
@@ -26,7 +33,7 @@ fn tally_failed(t: Tally) -> Tally
 {
     let mut o = t;
     o.ok = false;
-    o.place = 1024;
+    o.place = NO_MESSAGE;
     o
 }
 
@@ -34,7 +41,7 @@ fn tally_failed(t: Tally) -> Tally
 fn sound_item(m: Item, len: u64) -> bool
     ensures { λ r. ⌜ r ≡ soundItem m len ⌝ }
 {
-    if m.length > 262144 {
+    if m.length > MAX_PAYLOAD {
         return false;
     }
     if m.length > len {
@@ -68,7 +75,7 @@ fn tally_item(t: Tally, m: Item, len: u64) -> Tally
 {
     let sound = sound_item(m, len);
     if sound {
-        if t.messages < 1024 {
+        if t.messages < MESSAGES {
             return Tally {
                 ok: t.ok,
                 place: m.next,
@@ -88,8 +95,8 @@ fn tally_chain(queue: &[u64; QUEUE_WORDS], len: u64, start: Tally) -> Tally
 {
     let mut t = start;
     let mut i: usize = 0;
-    while i < 1025 {
-        if t.place > 1023 {
+    while i < CHAIN_STEPS {
+        if t.place > LAST_MESSAGE {
             return t;
         }
         let m = load_item(queue, t.place as usize);
@@ -104,7 +111,7 @@ fn tally_stream(queue: &[u64; QUEUE_WORDS], len: u64, i: usize, t: Tally) -> Tal
     ensures { λ r. ⌜ r ≡ tallyStream (now (queue .entry)) len i t ⌝ }
 {
     let k = load_known(queue, i);
-    if k.place > 255 {
+    if k.place > LAST_STREAM {
         return tally_failed(t);
     }
     let s = load_stream(queue, k.place as usize);
@@ -114,14 +121,14 @@ fn tally_stream(queue: &[u64; QUEUE_WORDS], len: u64, i: usize, t: Tally) -> Tal
     begun.place = s.first;
     if plain {
         let whole = tally_chain(queue, len, begun);
-        if whole.place == 1024 {
+        if whole.place == NO_MESSAGE {
             return whole;
         }
         return tally_failed(whole);
     }
     begun.streams = t.streams + 1;
     let whole = tally_chain(queue, len, begun);
-    if whole.place == 1024 {
+    if whole.place == NO_MESSAGE {
         return whole;
     }
     tally_failed(whole)
@@ -133,7 +140,7 @@ fn tally_streams(queue: &[u64; QUEUE_WORDS], len: u64, known: usize) -> Tally
 {
     let mut t = Tally {
         ok: true,
-        place: 1024,
+        place: NO_MESSAGE,
         streams: 0,
         messages: 0,
         bytes: 0,
@@ -151,10 +158,10 @@ pub fn tally_queue(queue: &[u64; QUEUE_WORDS], len: u64) -> Tally
     ensures { λ r. ⌜ r ≡ tallyQueue (now (queue .entry)) len ⌝ }
 {
     let t = load_totals(queue);
-    if t.known > 256 {
+    if t.known > STREAMS {
         return Tally {
             ok: false,
-            place: 1024,
+            place: NO_MESSAGE,
             streams: 0,
             messages: 0,
             bytes: 0,

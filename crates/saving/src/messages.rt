@@ -17,6 +17,8 @@ use queue_words::QUEUE_WORDS;
 use queue_words::items::Item;
 use queue_words::items::load_item;
 use queue_words::known::load_known;
+use queue_words::limits::CHAIN_STEPS;
+use queue_words::limits::LAST_MESSAGE;
 use queue_words::streams::load_stream;
 
 // The n bytes of the store from `from` on, into the buffer from `at` on.
@@ -122,8 +124,8 @@ fn put_chain(
     let mut place = first;
     let mut pos = at;
     let mut i: usize = 0;
-    while i < 1025 {
-        if place > 1023 {
+    while i < CHAIN_STEPS {
+        if place > LAST_MESSAGE {
             return pos;
         }
         let m = load_item(queue, place as usize);

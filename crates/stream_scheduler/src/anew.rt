@@ -16,6 +16,7 @@ use queue_words::header::SchedulerState;
 use queue_words::header::load_options;
 use queue_words::header::load_scheduler_state;
 use queue_words::header::store_scheduler_state;
+use queue_words::limits::STREAMS;
 
 // Of n rows the row `at` begins anew with so many bytes, at a time; no stream is remembered.
 fn begin_anew(
@@ -58,7 +59,7 @@ pub fn accept_last(
     ensures { λ r. ⌜ outcome r (now (queue .exit)) ≡ acceptLast (now (queue .entry)) at «stream_id» sent bytes priority ⌝ }
 {
     let s = load_scheduler_state(&*queue);
-    if s.active > 256 {
+    if s.active > STREAMS {
         return false;
     }
     let n = s.active as usize;

@@ -25,6 +25,8 @@ use queue_words::header::SchedulerState;
 use queue_words::header::load_options;
 use queue_words::header::load_scheduler_state;
 use queue_words::header::store_scheduler_state;
+use queue_words::limits::STREAM_ROWS;
+use queue_words::limits::STREAMS;
 use types::StreamId;
 
 // "Sums stop at 2^64 - 1."
@@ -124,7 +126,7 @@ pub fn peek(queue: &[u64; QUEUE_WORDS]) -> Peeked
     ensures { λ r. ⌜ r ≡ peekWords (now (queue .entry)) ⌝ }
 {
     let s = load_scheduler_state(queue);
-    if s.active > 256 {
+    if s.active > STREAMS {
         return Peeked::Broken;
     }
     let n = s.active as usize;
@@ -144,7 +146,7 @@ pub fn waits(queue: &[u64; QUEUE_WORDS], stream_id: u16) -> bool
     ensures { λ r. ⌜ r ≡ waitsIn (now (queue .entry)) «stream_id» ⌝ }
 {
     let s = load_scheduler_state(queue);
-    if s.active > 256 {
+    if s.active > STREAMS {
         return false;
     }
     let n = s.active as usize;
@@ -219,7 +221,7 @@ pub fn remove_stream(queue: &mut [u64; QUEUE_WORDS], stream_id: u16) -> bool
     ensures { λ r. ⌜ outcome r (now (queue .exit)) ≡ removeStream (now (queue .entry)) «stream_id» ⌝ }
 {
     let s = load_scheduler_state(&*queue);
-    if s.active > 256 {
+    if s.active > STREAMS {
         return false;
     }
     let n = s.active as usize;
@@ -248,7 +250,7 @@ fn set_row(
         store_active(queue, at, row);
         return true;
     }
-    if n < 256 {
+    if n < STREAM_ROWS {
         let s = load_scheduler_state(&*queue);
         let row = schedule_next_chunk(limit, stream_id, parameters, s.system_virtual_time, bytes);
         store_active(queue, n, row);
@@ -276,7 +278,7 @@ pub fn set_bytes_remaining(
     ensures { λ r. ⌜ outcome r (now (queue .exit)) ≡ setBytesRemaining (now (queue .entry)) «stream_id» bytes priority ⌝ }
 {
     let s = load_scheduler_state(&*queue);
-    if s.active > 256 {
+    if s.active > STREAMS {
         return false;
     }
     let n = s.active as usize;
@@ -299,7 +301,7 @@ pub fn begin_waiting(
     ensures { λ r. ⌜ outcome r (now (queue .exit)) ≡ beginWaiting (now (queue .entry)) «stream_id» bytes priority ⌝ }
 {
     let s = load_scheduler_state(&*queue);
-    if s.active > 256 {
+    if s.active > STREAMS {
         return false;
     }
     let n = s.active as usize;
@@ -323,7 +325,7 @@ pub fn accept(queue: &mut [u64; QUEUE_WORDS], at: usize, bytes: u64) -> bool
     ensures { λ r. ⌜ outcome r (now (queue .exit)) ≡ acceptAt (now (queue .entry)) at bytes ⌝ }
 {
     let s = load_scheduler_state(&*queue);
-    if s.active > 256 {
+    if s.active > STREAMS {
         return false;
     }
     let n = s.active as usize;

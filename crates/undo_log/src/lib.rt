@@ -16,6 +16,9 @@ ghost use Rattle.undo_log.specs.Log.{block, undoneBlock, kept, undoneDro
 use active_table::seek;
 use queue_words::QUEUE_WORDS;
 use queue_words::header::load_scheduler_state;
+use queue_words::limits::LAST_MESSAGE;
+use queue_words::limits::LAST_STREAM_ROW;
+use queue_words::limits::STREAMS;
 use queue_words::streams::load_stream;
 
 // The words before the tables.
@@ -25,11 +28,11 @@ pub const HEADER: usize = 32;
 pub const ENTRY: usize = 20;
 
 // The tables' first words.
-const STREAMS: usize = 544;
+const STREAM_TABLE: usize = 544;
 
-const MESSAGES: usize = 3104;
+const MESSAGE_TABLE: usize = 3104;
 
-const ACTIVE: usize = 19488;
+const ACTIVE_TABLE: usize = 19488;
 
 // n words of one list go to another.
 fn copy_row(to: &mut [u64], at: usize, from: &[u64], start: usize, n: usize)
@@ -63,9 +66,9 @@ fn keep_rows(
     ensures { λ _. ⌜ now (log .exit) ≡ kept (now (log .entry)) d (now (queue .entry)) row place at ⌝ }
 {
     let b = d * ENTRY;
-    keep_block(log, b, queue, STREAMS + row * 10, 9);
-    keep_block(log, b + 10, queue, MESSAGES + place * 16 + 12, 3);
-    keep_block(log, b + 14, queue, ACTIVE + at * 5, 5);
+    keep_block(log, b, queue, STREAM_TABLE + row * 10, 9);
+    keep_block(log, b + 10, queue, MESSAGE_TABLE + place * 16 + 12, 3);
+    keep_block(log, b + 14, queue, ACTIVE_TABLE + at * 5, 5);
 }
 
 // The scheduler's row that a drop changes.
@@ -73,12 +76,12 @@ fn waiting_row(queue: &[u64; QUEUE_WORDS], id: u16) -> usize
     ensures { λ r. ⌜ (r ≡ waitingRow (now (queue .entry)) id) × (r < 256) ⌝ }
 {
     let s = load_scheduler_state(queue);
-    if s.active > 256 {
-        return 255;
+    if s.active > STREAMS {
+        return LAST_STREAM_ROW;
     }
     let at = seek(queue, id, s.active as usize);
-    if at > 255 {
-        return 255;
+    if at > LAST_STREAM_ROW {
+        return LAST_STREAM_ROW;
     }
     at
 }
@@ -88,11 +91,11 @@ pub fn keep_drop(log: &mut [u64], d: usize, queue: &[u64; QUEUE_WORDS], id: u16,
     requires { ⌜ d * 20 + 20 ≤ length (now log) ⌝ }
     ensures { λ _. ⌜ now (log .exit) ≡ keptDrop (now (log .entry)) d (now (queue .entry)) id row ⌝ }
 {
-    if row > 255 {
+    if row > LAST_STREAM_ROW {
         return;
     }
     let s = load_stream(queue, row);
-    if s.first > 1023 {
+    if s.first > LAST_MESSAGE {
         return;
     }
     let at = waiting_row(queue, id);
