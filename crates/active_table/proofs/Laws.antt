@@ -11,7 +11,7 @@ use Rattle.queue_model.proofs.Tests.{Tri, less, same, more, tri}
 use Rattle.queue_words.specs.Active.{activeAt}
 use Rattle.queue_words.specs.declared.active.ActiveStreamInfo.{ActiveStreamInfo}
 use Rattle.active_table.specs.declared.Best.{Best}
-use Rattle.active_table.specs.Rows.{seekFrom, seek, positionStep, bestOf, better, bestAmong, bestTo}
+use Rattle.active_table.specs.Rows.{seekFrom, seek, bestOf, better, bestAmong, bestTo}
 use Rattle.active_table.specs.Parts.{rowsFrom}
 
 -- ------------------------------------------------------------------ the row of a stream
@@ -21,57 +21,17 @@ module _ (rows : ℕ → ActiveStreamInfo) (id : ℕ) where
   idAt i = (rows i) .«stream_id» .0
 
   -- one row: it is the stream's, or the search goes on behind it
-  seek-hit : (i n : ℕ) → idAt i ≡ id → seekFrom rows id i (suc n) ≡ i
+  pub seek-hit : (i n : ℕ) → idAt i ≡ id → seekFrom rows id i (suc n) ≡ i
   unfolding seekFrom
   seek-hit i n e = rw (eq-eqb _ _ e)
 
-  seek-miss : (i n : ℕ) → (idAt i ≡ id → ⊥) → seekFrom rows id i (suc n) ≡ seekFrom rows id (suc i) n
+  pub seek-miss : (i n : ℕ) → (idAt i ≡ id → ⊥) → seekFrom rows id i (suc n) ≡ seekFrom rows id (suc i) n
   unfolding seekFrom
   seek-miss i n e = rw (ne-eqb _ _ e)
 
-  seek-none : (i : ℕ) → seekFrom rows id i 0 ≡ i
+  pub seek-none : (i : ℕ) → seekFrom rows id i 0 ≡ i
   unfolding seekFrom
   seek-none i = refl
-
-  -- What is found among n + 1 rows, by what is found among n.
-  grows : (n i : ℕ) → positionStep (seekFrom rows id i n) (i + n) (rows (i + n)) id ≡ seekFrom rows id i (suc n)
-  grows zero i = go (tri (idAt i) id)
-    where
-      z : i + 0 ≡ i
-      z = omega arith
-
-      past : (idAt i ≡ id → ⊥) → positionStep (seekFrom rows id i 0) (i + 0) (rows (i + 0)) id ≡ seekFrom rows id i 1
-      past e =
-          let l : i ≤ i = omega arith in
-          let s : i + 1 ≡ suc i = omega arith in
-          rw (seek-miss i 0 e, seek-none i, seek-none (suc i), z, le-ltb _ _ l, ne-eqb _ _ e, s)
-
-      go : Tri (idAt i) id → positionStep (seekFrom rows id i 0) (i + 0) (rows (i + 0)) id ≡ seekFrom rows id i 1
-      go (same e) =
-          let l : i ≤ i = omega arith in
-          rw (seek-hit i 0 e, seek-none i, z, le-ltb _ _ l, eq-eqb _ _ e)
-      go (less l) = past (λ e. omega arith)
-      go (more l) = past (λ e. omega arith)
-  grows (suc n) i = go (tri (idAt i) id) (grows n (suc i))
-    where
-      past : (idAt i ≡ id → ⊥) → positionStep (seekFrom rows id (suc i) n) (suc i + n) (rows (suc i + n)) id ≡ seekFrom rows id (suc i) (suc n) → positionStep (seekFrom rows id i (suc n)) (i + suc n) (rows (i + suc n)) id ≡ seekFrom rows id i (suc (suc n))
-      past e ih =
-          let s : i + suc n ≡ suc i + n = omega arith in
-          rw (seek-miss i n e, seek-miss i (suc n) e, s, ih)
-
-      go : Tri (idAt i) id → positionStep (seekFrom rows id (suc i) n) (suc i + n) (rows (suc i + n)) id ≡ seekFrom rows id (suc i) (suc n) → positionStep (seekFrom rows id i (suc n)) (i + suc n) (rows (i + suc n)) id ≡ seekFrom rows id i (suc (suc n))
-      go (same e) ih =
-          let l : i < i + suc n = omega arith in
-          rw (seek-hit i n e, seek-hit i (suc n) e, lt-ltb _ _ l)
-      go (less l) ih = past (λ e. omega arith) ih
-      go (more l) ih = past (λ e. omega arith) ih
-
-  -- One row more of a lent table.
-  pub seek-next : (n : ℕ) → positionStep (seekFrom rows id 0 n) n (rows n) id ≡ seekFrom rows id 0 (suc n)
-  seek-next n =
-      let z : 0 + n ≡ n = omega arith in
-      let g : positionStep (seekFrom rows id 0 n) (0 + n) (rows (0 + n)) id ≡ seekFrom rows id 0 (suc n) = grows n 0 in
-      subst (λ (k : ℕ). positionStep (seekFrom rows id 0 n) k (rows k) id ≡ seekFrom rows id 0 (suc n)) z g
 
 -- What is found among c rows and m more, where the c are a part that stands from i on and is looked at from its row a on.
 abbrev Parted : (ℕ → ActiveStreamInfo) → ℕ → ℕ → ℕ → ℕ → ℕ → Type 0
@@ -160,9 +120,6 @@ among ws i (suc n) =
 -- A part of c rows behind row i.
 pub least-part : (ws : List ℕ) (i c : ℕ) (a b : Best) → a ≡ bestTo ws i → b ≡ bestAmong (rowsFrom ws (i + 1)) a (i + 1) c → b ≡ bestTo ws (i + c)
 least-part ws i c a b ea eb = eb ∙ (ap (λ (x : Best). bestAmong (rowsFrom ws (i + 1)) x (i + 1) c) ea ∙ among ws i c)
-
-pub least-first : (ws : List ℕ) (r : ActiveStreamInfo) (b : Best) → r ≡ activeAt ws 0 → b ≡ bestOf r 0 → b ≡ bestTo ws 0
-least-first ws r b er eb = eb ∙ (ap (λ (x : ActiveStreamInfo). bestOf x 0) er ∙ sym (best-zero ws))
 
 pub least-end : (ws : List ℕ) (i n : ℕ) (b : Best) → b ≡ bestTo ws i → i < n → n ≤ i + 1 → b ≡ bestTo ws (n - 1)
 least-end ws i n b e l g =

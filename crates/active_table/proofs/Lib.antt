@@ -3,3 +3,4 @@ pub mod Laws
 pub mod Lent
 pub mod Parts
 pub mod Passing
+pub mod Walks

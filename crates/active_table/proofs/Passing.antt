@@ -1,86 +1,101 @@
 -- Four rows seen at once: what their tests say of a search that would look at them one by one. Assumes nothing.
-use mathlib.Core.Path.{_≡_, refl, sym, ap, _∙_}
-use mathlib.Core.Bool.{Bool, true, false, not}
+use mathlib.Core.Path.{_≡_, refl, sym, ap, _∙_, subst}
+use mathlib.Core.Bool.{Bool, true, false}
 use mathlib.Core.List.{List}
-use Prim.Native.Nat.{ℕ, zero, suc, _+_, _≤_, _<_}
+use Prim.Native.Nat.{ℕ, zero, suc, _+_, _-_, _≤_, _<_, min}
 use native.Mathlib.Omega.{arith}
-use lib.Dec.{ltb}
+use lib.Dec.{T, ltb}
 use borrow.Author.Tests.{ltb-true, ltb-false, lt-ltb, le-ltb, eq-eqb, ne-eqb}
 use Rattle.queue_model.proofs.Tests.{Tri, less, same, more, tri}
+use Rattle.queue_words.specs.Active.{activeAt}
+use Rattle.queue_words.proofs.Laws.{active-at-fits}
 use Rattle.queue_words.specs.declared.active.ActiveStreamInfo.{ActiveStreamInfo}
 use Rattle.active_table.specs.declared.Best.{Best}
 use Rattle.active_table.specs.Parts.{rowsFrom}
-use Rattle.active_table.specs.Passing.{noneFrom, isOf, idBefore, fourLack, idsBehind, finishOf, soonestOfFour, fourBehind}
-use Rattle.active_table.specs.Rows.{seekFrom, bestOf, better, bestAmong}
-use Rattle.active_table.proofs.Laws.{sooner, first-id}
+use Rattle.active_table.specs.Passing.{idsBehind, finishOf, latest, soonest, fourBehind}
+use Rattle.active_table.specs.Rows.{bestOf, better, bestAmong, bestTo}
+use Rattle.active_table.proofs.Laws.{sooner, later, first-id, second-id, best-zero}
 
--- ------------------------------------------------------------------ a test at none of several places
+-- ------------------------------------------------------------------ the ids
 
-module _ (test : ℕ → Bool) where
-  -- one place: the test passes there, or what is left are the places behind it
-  none-hit : (i n : ℕ) → test i ≡ true → noneFrom test i (suc n) ≡ false
-  unfolding noneFrom
-  none-hit i n e = rw e
+module _ (rows : ℕ → ActiveStreamInfo) (id : ℕ) where
+  abbrev idAt : ℕ → ℕ
+  idAt i = (rows i) .«stream_id» .0
 
-  none-miss : (i n : ℕ) → test i ≡ false → noneFrom test i (suc n) ≡ noneFrom test (suc i) n
-  unfolding noneFrom
-  none-miss i n e = rw e
+  -- one row: its id is below, or what is left are the rows behind it
+  pub ids-hit : (i n : ℕ) → idAt i < id → idsBehind rows id i (suc n) ≡ false
+  unfolding idsBehind
+  ids-hit i n l = rw (lt-ltb _ _ l)
 
-  -- The same for a function that tests place by place and returns r: b is what its test said.
-  module _ (i n : ℕ) (b : Bool) (eb : b ≡ test i) where
-    pub hit : b ≡ true → false ≡ noneFrom test i (suc n)
-    hit e = sym (none-hit i n (sym eb ∙ e))
+  pub ids-miss : (i n : ℕ) → id ≤ idAt i → idsBehind rows id i (suc n) ≡ idsBehind rows id (suc i) n
+  unfolding idsBehind
+  ids-miss i n l = rw (le-ltb _ _ l)
 
-    pub miss : b ≡ false → (r : Bool) → r ≡ noneFrom test (suc i) n → r ≡ noneFrom test i (suc n)
-    miss e r er = er ∙ sym (none-miss i n (sym eb ∙ e))
+  pub ids-none : (i : ℕ) → idsBehind rows id i 0 ≡ true
+  unfolding idsBehind
+  ids-none i = refl
 
-  pub none-left : (i : ℕ) → true ≡ noneFrom test i 0
-  unfolding noneFrom
-  none-left i = refl
-
-  -- Where it passes at none of n places, it fails at each.
-  none-at : (n i : ℕ) → noneFrom test i n ≡ true → (k : ℕ) → k < n → test (i + k) ≡ false
-  none-at zero i h = λ k l. absurd (omega arith)
-  none-at (suc n) i h = go (test i) refl (none-at n (suc i))
+  -- Where none of n ids is below, each of them is this one or above.
+  ids-at : (n i : ℕ) → idsBehind rows id i n ≡ true → (k : ℕ) → k < n → id ≤ idAt (i + k)
+  ids-at zero i h = λ k l. absurd (omega arith)
+  ids-at (suc n) i h = go (ltb (idAt i) id) refl (ids-at n (suc i))
     where
-      go : (b : Bool) → test i ≡ b → (noneFrom test (suc i) n ≡ true → (k : ℕ) → k < n → test (suc i + k) ≡ false) → (k : ℕ) → k < suc n → test (i + k) ≡ false
-      go true e ih k l = cc (none-hit i n e)
+      go : (b : Bool) → ltb (idAt i) id ≡ b → (idsBehind rows id (suc i) n ≡ true → (k : ℕ) → k < n → id ≤ idAt (suc i + k)) → (k : ℕ) → k < suc n → id ≤ idAt (i + k)
+      go true e ih k l = absurd (subst T (sym h ∙ ids-hit i n (ltb-true _ _ e)) tt)
       go false e ih zero l =
           let z : i + 0 ≡ i = omega arith in
-          rw z e
+          rw z (ltb-false _ _ e)
       go false e ih (suc k) l =
           let s : i + suc k ≡ suc i + k = omega arith in
-          rw s (ih (sym (none-miss i n e) ∙ h) k (omega arith))
+          rw s (ih (sym (ids-miss i n (ltb-false _ _ e)) ∙ h) k (omega arith))
 
--- ------------------------------------------------------------------ the row of a stream
+-- Row k of four, lent alone: its id is below, or what is left are those behind it.
+module _ (ws : List ℕ) (from id k : ℕ) (b : Bool) (l : k < 4) (e : b ≡ idsBehind (rowsFrom ws (from + k)) id 0 1) where
+  abbrev Left : ℕ → Bool
+  Left i = idsBehind (rowsFrom ws from) id i (4 - i)
 
--- A stream's row is found among n rows from i on unless none of them is the stream's.
-found-unless : (rows : ℕ → ActiveStreamInfo) (id n i : ℕ) → ltb (seekFrom rows id i n) (i + n) ≡ not (noneFrom (λ k. isOf (rows k) id) i n)
-unfolding seekFrom noneFrom
-found-unless rows id zero i =
-    let l : i + 0 ≤ i = omega arith in
-    le-ltb _ _ l
-found-unless rows id (suc n) i = go (isOf (rows i) id) refl (found-unless rows id n (suc i))
-  where
-    go : (b : Bool) → isOf (rows i) id ≡ b → ltb (seekFrom rows id (suc i) n) (suc i + n) ≡ not (noneFrom (λ k. isOf (rows k) id) (suc i) n) → ltb (seekFrom rows id i (suc n)) (i + suc n) ≡ not (noneFrom (λ k. isOf (rows k) id) i (suc n))
-    go true e ih =
-        let l : i < i + suc n = omega arith in
-        rw (e, lt-ltb _ _ l)
-    go false e ih =
-        let s : i + suc n ≡ suc i + n = omega arith in
-        rw (e, s) ih
+  one-more : Left k ≡ idsBehind (rowsFrom ws from) id k (suc (4 - (k + 1)))
+  one-more =
+      let s : 4 - k ≡ suc (4 - (k + 1)) = omega arith in
+      ap (idsBehind (rowsFrom ws from) id k) s
 
-module _ (ws : List ℕ) (from id : ℕ) where
-  seen : ltb (seekFrom (rowsFrom ws from) id 0 4) 4 ≡ not (fourLack ws from id)
-  unfolding fourLack
-  seen = found-unless (rowsFrom ws from) id 4 0
+  here : (from + k) + 0 ≡ from + k
+  here = omega arith
 
-  -- Four rows that lack the stream; and what is found where they do not.
-  pub four-lacks : fourLack ws from id ≡ true → 4 ≤ seekFrom (rowsFrom ws from) id 0 4
-  four-lacks e = ltb-false _ _ (seen ∙ ap not e)
+  abbrev idHere : ℕ
+  idHere = (rowsFrom ws from k) .«stream_id» .0
 
-  pub four-has : fourLack ws from id ≡ false → (k : ℕ) → k ≡ seekFrom (rowsFrom ws from) id 0 4 → k < 4
-  four-has e k ek = rw ek (ltb-true _ _ (seen ∙ ap not e))
+  below : idHere < id → b ≡ false
+  below m = e ∙ ids-hit (rowsFrom ws (from + k)) id 0 0 (subst (λ (j : ℕ). (activeAt ws j) .«stream_id» .0 < id) (sym here) m)
+
+  behind : id ≤ idHere → b ≡ true
+  behind m = e ∙ (ids-miss (rowsFrom ws (from + k)) id 0 0 (subst (λ (j : ℕ). id ≤ (activeAt ws j) .«stream_id» .0) (sym here) m) ∙ ids-none (rowsFrom ws (from + k)) id 1)
+
+  pub one-below : b ≡ false → false ≡ Left k
+  one-below f = go (tri idHere id)
+    where
+      go : Tri idHere id → false ≡ Left k
+      go (less m) = sym (one-more ∙ ids-hit (rowsFrom ws from) id k _ m)
+      go (same q) = cc (behind (omega arith))
+      go (more m) = cc (behind (omega arith))
+
+  pub one-behind : b ≡ true → Left k ≡ Left (k + 1)
+  one-behind f = go (tri idHere id)
+    where
+      on : id ≤ idHere → Left k ≡ Left (k + 1)
+      on m =
+          let s : suc k ≡ k + 1 = omega arith in
+          one-more ∙ (ids-miss (rowsFrom ws from) id k _ m ∙ ap (λ (j : ℕ). idsBehind (rowsFrom ws from) id j (4 - (k + 1))) s)
+
+      go : Tri idHere id → Left k ≡ Left (k + 1)
+      go (less m) = cc (below m)
+      go (same q) = on (omega arith)
+      go (more m) = on (omega arith)
+
+pub four-end : (ws : List ℕ) (from id k : ℕ) → idsBehind (rowsFrom ws from) id 0 4 ≡ idsBehind (rowsFrom ws from) id k (4 - k) → 4 ≤ k → true ≡ idsBehind (rowsFrom ws from) id 0 4
+four-end ws from id k inv g =
+    let s : 4 - k ≡ 0 = omega arith in
+    sym (inv ∙ (ap (idsBehind (rowsFrom ws from) id k) s ∙ ids-none (rowsFrom ws from) id k))
 
 -- ------------------------------------------------------------------ the least row
 
@@ -101,21 +116,80 @@ unfolding bestAmong
 rows-behind rows best from zero h = refl
 rows-behind rows best from (suc n) h = rw (rows-behind rows best from n (λ k l. h k (omega arith))) (h n (omega arith))
 
--- None of four rows finishes before the earliest of them.
-soonest-first : (rows : ℕ → ActiveStreamInfo) (k : ℕ) → k < 4 → soonestOfFour rows ≤ finishOf rows k
-unfolding soonestOfFour
-soonest-first rows zero l = omega arith
-soonest-first rows (suc zero) l = omega arith
-soonest-first rows (suc (suc zero)) l = omega arith
-soonest-first rows (suc (suc (suc zero))) l = omega arith
-soonest-first rows (suc (suc (suc (suc k)))) l = absurd (omega arith)
+-- The search starts behind every row, so that the first is the least of itself.
+abbrev pub behindAll : Best
+behindAll = record { id = 65535; at = 0; finish = latest }
+
+pub least-begins : (ws : List ℕ) (b : Best) → b ≡ bestAmong (rowsFrom ws 0) behindAll 0 1 → finishOf (rowsFrom ws 0) 0 ≤ latest → b ≡ bestTo ws 0
+unfolding bestAmong
+least-begins ws b e l = e ∙ (ap (λ (j : ℕ). better behindAll (bestOf (activeAt ws j) j)) z ∙ (go (tri (row .«virtual_finish_time») latest) ∙ sym (best-zero ws)))
+  where
+    z : 0 + 0 ≡ 0
+    z = omega arith
+
+    row : ActiveStreamInfo
+    row = activeAt ws 0
+
+    by-id : row .«virtual_finish_time» ≡ latest → Tri (row .«stream_id» .0) 65535 → better behindAll (bestOf row 0) ≡ bestOf row 0
+    by-id q (less m) = sym (second-id behindAll row 0 (omega arith) (omega arith) m)
+    by-id q (same p) = sym (first-id behindAll row 0 (omega arith) (omega arith) (omega arith)) ∙ rw (p, q)
+    by-id q (more m) = absurd (omega (arith, active-at-fits ws 0 .stream-id-fits))
+
+    go : Tri (row .«virtual_finish_time») latest → better behindAll (bestOf row 0) ≡ bestOf row 0
+    go (less m) = sym (later behindAll row 0 m)
+    go (same q) = by-id q (tri _ _)
+    go (more m) = absurd (omega arith)
+
+-- The earliest of no row, and of one more; none finishes before it.
+module _ (rows : ℕ → ActiveStreamInfo) where
+  pub soonest-none : soonest rows 0 ≡ latest
+  unfolding soonest
+  soonest-none = refl
+
+  -- one row more finishes earlier than those before, or it does not
+  module _ (n : ℕ) where
+    abbrev next : ℕ
+    next = n + 1
+
+    grown : min (soonest rows n) (finishOf rows n) ≡ soonest rows next
+    unfolding soonest
+    grown =
+        let s : n + 1 ≡ suc n = omega arith in
+        rw s
+
+    pub soonest-row : finishOf rows n < soonest rows n → finishOf rows n ≡ soonest rows next
+    soonest-row l =
+        let m : finishOf rows n ≡ min (soonest rows n) (finishOf rows n) = omega arith in
+        m ∙ grown
+
+    pub soonest-stays : soonest rows n ≤ finishOf rows n → soonest rows n ≡ soonest rows next
+    soonest-stays l =
+        let m : soonest rows n ≡ min (soonest rows n) (finishOf rows n) = omega arith in
+        m ∙ grown
+
+  soonest-first : (n k : ℕ) → k < n → soonest rows n ≤ finishOf rows k
+  unfolding soonest
+  soonest-first zero k l = absurd (omega arith)
+  soonest-first (suc n) k l = go (tri k n) (soonest-first n k)
+    where
+      go : Tri k n → (k < n → soonest rows n ≤ finishOf rows k) → min (soonest rows n) (finishOf rows n) ≤ finishOf rows k
+      go (less m) ih =
+          let i : soonest rows n ≤ finishOf rows k = ih m in
+          omega arith
+      go (same e) ih =
+          let f : min (soonest rows n) (finishOf rows n) ≤ finishOf rows n = omega arith in
+          rw e f
+      go (more m) ih = absurd (omega arith)
 
 module _ (ws : List ℕ) (from : ℕ) (best : Best) where
   abbrev rows : ℕ → ActiveStreamInfo
   rows = rowsFrom ws from
 
+  abbrev earliest : ℕ
+  earliest = soonest rows 4
+
   -- The test by its cases, with t the earliest of the four finish times.
-  module _ (t : ℕ) (et : t ≡ soonestOfFour rows) where
+  module _ (t : ℕ) (et : t ≡ earliest) where
     pub behind-later : best .finish < t → true ≡ fourBehind ws from best
     unfolding fourBehind
     behind-later l = rw (← et, lt-ltb _ _ l)
@@ -127,28 +201,27 @@ module _ (ws : List ℕ) (from : ℕ) (best : Best) where
         let n : t ≡ best .finish → ⊥ = λ e. omega arith in
         rw (← et, le-ltb _ _ m, ne-eqb _ _ n)
 
-    pub behind-level : t ≤ best .finish → best .finish ≤ t → idsBehind ws from (best .id) ≡ fourBehind ws from best
+    pub behind-level : t ≤ best .finish → best .finish ≤ t → idsBehind rows (best .id) 0 4 ≡ fourBehind ws from best
     unfolding fourBehind
     behind-level l m =
         let e : t ≡ best .finish = omega arith in
         rw (← et, le-ltb _ _ l, eq-eqb _ _ e)
 
-  ids-above : idsBehind ws from (best .id) ≡ true → (k : ℕ) → k < 4 → best .id ≤ (rows k) .«stream_id» .0
-  unfolding idsBehind
+  ids-above : idsBehind rows (best .id) 0 4 ≡ true → (k : ℕ) → k < 4 → best .id ≤ (rows k) .«stream_id» .0
   ids-above e k l =
       let z : 0 + k ≡ k = omega arith in
-      ltb-false _ _ (rw z at (none-at (λ j. idBefore (rows j) (best .id)) 4 0 e k l))
+      rw z at (ids-at rows (best .id) 4 0 e k l)
 
   -- Four rows that are passed by leave the best so far as it is.
   pub four-passed : fourBehind ws from best ≡ true → bestAmong rows best from 4 ≡ best
-  four-passed h = go (tri (best .finish) (soonestOfFour rows))
+  four-passed h = go (tri (best .finish) earliest)
     where
-      each : best .finish ≤ soonestOfFour rows → (soonestOfFour rows ≤ best .finish → idsBehind ws from (best .id) ≡ true) → bestAmong rows best from 4 ≡ best
+      each : best .finish ≤ earliest → (earliest ≤ best .finish → idsBehind rows (best .id) 0 4 ≡ true) → bestAmong rows best from 4 ≡ best
       each t ids = rows-behind rows best from 4 (λ k l.
-          let f : soonestOfFour rows ≤ finishOf rows k = soonest-first rows k l in
+          let f : earliest ≤ finishOf rows k = soonest-first rows 4 k l in
           row-behind best (rows k) (from + k) (omega arith) (λ m. ids-above (ids (omega arith)) k l))
 
-      go : Tri (best .finish) (soonestOfFour rows) → bestAmong rows best from 4 ≡ best
+      go : Tri (best .finish) earliest → bestAmong rows best from 4 ≡ best
       go (less m) = each (omega arith) (λ n. absurd (omega arith))
       go (same e) = each (omega arith) (λ n. behind-level _ refl n (omega arith) ∙ h)
       go (more m) = cc (behind-sooner _ refl m)

@@ -18,10 +18,6 @@ seekFrom rows id i (suc n) = if eqb ((rows i) .«stream_id» .0) id then i else 
 unfoldable pub seek : List ℕ → ℕ → ℕ → ℕ
 seek ws id n = seekFrom (activeAt ws) id 0 n
 
--- What a lookup has found once it has looked at this row too.
-abbrev pub positionStep : ℕ → ℕ → ActiveStreamInfo → ℕ → ℕ
-positionStep found at row id = if ltb found at then found else if eqb (row .«stream_id» .0) id then at else at + 1
-
 -- A row in the search for the least.
 abbrev pub bestOf : ActiveStreamInfo → ℕ → Best
 bestOf row i = record { id = row .«stream_id» .0; at = i; finish = row .«virtual_finish_time» }

@@ -1,45 +1,36 @@
 // "The scheduler's [table] as a lent table of records, one for each waiting stream, which the queue holds and lends to the
 // scheduler's functions": lookup by stream, and the least finish time, over a lent slice of records.
 //
-// The queue holds the table in its words. It is lent in parts of four rows, the rows left over one by one: so small a part
-// stays in registers once compiled, and nothing is copied then (docs/DECISIONS.md). Four rows that hold
-// nothing for a search are not lent: a few tests on all four say so.
+// The queue holds the table in its words. Every row that a search looks at is lent, four at a time or one: so small a part
+// stays in registers once compiled, and nothing is copied then (docs/DECISIONS.md).
 ghost use mathlib.Core.Path.{_≡_};
-ghost use Prim.Native.Nat.{_+_, _-_, _<_, _≤_, _^_, min};
+ghost use Prim.Native.Nat.{_+_, _-_, _<_, _≤_, _^_};
 ghost use lib.ListN.{length};
-ghost use Rattle.active_table.specs.Rows.{positionStep, seekFrom, seek, bestOf, better, bestAmong, bestTo};
+ghost use Rattle.active_table.specs.Rows.{seekFrom, seek, bestOf, better, bestAmong, bestTo};
 ghost use Rattle.active_table.specs.Parts.{rowsOf, rowsFrom, fourRows, oneRow};
-ghost use Rattle.active_table.specs.Passing.{isOf, idBefore, fourLack, idsBehind, soonestOfFour, fourBehind};
-ghost use Rattle.queue_words.specs.Active.{activeAt};
+ghost use Rattle.active_table.specs.Passing.{latest, finishOf, soonest, idsBehind, fourBehind};
 use queue_words::QUEUE_WORDS;
 use queue_words::active::ActiveStreamInfo;
 use queue_words::active::load_active;
 
-// One step of the lookup: what is found before this row stays, else this row if it is the stream's, else the place behind it.
-fn position_step(found: usize, at: usize, row: ActiveStreamInfo, stream_id: u16) -> usize
-    requires { ⌜ at + 1 < 2 ^ 64 ⌝ }
-    ensures { λ r. ⌜ r ≡ positionStep found at row «stream_id» ⌝ }
-{
-    if found < at {
-        return found;
-    }
-    if row.stream_id.0 == stream_id {
-        return at;
-    }
-    at + 1
-}
+// The latest time there is.
+const LATEST: u64 = 18446744073709551615;
+
+const LARGEST_ID: u16 = 65535;
 
 // The first row of a stream in a lent table, or the number of its rows.
 pub fn position(table: &[ActiveStreamInfo], stream_id: u16) -> usize
     ensures { λ r. ⌜ r ≡ seekFrom (rowsOf (now (table .entry))) «stream_id» 0 (length (now (table .entry))) ⌝ }
 {
-    let mut found: usize = 0;
     let mut i: usize = 0;
     while i < table.len() {
-        found = position_step(found, i, table[i], stream_id);
+        let row = table[i];
+        if row.stream_id.0 == stream_id {
+            return i;
+        }
         i += 1;
     }
-    found
+    i
 }
 
 // A row in the search for the least: its place, finish time and stream.
@@ -89,6 +80,37 @@ pub fn least(table: &[ActiveStreamInfo], from: usize, start: Best) -> Best
     best
 }
 
+// The earliest finish time of a lent table's rows.
+pub fn soonest(table: &[ActiveStreamInfo]) -> u64
+    ensures { λ r. ⌜ r ≡ soonest (rowsOf (now (table .entry))) (length (now (table .entry))) ⌝ }
+{
+    let mut time: u64 = LATEST;
+    let mut i: usize = 0;
+    while i < table.len() {
+        let row = table[i];
+        if row.virtual_finish_time < time {
+            time = row.virtual_finish_time;
+        }
+        i += 1;
+    }
+    time
+}
+
+// None of a lent table's ids is below this one.
+pub fn ids_behind(table: &[ActiveStreamInfo], id: u16) -> bool
+    ensures { λ r. ⌜ r ≡ idsBehind (rowsOf (now (table .entry))) id 0 (length (now (table .entry))) ⌝ }
+{
+    let mut i: usize = 0;
+    while i < table.len() {
+        let row = table[i];
+        if row.stream_id.0 < id {
+            return false;
+        }
+        i += 1;
+    }
+    true
+}
+
 // The parts of the table that are lent.
 
 fn four_rows(queue: &[u64; QUEUE_WORDS], from: usize) -> [ActiveStreamInfo; 4]
@@ -134,111 +156,43 @@ fn least_of_four(queue: &[u64; QUEUE_WORDS], from: usize, start: Best) -> Best
     least(&table, from, start)
 }
 
+// It tells too that the row finishes by the latest time, which `least_row` starts from.
 fn least_of_one(queue: &[u64; QUEUE_WORDS], from: usize, start: Best) -> Best
     requires { ⌜ from + 1 ≤ 256 ⌝ }
-    ensures { λ r. ⌜ r ≡ bestAmong (rowsFrom (now (queue .entry)) from) start from 1 ⌝ }
+    ensures { λ r. ⌜ (r ≡ bestAmong (rowsFrom (now (queue .entry)) from) start from 1) × (finishOf (rowsFrom (now (queue .entry)) from) 0 ≤ latest) ⌝ }
 {
     let table = one_row(queue, from);
     least(&table, from, start)
 }
 
-// Four rows seen at once, before they are lent.
-
-// Whether a row is the stream's.
-fn is_of(queue: &[u64; QUEUE_WORDS], i: usize, stream_id: u16) -> bool
-    requires { ⌜ i < 256 ⌝ }
-    ensures { λ r. ⌜ r ≡ isOf (activeAt (now (queue .entry)) i) «stream_id» ⌝ }
-{
-    let row = load_active(queue, i);
-    row.stream_id.0 == stream_id
-}
-
-// None of the four rows is of the stream.
-fn four_lack(queue: &[u64; QUEUE_WORDS], from: usize, stream_id: u16) -> bool
-    requires { ⌜ from + 4 ≤ 256 ⌝ }
-    ensures { λ r. ⌜ r ≡ fourLack (now (queue .entry)) from «stream_id» ⌝ }
-{
-    let a = is_of(queue, from + 0, stream_id);
-    if a {
-        return false;
-    }
-    let b = is_of(queue, from + 1, stream_id);
-    if b {
-        return false;
-    }
-    let c = is_of(queue, from + 2, stream_id);
-    if c {
-        return false;
-    }
-    let d = is_of(queue, from + 3, stream_id);
-    if d {
-        return false;
-    }
-    true
-}
-
-// A row's finish time.
-fn finish_at(queue: &[u64; QUEUE_WORDS], i: usize) -> u64
-    requires { ⌜ i < 256 ⌝ }
-    ensures { λ r. ⌜ r ≡ (activeAt (now (queue .entry)) i) .«virtual_finish_time» ⌝ }
-{
-    let row = load_active(queue, i);
-    row.virtual_finish_time
-}
-
-// The earlier of two times.
-fn sooner(a: u64, b: u64) -> u64
-    ensures { λ r. ⌜ r ≡ min a b ⌝ }
-{
-    if a < b {
-        return a;
-    }
-    b
-}
-
-// The earliest of their finish times.
 fn soonest_of_four(queue: &[u64; QUEUE_WORDS], from: usize) -> u64
     requires { ⌜ from + 4 ≤ 256 ⌝ }
-    ensures { λ r. ⌜ r ≡ soonestOfFour (rowsFrom (now (queue .entry)) from) ⌝ }
+    ensures { λ r. ⌜ r ≡ soonest (rowsFrom (now (queue .entry)) from) 4 ⌝ }
 {
-    let a = finish_at(queue, from + 0);
-    let b = finish_at(queue, from + 1);
-    let c = finish_at(queue, from + 2);
-    let d = finish_at(queue, from + 3);
-    let x = sooner(a, b);
-    let y = sooner(c, d);
-    sooner(x, y)
+    let table = four_rows(queue, from);
+    soonest(&table)
 }
 
-// Whether a row's id is below this one.
-fn id_before(queue: &[u64; QUEUE_WORDS], i: usize, id: u16) -> bool
-    requires { ⌜ i < 256 ⌝ }
-    ensures { λ r. ⌜ r ≡ idBefore (activeAt (now (queue .entry)) i) id ⌝ }
+fn ids_behind_in_one(queue: &[u64; QUEUE_WORDS], from: usize, id: u16) -> bool
+    requires { ⌜ from + 1 ≤ 256 ⌝ }
+    ensures { λ r. ⌜ r ≡ idsBehind (rowsFrom (now (queue .entry)) from) id 0 1 ⌝ }
 {
-    let row = load_active(queue, i);
-    row.stream_id.0 < id
+    let table = one_row(queue, from);
+    ids_behind(&table, id)
 }
 
-// None of their ids is below this one.
-fn ids_behind(queue: &[u64; QUEUE_WORDS], from: usize, id: u16) -> bool
+// The same of four rows, lent one by one: lent together, all four ids would be loaded where the first may be enough.
+fn ids_behind_in_four(queue: &[u64; QUEUE_WORDS], from: usize, id: u16) -> bool
     requires { ⌜ from + 4 ≤ 256 ⌝ }
-    ensures { λ r. ⌜ r ≡ idsBehind (now (queue .entry)) from id ⌝ }
+    ensures { λ r. ⌜ r ≡ idsBehind (rowsFrom (now (queue .entry)) from) id 0 4 ⌝ }
 {
-    let a = id_before(queue, from + 0, id);
-    if a {
-        return false;
-    }
-    let b = id_before(queue, from + 1, id);
-    if b {
-        return false;
-    }
-    let c = id_before(queue, from + 2, id);
-    if c {
-        return false;
-    }
-    let d = id_before(queue, from + 3, id);
-    if d {
-        return false;
+    let mut k = 0;
+    while k < 4 {
+        let behind = ids_behind_in_one(queue, from + k, id);
+        if !behind {
+            return false;
+        }
+        k += 1;
     }
     true
 }
@@ -248,17 +202,17 @@ fn four_behind(queue: &[u64; QUEUE_WORDS], from: usize, best: Best) -> bool
     requires { ⌜ from + 4 ≤ 256 ⌝ }
     ensures { λ r. ⌜ r ≡ fourBehind (now (queue .entry)) from best ⌝ }
 {
-    let soonest = soonest_of_four(queue, from);
-    if best.finish < soonest {
+    let earliest = soonest_of_four(queue, from);
+    if best.finish < earliest {
         return true;
     }
-    if soonest < best.finish {
+    if earliest < best.finish {
         return false;
     }
-    ids_behind(queue, from, best.id)
+    ids_behind_in_four(queue, from, best.id)
 }
 
-// The best of `best` and four rows, which are lent only where one of them may go before it.
+// The best of `best` and four rows, compared row by row only where one of them may go before it.
 fn least_past(queue: &[u64; QUEUE_WORDS], from: usize, best: Best) -> Best
     requires { ⌜ from + 4 ≤ 256 ⌝ }
     ensures { λ r. ⌜ r ≡ bestAmong (rowsFrom (now (queue .entry)) from) best from 4 ⌝ }
@@ -277,9 +231,8 @@ pub fn seek(queue: &[u64; QUEUE_WORDS], stream_id: u16, n: usize) -> usize
 {
     let mut i = 0;
     while i + 4 <= n {
-        let lack = four_lack(queue, i, stream_id);
-        if !lack {
-            let k = position_in_four(queue, i, stream_id);
+        let k = position_in_four(queue, i, stream_id);
+        if k < 4 {
             return i + k;
         }
         i += 4;
@@ -294,13 +247,17 @@ pub fn seek(queue: &[u64; QUEUE_WORDS], stream_id: u16, n: usize) -> usize
     n
 }
 
-// The least of n rows of the queue.
+// The least of n rows of the queue. The search starts from a place behind every row, so that the first is lent as the others are.
 pub fn least_row(queue: &[u64; QUEUE_WORDS], n: usize) -> Best
     requires { ⌜ (0 < n) × (n ≤ 256) ⌝ }
     ensures { λ r. ⌜ r ≡ bestTo (now (queue .entry)) (n - 1) ⌝ }
 {
-    let first = load_active(queue, 0);
-    let mut best = best_of(first, 0);
+    let last = Best {
+        id: LARGEST_ID,
+        at: 0,
+        finish: LATEST,
+    };
+    let mut best = least_of_one(queue, 0, last);
     let mut i = 0;
     while i + 5 <= n {
         best = least_past(queue, i + 1, best);

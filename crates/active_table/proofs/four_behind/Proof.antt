@@ -12,7 +12,7 @@ returns-2 : tie.Need-returns-2
 returns-2 c = behind-sooner _ _ (c .before .before .before .before .before .args .best) _ (c .before .before .before .before .soonest-of-four .ensures) (c .if2 .taken)
 
 returns-3 : tie.Need-returns-3
-returns-3 c = (c .ids-behind .ensures) ∙ behind-level _ _ (c .before .before .before .before .before .before .args .best) _ (c .before .before .before .before .before .soonest-of-four .ensures) (c .before .before .before .if1 .left) (c .before .if2 .left)
+returns-3 c = (c .ids-behind-in-four .ensures) ∙ behind-level _ _ (c .before .before .before .before .before .before .args .best) _ (c .before .before .before .before .before .soonest-of-four .ensures) (c .before .before .before .if1 .left) (c .before .if2 .left)
 
 pub four-behind-spec : {M : Type 1} → statement M
 four-behind-spec = tie.close (tie.spec (λ c κs. omega arith) returns returns-2 (λ c κs. omega arith) returns-3)

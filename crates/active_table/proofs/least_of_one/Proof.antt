@@ -47,8 +47,9 @@ use denote.Triple.Walked.{says, needs, Stays, stay-none, stay-none-ref, walkOf, 
 use denote.Exit.{yes}
 use Rattle.active_table.specs.Parts.{rowsOf, rowsFrom, oneRow}
 use Rattle.active_table.specs.Rows.{bestAmong}
+use Rattle.active_table.specs.Passing.{finishOf, latest}
 use Rattle.active_table.proofs.Parts.{one-length, one-best}
-use Rattle.active_table.proofs.Lent.{TableOf, TableTy, Elems, in-parts, as-room}
+use Rattle.active_table.proofs.Lent.{TableOf, TableTy, Elems, in-parts, as-room, head-fits}
 use Rattle.active_table.specs.declared.Best.{Best}
 use Rattle.queue_words.specs.declared.active.ActiveStreamInfo.{ActiveStreamInfo}
 use Rattle.queue_words.proofs.active.ActiveStreamInfo as T
@@ -150,7 +151,7 @@ module _ {M : Type 1} (𝓤 : URA M) (H : Heap 𝓤) (A : Atoms 𝓤) (W : Given
     inner-said : (r : Best) → ent 𝓤 (ensured 𝓤 H A inner.ended (inner.clauses 𝓤 H A mem run) (κ′, tt) (x, (n, (start, tt))) tt r) (fact 𝓤 (r ≡ found))
     inner-said r = exE 𝓤 _ (λ ws. snd∗ 𝓤 (sem 𝓤 H A (lasts inner.ended (κ′, tt) (x, (n, (start, tt))) ws)) (fact 𝓤 (r ≡ found)))
 
-  exits : n < 2 ^ 64 → Is B.the-row start (bv start ∷ []) → (r : Best) (u : Val) → r ≡ answer → ent 𝓤 (⋆ 𝓤 H A (‵ (B.the-row .own r (u ∷ [])) ∷ (‵ (flft κ q) ⊛ ‵ ftrue) ∷ ‵ Own ∷ [])) (Post u)
+  exits : n < 2 ^ 64 → Is B.the-row start (bv start ∷ []) → (r : Best) (u : Val) → (r ≡ answer) × (finishOf (rowsFrom (now s) n) 0 ≤ latest) → ent 𝓤 (⋆ 𝓤 H A (‵ (B.the-row .own r (u ∷ [])) ∷ (‵ (flft κ q) ⊛ ‵ ftrue) ∷ ‵ Own ∷ [])) (Post u)
   exits gn gd r u e =
       qed W (‵ (B.the-row .own r (u ∷ [])) ∷ (‵ (flft κ q) ⊛ ‵ ftrue) ∷ ‵ Own ∷ []) ∵
       suffices ! _ (ends-at 𝓤 H A self.ended stayed (self.clauses 𝓤 H A mem run) W (((κ, tt), (q, tt), tt, (s, (n, (start, tt))), at), tt) u r (tt, (tt, (tt, tt))) (tt, (tt, (tt, tt)))) $ says ! e $
@@ -190,10 +191,15 @@ module _ {M : Type 1} (𝓤 : URA M) (H : Heap 𝓤) (A : Atoms 𝓤) (W : Given
         land ! (from ! (stop !)) (init ! 18 refl (LL.lawful B.the-type B′.the-laws 𝓤 H A W .typed t _ is′ .0)) $
         returns ! (look ! 18 refl) $ forget ! 5 refl $ forget ! 7 refl $ forget ! 9 refl $ forget ! 12 refl $ forget ! 14 refl $ forget ! 16 refl $ forget ! 18 refl $
         move ! (18 ∷ 19 ∷ []) $ free1 ! $ move ! (16 ∷ 17 ∷ []) $ free1 ! $ move ! (14 ∷ 15 ∷ []) $ free1 ! $ move ! (12 ∷ 13 ∷ []) $ free1 ! $ move ! (1 ∷ 11 ∷ []) $ free1 ! $ move ! (8 ∷ 9 ∷ []) $ free1 ! $ move ! (6 ∷ 7 ∷ []) $ free1 ! $ move ! (4 ∷ 5 ∷ []) $ free1 ! $ free0 ! $
-        keep ! (0 ∷ 2 ∷ 3 ∷ []) $ by ! (exits gn gd t w (e′ ∙ one-best (now s) n ys start e))))))))))))))))))))
+        keep ! (0 ∷ 2 ∷ 3 ∷ []) $ by ! (exits gn gd t w (e′ ∙ one-best (now s) n ys start e, fits ys (u ∷ []) e is))))))))))))))))))))
       where
         len : (ys : List ActiveStreamInfo) → ys ≡ made → length ys ≡ 1
         len ys = one-length (now s) n ys
+
+        fits : (ys : List ActiveStreamInfo) (us : List Val) → ys ≡ made → Is Table ys us → finishOf (rowsFrom (now s) n) 0 ≤ latest
+        fits ys us e is =
+            let l : finishOf (rowsFrom (now s) n) 0 < 2 ^ 64 = head-fits (rowsFrom (now s) n 0) [] 1 us (subst (λ (t : List ActiveStreamInfo). Is Table t us) e is) in
+            omega arith
 
         far : (ys : List ActiveStreamInfo) → ys ≡ made → n + length ys < 2 ^ 64
         far ys e = subst (λ (m : ℕ). n + m < 2 ^ 64) (sym (len ys e)) (omega arith)

@@ -3,7 +3,8 @@ use mathlib.Core.Path.{_≡_}
 use Prim.Native.Nat.{_<_, _-_}
 use native.Mathlib.Omega.{arith}
 use Rattle.active_table.specs.Rows.{bestTo}
-use Rattle.active_table.proofs.Laws.{least-first, least-part, least-end}
+use Rattle.active_table.proofs.Laws.{least-part, least-end}
+use Rattle.active_table.proofs.Passing.{least-begins}
 use Rattle.active_table.proofs.least_row.Statement.{statement}
 use Rattle.active_table.proofs.least_row.Tie as tie
 
@@ -20,7 +21,7 @@ abbrev μ-loop2 : tie.MeasureT-loop2
 μ-loop2 queue n best₀ i₀ best i = n - i
 
 loop-holds : tie.Need-loop-holds Inv-loop μ-loop Inv-loop2 μ-loop2
-loop-holds c = (omega arith, least-first _ _ _ (c .before .load-active .ensures) (c .best-of .ensures))
+loop-holds c = (omega arith, least-begins _ _ (c .least-of-one .ensures .0) (c .least-of-one .ensures .1))
 
 loop-again : tie.Need-loop-again Inv-loop μ-loop Inv-loop2 μ-loop2
 loop-again c = (omega arith, least-part _ _ 4 _ _ (c .before .before .loop .inv .1) (c .least-past .ensures))
@@ -29,7 +30,7 @@ loop2-holds : tie.Need-loop2-holds Inv-loop μ-loop Inv-loop2 μ-loop2
 loop2-holds c = c .before .loop .inv
 
 loop2-again : tie.Need-loop2-again Inv-loop μ-loop Inv-loop2 μ-loop2
-loop2-again c = (omega arith, least-part _ _ 1 _ _ (c .before .before .loop2 .inv .1) (c .least-of-one .ensures))
+loop2-again c = (omega arith, least-part _ _ 1 _ _ (c .before .before .loop2 .inv .1) (c .least-of-one2 .ensures .0))
 
 returns : tie.Need-returns Inv-loop μ-loop Inv-loop2 μ-loop2
 returns c = least-end _ _ _ _ (c .before .loop2 .inv .1) (c .before .loop2 .inv .0) (c .loop2-test .left)
@@ -43,7 +44,6 @@ least-row-spec =
     Inv-loop2
     μ-loop2
     (λ c κs. omega arith)
-    (λ c κs. tt)
     loop-holds
     (λ c. omega arith)
     (λ c. omega arith)

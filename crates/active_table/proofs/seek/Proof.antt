@@ -1,12 +1,10 @@
 -- `active_table::seek` meets its contract. Invariant of both loops: what is sought is the first among the rows from i on. Assumes nothing.
-use mathlib.Core.Path.{_≡_, refl, sym, _∙_}
+use mathlib.Core.Path.{_≡_}
 use Prim.Native.Nat.{_≤_, _-_}
 use native.Mathlib.Omega.{arith}
-use borrow.Author.Tests.{not-true, not-false}
 use Rattle.queue_words.specs.Active.{activeAt}
 use Rattle.active_table.specs.Rows.{seek, seekFrom}
 use Rattle.active_table.proofs.Laws.{seek-start, part-has, part-lacks, seek-end}
-use Rattle.active_table.proofs.Passing.{four-has, four-lacks}
 use Rattle.active_table.proofs.seek.Statement.{statement}
 use Rattle.active_table.proofs.seek.Tie as tie
 
@@ -25,14 +23,11 @@ abbrev μ-loop2 : tie.MeasureT-loop2
 loop-holds : tie.Need-loop-holds Inv-loop μ-loop Inv-loop2 μ-loop2
 loop-holds c = (omega arith, seek-start _ _ _)
 
-add-result : tie.Need-add-result Inv-loop μ-loop Inv-loop2 μ-loop2
-add-result c = omega (arith, four-has _ _ _ (sym (c .before .before .four-lack .ensures) ∙ not-true _ (c .before .if1 .taken)) _ (c .position-in-four .ensures))
-
 returns : tie.Need-returns Inv-loop μ-loop Inv-loop2 μ-loop2
-returns c = part-has _ _ _ _ 4 _ (c .before .before .before .before .loop .inv .1) (c .before .before .before .loop-test .taken) (c .position-in-four .ensures) (four-has _ _ _ (sym (c .before .before .four-lack .ensures) ∙ not-true _ (c .before .if1 .taken)) _ (c .position-in-four .ensures))
+returns c = part-has _ _ _ _ 4 _ (c .before .before .before .loop .inv .1) (c .before .before .loop-test .taken) (c .before .position-in-four .ensures) (c .if1 .taken)
 
 loop-again : tie.Need-loop-again Inv-loop μ-loop Inv-loop2 μ-loop2
-loop-again c = (omega arith, part-lacks _ _ _ _ 4 _ (c .before .before .before .loop .inv .1) (c .before .before .loop-test .taken) refl (four-lacks _ _ _ (sym (c .before .four-lack .ensures) ∙ not-false _ (c .if1 .left))))
+loop-again c = (omega arith, part-lacks _ _ _ _ 4 _ (c .before .before .before .loop .inv .1) (c .before .before .loop-test .taken) (c .before .position-in-four .ensures) (c .if1 .left))
 
 loop2-holds : tie.Need-loop2-holds Inv-loop μ-loop Inv-loop2 μ-loop2
 loop2-holds c = c .before .loop .inv
@@ -57,8 +52,7 @@ seek-spec =
     loop-holds
     (λ c. omega arith)
     (λ c κs. omega arith)
-    (λ c κs. omega arith)
-    add-result
+    (λ c. omega arith)
     returns
     (λ c. omega arith)
     (λ c. omega arith)
