@@ -87,7 +87,7 @@ key-keep ws k f (x ∷ xs) = go (value (sameKey k (fragmentAt ws x) f)) (value (
     go (no-is s) (yes-is h) ih = ap (firstKey ws k f) (keep-yes (hits ws k (bucketOf k f)) x xs h) ∙ first-there ws k f x (kept xs) s ∙ ih ∙ sym (first-there ws k f x xs s)
     go (no-is s) (no-is h) ih = ap (firstKey ws k f) (keep-no (hits ws k (bucketOf k f)) x xs h) ∙ ih ∙ sym (first-there ws k f x xs s)
 
-bucket-in : (k : ℕ) (f : Fragment) → bucketOf k f < 4096
+pub bucket-in : (k : ℕ) (f : Fragment) → bucketOf k f < 4096
 unfolding bucketOf
 bucket-in k f = go (eqb k 0) (eqb k 1)
   where

@@ -1,5 +1,8 @@
 -- The link of a receiver's words to the model. Assumes nothing.
+pub mod Lists
 pub mod Found
 pub mod Walks
 pub mod Back
 pub mod Turns
+pub mod Keeps
+pub mod Indexes
