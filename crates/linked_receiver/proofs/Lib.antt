@@ -6,3 +6,4 @@ pub mod Back
 pub mod Turns
 pub mod Keeps
 pub mod Indexes
+pub mod Promotes

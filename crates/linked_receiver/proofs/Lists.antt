@@ -62,6 +62,10 @@ count-kept y f xs = go (value (f y))
 
 -- ------------------------------------------------------------------ how many
 
+pub length-end : (xs : List ℕ) (i : ℕ) → length (xs ++ (i ∷ [])) ≡ suc (length xs)
+length-end [] i = refl
+length-end (x ∷ xs) i = ap suc (length-end xs i)
+
 -- a row that stands once, taken out
 pub length-without : (i : ℕ) (xs : List ℕ) → ((y : ℕ) → count y xs ≤ 1) → 0 < count i xs → length xs ≡ suc (length (without i xs))
 length-without i [] once h = absurd (let z = count-nil i in omega arith)
