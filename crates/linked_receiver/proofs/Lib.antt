@@ -7,3 +7,5 @@ pub mod Turns
 pub mod Keeps
 pub mod Indexes
 pub mod Promotes
+pub mod Fresh
+pub mod News
