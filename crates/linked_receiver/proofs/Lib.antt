@@ -9,3 +9,4 @@ pub mod Indexes
 pub mod Promotes
 pub mod Fresh
 pub mod News
+pub mod Creates
