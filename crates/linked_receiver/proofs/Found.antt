@@ -21,7 +21,7 @@ use Rattle.linked_receiver.specs.Rows.{hits, Indexed}
 -- ------------------------------------------------------------------ one key, one bucket
 
 -- a test that holds, behind another
-both : (a b : Bool) → pick a b false ≡ true → (a ≡ true) × (b ≡ true)
+pub both : (a b : Bool) → pick a b false ≡ true → (a ≡ true) × (b ≡ true)
 both true b e = (refl, e)
 both false b e = absurd (true≢false e refl)
 

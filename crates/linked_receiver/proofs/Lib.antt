@@ -10,3 +10,5 @@ pub mod Promotes
 pub mod Fresh
 pub mod News
 pub mod Creates
+pub mod HeldRows
+pub mod Compares
