@@ -12,3 +12,5 @@ pub mod News
 pub mod Creates
 pub mod HeldRows
 pub mod Compares
+pub mod Paths
+pub mod Completes
