@@ -14,3 +14,4 @@ pub mod HeldRows
 pub mod Compares
 pub mod Paths
 pub mod Completes
+pub mod Marks
