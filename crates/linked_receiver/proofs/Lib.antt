@@ -15,3 +15,4 @@ pub mod Compares
 pub mod Paths
 pub mod Completes
 pub mod Marks
+pub mod Frees
