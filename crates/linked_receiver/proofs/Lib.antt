@@ -16,3 +16,4 @@ pub mod Paths
 pub mod Completes
 pub mod Marks
 pub mod Frees
+pub mod HandsOut
