@@ -17,3 +17,4 @@ pub mod Completes
 pub mod Marks
 pub mod Frees
 pub mod HandsOut
+pub mod Taken
