@@ -18,3 +18,4 @@ pub mod Marks
 pub mod Frees
 pub mod HandsOut
 pub mod Taken
+pub mod Fetches

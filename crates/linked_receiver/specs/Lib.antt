@@ -3,3 +3,4 @@ pub mod Rows
 pub mod Kept
 pub mod Good
 pub mod Promise
+pub mod Fetches
