@@ -19,3 +19,4 @@ pub mod Frees
 pub mod HandsOut
 pub mod Taken
 pub mod Fetches
+pub mod Passed
