@@ -1,0 +1,3 @@
+-- Where the payload of a chunk lies, and the way out with it, for the proofs of this crate's functions. Assumes nothing.
+pub mod Inside
+pub mod Exits
