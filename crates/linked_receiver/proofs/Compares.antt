@@ -46,7 +46,7 @@ unfolding same-bool
 bool-itself true = refl
 bool-itself false = refl
 
-kind-itself : (k : Kind) → same-kind k k ≡ true
+pub kind-itself : (k : Kind) → same-kind k k ≡ true
 unfolding same-kind
 kind-itself DATA = refl
 kind-itself I-DATA = refl
@@ -128,21 +128,21 @@ module _ (k : Kind) (f h : Fragment) (p q : List ℕ) (tsn : f .tsn ≡ h .tsn) 
 
 -- ------------------------------------------------------------------ the place
 
-module _ (f h : Fragment) (p q : List ℕ) where
+module _ (k : Kind) (f h : Fragment) (p q : List ℕ) where
   -- "stream, order mark, MID and FSN": of a fragment f that comes, and of one that is held
-  pub place-key : same-place I-DATA (chunkOf I-DATA f p) (chunkOf I-DATA h q) ≡ true → sameKey 1 h f ≡ true
+  pub place-key : same-place I-DATA (chunkOf k f p) (chunkOf k h q) ≡ true → sameKey 1 h f ≡ true
   unfolding same-place sameKey samePlace number
   place-key e =
-      let same = same-message I-DATA (chunkOf I-DATA f p) (chunkOf I-DATA h q) in
-      let a = alike I-DATA (chunkOf I-DATA f p) (chunkOf I-DATA h q) (and-left same (eqb (f .fsn .0) (h .fsn .0)) e) in
+      let same = same-message I-DATA (chunkOf k f p) (chunkOf k h q) in
+      let a = alike I-DATA (chunkOf k f p) (chunkOf k h q) (and-left same (eqb (f .fsn .0) (h .fsn .0)) e) in
       rw (eq-eqb (h .stream .0) (f .stream .0) (sym (a .streams)), eq-eqb (bit (h .unordered)) (bit (f .unordered)) (ap bit (sym (a .marks))), eq-eqb (h .mid .0) (f .mid .0) (sym (a .numbers)))
       (eq-eqb (h .fsn .0) (f .fsn .0) (sym (eqb-is (and-right same (eqb (f .fsn .0) (h .fsn .0)) e))))
 
-  pub key-place : sameKey 1 h f ≡ true → same-place I-DATA (chunkOf I-DATA f p) (chunkOf I-DATA h q) ≡ true
+  pub key-place : sameKey 1 h f ≡ true → same-place I-DATA (chunkOf k f p) (chunkOf k h q) ≡ true
   unfolding same-place sameKey samePlace number
   key-place e =
       let a₁ = both _ _ e in
       let a₂ = both _ _ (a₁ .1) in
       let a₃ = both _ _ (a₂ .1) in
-      rw (is-alike I-DATA (chunkOf I-DATA f p) (chunkOf I-DATA h q) (sym (eqb-true _ _ (a₁ .0))) (sym (bit-is _ _ (eqb-true _ _ (a₂ .0)))) (sym (eqb-true _ _ (a₃ .0))))
+      rw (is-alike I-DATA (chunkOf k f p) (chunkOf k h q) (sym (eqb-true _ _ (a₁ .0))) (sym (bit-is _ _ (eqb-true _ _ (a₂ .0)))) (sym (eqb-true _ _ (a₃ .0))))
       (eq-eqb (f .fsn .0) (h .fsn .0) (sym (eqb-true _ _ (a₃ .1))))

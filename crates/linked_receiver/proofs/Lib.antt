@@ -12,6 +12,8 @@ pub mod News
 pub mod Creates
 pub mod HeldRows
 pub mod Compares
+pub mod Judges
+pub mod Admits
 pub mod Paths
 pub mod Completes
 pub mod Marks
