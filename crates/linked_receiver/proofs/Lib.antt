@@ -22,3 +22,5 @@ pub mod HandsOut
 pub mod Taken
 pub mod Fetches
 pub mod Passed
+pub mod Holds
+pub mod Held

@@ -154,7 +154,7 @@ unique-fewer : (ws ws′ : List ℕ) (k : ℕ) (xs ys : List ℕ) → ((x : ℕ)
 unique-fewer ws ws′ k xs ys within same u f x y cx cy sx sy =
     u f x y (within x cx) (within y cy) (ap (λ (g : Fragment). sameKey k g f) (sym (same x cx)) ∙ sx) (ap (λ (g : Fragment). sameKey k g f) (sym (same y cy)) ∙ sy)
 
-turn-rows-same : (ws ws′ : List ℕ) (n i : ℕ) → i + n ≤ 256 → ((t : ℕ) → t < 256 → turnAt ws′ t ≡ turnAt ws t) → turnRows ws′ i n ≡ turnRows ws i n
+pub turn-rows-same : (ws ws′ : List ℕ) (n i : ℕ) → i + n ≤ 256 → ((t : ℕ) → t < 256 → turnAt ws′ t ≡ turnAt ws t) → turnRows ws′ i n ≡ turnRows ws i n
 unfolding turnRows
 turn-rows-same ws ws′ zero i l h = refl
 turn-rows-same ws ws′ (suc n) i l h =
