@@ -1,12 +1,18 @@
-//! Links the proved queue, two static libraries with C functions.
+//! Links the proved queue, static libraries with C functions. `libraries.txt` has their names.
 
 use std::env;
 use std::path::PathBuf;
 
-const NAMES: [&str; 2] = ["send_queue_c", "packets_c"];
+const NAMES: &str = include_str!("libraries.txt");
 
 fn main() {
     println!("cargo::rerun-if-env-changed=DSQ_LIB_DIR");
+    println!("cargo::rerun-if-changed=libraries.txt");
+    let (machine, system) = (env::var("CARGO_CFG_TARGET_ARCH"), env::var("CARGO_CFG_TARGET_OS"));
+    if machine.as_deref() != Ok("x86_64") || system.as_deref() != Ok("linux") {
+        println!("cargo::error=the proved library is made for x86-64 Linux alone");
+        return;
+    }
     let folder = match env::var_os("DSQ_LIB_DIR") {
         Some(given) => PathBuf::from(given),
         None => {
@@ -15,15 +21,16 @@ fn main() {
         }
     };
     println!("cargo::rustc-link-search=native={}", folder.display());
-    for name in NAMES {
+    for name in NAMES.split_whitespace() {
         let library = folder.join(format!("lib{name}.a"));
         println!("cargo::rerun-if-changed={}", library.display());
         if !library.is_file() {
             println!(
-                "cargo::error={} is not there. `scripts/libraries`, run in the repository's folder, makes it \
-                 (target/staticlib/lib{name}.a); DSQ_LIB_DIR names another folder",
+                "cargo::error={} is not there. `scripts/libraries`, run in the repository's folder, makes it; DSQ_LIB_DIR names another \
+                 folder",
                 library.display()
             );
+            return;
         }
         println!("cargo::rustc-link-lib=static={name}");
     }
