@@ -14,6 +14,7 @@
  *     as the last one left them. The words hold no pointer: between two calls words and store may be moved or copied.
  *   - 256 KB of stack for dsq_produce or dsq_fill_packet alone: where more than 128 messages have expired each takes 253 KB, since it keeps a
  *     copy of the words and of the events, up to 128 of them 37 KB, and up to 17 of them 7 KB (measured: c/stack.c); give a thread more.
+ *     The other calls take at most 4 KB (c/told.c). The functions have no unwind tables: a report of a crash in one does not show who called it.
  *
  * Lengths count elements: events_length counts words, of which DSQ_EVENT_WORDS are asked for.
  * The libraries and this header belong together: a host asks once whether dsq_layout() is DSQ_LAYOUT.
@@ -62,12 +63,14 @@ extern "C" {
  * the payloads. */
 #define DSQ_MAX_IMAGE(store_length) ((size_t)48660 + (store_length))
 
-/* What a function returns: 0 for accepted, else the refusal. Of several that apply the first is given. */
+/* What a function returns: 0 for accepted, else the refusal. Of several that apply the first is given. It is one byte: a binding that reads
+ * more of the register (a foreign function interface often takes an int) sees bits that mean nothing. */
 enum dsq_refusal {
     DSQ_ACCEPTED = 0,
     /* At creation, or where priorities are planned, the payload limit is outside 1 to 65,535. */
     DSQ_PAYLOAD_LIMIT_WRONG = 1,
-    /* The store is outside 1 to 2,000,000 bytes at creation, or not of its creation length later. */
+    /* The store is outside 1 to 2,000,000 bytes at creation, or not of its creation length later. Words that were never created
+     * get this, too, from a call that takes a store. */
     DSQ_STORE_WRONG = 2,
     /* The event list has fewer than 2,305 places. */
     DSQ_EVENT_LIST_SHORT = 3,
@@ -75,7 +78,9 @@ enum dsq_refusal {
     DSQ_TIME_LATE = 4,
     /* The payload is empty or above 262,144 bytes. */
     DSQ_PAYLOAD_WRONG = 5,
-    /* The call would make a 257th known stream. */
+    /* The call would make a 257th known stream. A stream is known from its first message, priority, threshold or closing on, and stays
+     * known when it was closed and reset: a queue takes 256 different ids in its life. Saving, and restoring into a new queue, forgets those
+     * without a message whose counters are 0 and whose priority is the default one. */
     DSQ_STREAMS_FULL = 6,
     /* The message would be the 1,025th waiting. */
     DSQ_MESSAGES_FULL = 7,
@@ -120,7 +125,8 @@ enum dsq_refusal {
     DSQ_ORDER_IMPOSSIBLE = 29
 };
 
-/* The places of an out-array. An accepted call writes those that are named at it; the others stay. */
+/* The places of an out-array. An accepted call writes those that are named at it; the others stay. A refused call leaves all as they were:
+ * the array, and the list of events, then still tell of the call before, so look at the number first. */
 enum dsq_out {
     DSQ_OUT_VALUE = 0,  /* a question's answer; 1 for a fragment, 0 for none; the length of an image, a chunk or a reset request; what a
                          * response led to; the count of ready ids or of a packet's chunks */
@@ -365,12 +371,17 @@ uint64_t dsq_get_handover_readiness(const uint64_t queue[DSQ_QUEUE_WORDS]);
 /* ---------------------------------------------------------------- the changeover image */
 
 /* Writes the image of the queue to the buffer's start, also in the middle of a message; the queue stays as it is. Tells VALUE, its length.
+ * In the image: the waiting messages, with the whole milliseconds that they have left, each stream's counters and priority, the next
+ * message id. Not in it: thresholds, closing, the interleaving choice, the rule of a restart, and streams with zero counters, the default
+ * priority and no message. It has no checksum: carry it by a channel that protects it. docs/CHANGEOVER.md has it step by step.
  * (2, 4, 16, 11) */
 uint8_t dsq_save(const uint64_t queue[DSQ_QUEUE_WORDS], const uint8_t *store, size_t store_length, uint8_t *image, size_t image_length,
                  uint64_t out[DSQ_OUT_WORDS], uint64_t time);
 
-/* Restores an image of exactly image_length bytes into a queue that knows no stream and has accepted no message. Choose interleaving before:
- * the image does not tell it. Without interleaving the rest of a half-sent message is sent first, before any other message is begun; of
+/* Restores an image of exactly image_length bytes into a queue that knows no stream and has accepted no message. All streams are then open,
+ * also those that were closing, with the default thresholds: close them and set those again. The rules find a cut image; one with a changed
+ * byte of a payload, a counter or an id may keep them all and is then accepted as another queue's. Choose interleaving before: the image
+ * does not tell it. Without interleaving the rest of a half-sent message is sent first, before any other message is begun; of
  * several (the saved queue had interleaving) that of the smallest stream id. The image does not tell the rule of the queue that was saved
  * either. Under DSQ_RESTART_STRICT a message of which nothing was sent must have no MID, else 13: such an image comes from a queue that was
  * reset under DSQ_RESTART_DCSCTP. (2, 4, 12, 13, 14, 15) */

@@ -11,6 +11,10 @@ impl SendQueue {
     /// The queue's image: counters, priorities and waiting messages, with the time that each has left and how much of it was sent. dcSCTP's
     /// `add_to_handover_state` has the same in a record. Saving may come in the middle of a message, and changes nothing.
     ///
+    /// Not in the image: thresholds, closing, the interleaving choice, the rule of a restart, and streams with zero counters, the default
+    /// priority and no message. It has no checksum: carry it by a channel that protects it. `docs/CHANGEOVER.md` of the repository has the
+    /// changeover step by step.
+    ///
     /// Refused: [`Refusal::TimeLate`].
     pub fn save(&self, now: SocketTime) -> Result<Vec<u8>, Refusal> {
         let mut image = vec![0; self.store.len() + MAX_IMAGE_RECORDS];
@@ -29,8 +33,12 @@ impl SendQueue {
         Ok(out[0] as usize)
     }
 
-    /// Makes a new queue the one of the image. Its streams are open, with the default thresholds. dcSCTP's `restore_from_state` does it from
-    /// a record. The image does not tell the saved queue's [`RestartRule`](crate::RestartRule);
+    /// Makes a new queue the one of the image. dcSCTP's `restore_from_state` does it from a record.
+    ///
+    /// All streams are then open, also those that were closing, with the default thresholds: close them and set those again. The rules find a
+    /// cut image; one with a changed byte of a payload, a counter or an id may keep them all and is then accepted as another queue's.
+    ///
+    /// The image does not tell the saved queue's [`RestartRule`](crate::RestartRule);
     /// [`RestartRule::Strict`](crate::RestartRule::Strict) takes no image with a MID on a message of which nothing was sent.
     ///
     /// Without interleaving the rest of a half-sent message comes first, before any other message is begun, also one that is added

@@ -143,8 +143,8 @@ impl SendQueue {
         accepted(number);
     }
 
-    /// What the last call reported, in order. A call that was refused has reported nothing. Asking and saving do not count as calls. (A
-    /// fragment lent by [`produce`](SendQueue::produce) must be let go of first.)
+    /// What the last call reported, in order. The next call, whichever it is, replaces it; a call that was refused has reported nothing. Asking
+    /// and saving do not count as calls. (A fragment lent by [`produce`](SendQueue::produce) must be let go of first.)
     pub fn events(&self) -> Events<'_> {
         Events::new(&self.events[..PLACE_WORDS * self.event_count])
     }

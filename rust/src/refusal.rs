@@ -3,7 +3,8 @@
 use std::error::Error;
 use std::fmt;
 
-/// Why a call was refused. Of several reasons the one with the lowest number is given. A refused call has changed nothing.
+/// Why a call was refused. Of several reasons the one that is checked first is given. A refused call has changed nothing, and has reported no
+/// event.
 #[derive(Clone, Copy, Debug, Eq, Hash, PartialEq)]
 #[non_exhaustive]
 #[repr(u8)]
@@ -18,7 +19,9 @@ pub enum Refusal {
     TimeLate = 4,
     /// The payload is empty or above 262,144 bytes.
     PayloadWrong = 5,
-    /// The call would make a 257th known stream.
+    /// The call would make a 257th known stream. A stream is known from its first message, priority, threshold or closing on, and stays known
+    /// when it was closed and reset: a queue takes 256 different ids in its life. Saving, and restoring into a new queue, forgets those
+    /// without a message whose counters are 0 and whose priority is the default one.
     StreamsFull = 6,
     /// The message would be the 1,025th waiting.
     MessagesFull = 7,
