@@ -39,6 +39,7 @@ pub(crate) type ChunkWords = [u64; CHUNK_WORDS];
 mod c {
     unsafe extern "C" {
         pub fn dsq_layout() -> u64;
+        pub fn dsq_layout_4() -> u64;
         pub fn dsq_create(
             queue: *mut u64,
             store: *const u8,
@@ -196,9 +197,10 @@ mod c {
     }
 }
 
-pub(crate) fn layout() -> u64 {
-    // SAFETY: it takes nothing and gives a number.
-    unsafe { c::dsq_layout() }
+/// The library's layout, told twice. The first function has it in its name: with a library of another layout the program does not link.
+pub(crate) fn layouts() -> [u64; 2] {
+    // SAFETY: they take nothing and give a number.
+    unsafe { [c::dsq_layout_4(), c::dsq_layout()] }
 }
 
 pub(crate) fn create(queue: &mut Words, store: &[u8], payload_limit: u64, options: &Options) -> u8 {

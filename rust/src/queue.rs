@@ -54,12 +54,10 @@ pub(crate) fn accepted(number: u8) {
 impl SendQueue {
     /// A new queue. Fragments of up to `max_payload_bytes` are meant to be sent: the scheduler reckons with that size.
     ///
-    /// Panics where the linked library has another layout than this crate is written for.
-    ///
     /// Refused: [`Refusal::PayloadLimitWrong`], [`Refusal::StoreWrong`].
     pub fn new(max_payload_bytes: usize, options: &Options) -> Result<Self, Refusal> {
-        let layout = ffi::layout();
-        assert!(layout == LAYOUT, "libsend_queue_c.a has layout {layout}, and this crate is written for {LAYOUT}");
+        let layouts = ffi::layouts();
+        assert!(layouts == [LAYOUT; 2], "the proved library tells layouts {layouts:?}, this crate is written for {LAYOUT}");
         let mut queue = Self {
             words: zeros::<QUEUE_WORDS>(),
             // A longer store than any queue takes need not be had for it to be refused.

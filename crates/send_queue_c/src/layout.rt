@@ -12,3 +12,11 @@ pub extern "C" fn dsq_layout() -> u64
 {
     LAYOUT
 }
+
+// The same under a name that carries the layout: a host compiled for another one names another function, and does not link.
+#[no_mangle]
+pub extern "C" fn dsq_layout_4() -> u64
+    ensures { λ r. ⌜ r ≡ layout ⌝ }
+{
+    dsq_layout()
+}
