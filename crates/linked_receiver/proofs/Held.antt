@@ -64,11 +64,11 @@ join-key true a c q e h = join-place a c q e h
 join-key false a c q e h = join-tsn a c q e h
 
 -- the next row of a message, as what is found
-at-part : (b : Bool) (ws : List ℕ) (h x : ℕ) → findRow ws (bit b) (following (fragmentAt ws h)) ≡ x → partAfter ws b h ≡ x
+pub at-part : (b : Bool) (ws : List ℕ) (h x : ℕ) → findRow ws (bit b) (following (fragmentAt ws h)) ≡ x → partAfter ws b h ≡ x
 unfolding partAfter
 at-part b ws h x e = e
 
-part-at : (b : Bool) (ws : List ℕ) (h x : ℕ) → partAfter ws b h ≡ x → findRow ws (bit b) (following (fragmentAt ws h)) ≡ x
+pub part-at : (b : Bool) (ws : List ℕ) (h x : ℕ) → partAfter ws b h ≡ x → findRow ws (bit b) (following (fragmentAt ws h)) ≡ x
 unfolding partAfter
 part-at b ws h x e = e
 
@@ -76,7 +76,7 @@ first-past : (ws : List ℕ) (k : ℕ) (f : Fragment) (x : ℕ) (xs : List ℕ) 
 unfolding firstKey
 first-past ws k f x xs e = rw e
 
-first-same : (ws ws′ : List ℕ) (k : ℕ) (f : Fragment) (xs : List ℕ) → ((x : ℕ) → 0 < count x xs → fragmentAt ws′ x ≡ fragmentAt ws x) → firstKey ws′ k f xs ≡ firstKey ws k f xs
+pub first-same : (ws ws′ : List ℕ) (k : ℕ) (f : Fragment) (xs : List ℕ) → ((x : ℕ) → 0 < count x xs → fragmentAt ws′ x ≡ fragmentAt ws x) → firstKey ws′ k f xs ≡ firstKey ws k f xs
 unfolding firstKey
 first-same ws ws′ k f [] h = refl
 first-same ws ws′ k f (x ∷ xs) h =

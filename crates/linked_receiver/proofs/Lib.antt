@@ -24,3 +24,5 @@ pub mod Fetches
 pub mod Passed
 pub mod Holds
 pub mod Held
+pub mod Others
+pub mod Moves
