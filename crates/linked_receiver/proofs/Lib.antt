@@ -26,3 +26,4 @@ pub mod Holds
 pub mod Held
 pub mod Others
 pub mod Moves
+pub mod Settles
