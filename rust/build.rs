@@ -13,13 +13,13 @@ fn main() {
         println!("cargo::error=the proved library is made for x86-64 Linux alone");
         return;
     }
-    let folder = match env::var_os("DSQ_LIB_DIR") {
-        Some(given) => PathBuf::from(given),
-        None => {
+    let folder = env::var_os("DSQ_LIB_DIR").map_or_else(
+        || {
             let here = env::var_os("CARGO_MANIFEST_DIR").expect("cargo names the package's folder");
             PathBuf::from(here).join("../target/staticlib")
-        }
-    };
+        },
+        PathBuf::from,
+    );
     println!("cargo::rustc-link-search=native={}", folder.display());
     for name in NAMES.split_whitespace() {
         let library = folder.join(format!("lib{name}.a"));

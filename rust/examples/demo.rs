@@ -87,7 +87,7 @@ impl Receiver {
         Ok(response)
     }
 
-    fn take(&mut self, d: &DataToSend) -> Outcome<()> {
+    fn take(&mut self, d: &DataToSend<&[u8]>) -> Outcome<()> {
         let key = (d.data.stream_key, d.data.mid.0);
         if d.data.is_beginning && self.open.insert(key, (d.data.fsn, Vec::new())).is_some() {
             return Err(format!("head {}: message {} begins twice", key.0.id(), key.1).into());

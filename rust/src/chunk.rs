@@ -28,15 +28,22 @@ pub struct Chunk<'a> {
     pub tsn: Tsn,
     /// The fragment. What the chunk does not carry is 0: message id, retransmissions and expiry, the lifecycle id (none); the MID and the
     /// FSN of DATA; the SSN of I-DATA, and its FSN on a first fragment or its protocol identifier on others.
-    pub fragment: DataToSend<'a>,
+    pub fragment: DataToSend<&'a [u8]>,
 }
 
 /// Writes a fragment as a chunk to the output's start, with zeros up to a multiple of 4 bytes, and answers how many bytes it wrote. The rest
 /// of the output stays as it was.
 ///
-/// Refused: [`Refusal::ChunkPayloadWrong`], [`Refusal::ChunkOutputShort`].
+/// # Errors
+///
+/// [`Refusal::ChunkPayloadWrong`], [`Refusal::ChunkOutputShort`].
 #[inline]
-pub fn write_chunk(output: &mut [u8], kind: ChunkKind, tsn: Tsn, data: &Data<'_>) -> Result<usize, Refusal> {
+pub fn write_chunk<P: AsRef<[u8]>>(
+    output: &mut [u8],
+    kind: ChunkKind,
+    tsn: Tsn,
+    data: &Data<P>,
+) -> Result<usize, Refusal> {
     let (number, written) = ffi::write_chunk(output, kind, tsn, data);
     Refusal::judge(number)?;
     Ok(written as usize)
@@ -45,7 +52,9 @@ pub fn write_chunk(output: &mut [u8], kind: ChunkKind, tsn: Tsn, data: &Data<'_>
 /// The chunk that the bytes are: one chunk with its payload and its padding, of any value, and nothing behind it. Flags other than the three
 /// marks and the reserved bits are not looked at.
 ///
-/// Refused: [`Refusal::ChunkWrong`].
+/// # Errors
+///
+/// [`Refusal::ChunkWrong`].
 #[inline]
 pub fn read_chunk(bytes: &[u8]) -> Result<Chunk<'_>, Refusal> {
     let mut out = [0; OUT_WORDS];

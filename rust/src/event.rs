@@ -3,6 +3,7 @@
 use crate::ids::StreamId;
 use crate::limits::PLACE_WORDS;
 use crate::message::LifecycleId;
+use std::collections::VecDeque;
 use std::slice::ChunksExact;
 
 /// Something that a call reports. The names are those of dcSCTP's `SocketEvent`, whose low marks have no amount.
@@ -45,6 +46,29 @@ impl Event {
             4 => Self::OnLifecycleEnd(id()),
             _ => unreachable!("an event has a kind from 1 to 4"),
         }
+    }
+}
+
+/// dcSCTP's name of it.
+pub type SocketEvent = Event;
+
+/// Where a [`sink::SendQueue`](crate::sink::SendQueue) hands its events: dcSCTP's trait, with its two methods.
+pub trait EventSink {
+    /// Takes an event; a queue hands them over in order.
+    fn add(&mut self, event: SocketEvent);
+
+    /// The oldest event that was taken and not yet given.
+    fn next_event(&mut self) -> Option<SocketEvent>;
+}
+
+/// First in, first out.
+impl EventSink for VecDeque<SocketEvent> {
+    fn add(&mut self, event: SocketEvent) {
+        self.push_back(event);
+    }
+
+    fn next_event(&mut self) -> Option<SocketEvent> {
+        self.pop_front()
     }
 }
 

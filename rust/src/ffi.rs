@@ -375,7 +375,8 @@ pub(crate) fn plan_priorities(ids: &[u16], sizes: &[u64], priorities: &mut Prior
 
 /// The number, and how many bytes were written, 0 where it is a refusal's.
 #[inline]
-pub(crate) fn write_chunk(output: &mut [u8], kind: ChunkKind, tsn: Tsn, data: &Data<'_>) -> (u8, u64) {
+pub(crate) fn write_chunk<P: AsRef<[u8]>>(output: &mut [u8], kind: ChunkKind, tsn: Tsn, data: &Data<P>) -> (u8, u64) {
+    let payload = data.payload.as_ref();
     // not cleared: of these words the call reads none, and it writes the first where it accepts
     let mut out = MaybeUninit::<Out>::uninit();
     // SAFETY: output and payload are references, the bytes' lengths are their own; the payload is only read. The out-array has its length.
@@ -383,8 +384,8 @@ pub(crate) fn write_chunk(output: &mut [u8], kind: ChunkKind, tsn: Tsn, data: &D
         c::dsq_write_chunk(
             output.as_mut_ptr(),
             output.len(),
-            data.payload.as_ptr(),
-            data.payload.len(),
+            payload.as_ptr(),
+            payload.len(),
             out.as_mut_ptr().cast(),
             kind as u8,
             tsn.0,

@@ -26,6 +26,7 @@ macro_rules! counter {
 
         impl $name {
             /// The counter so many steps on; it wraps at its width.
+            #[must_use]
             pub fn add_to(self, steps: $width) -> Self {
                 Self(self.0.wrapping_add(steps))
             }
@@ -63,11 +64,13 @@ pub enum StreamKey {
 
 impl StreamKey {
     /// The key of a message on this stream.
+    #[must_use]
     pub fn new(is_unordered: bool, id: StreamId) -> Self {
         if is_unordered { Self::Unordered(id) } else { Self::Ordered(id) }
     }
 
     /// The stream.
+    #[must_use]
     pub fn id(&self) -> StreamId {
         match *self {
             Self::Ordered(id) | Self::Unordered(id) => id,
@@ -75,11 +78,13 @@ impl StreamKey {
     }
 
     /// Whether ordered messages are meant.
+    #[must_use]
     pub fn is_ordered(&self) -> bool {
         matches!(self, Self::Ordered(_))
     }
 
     /// Whether unordered messages are meant.
+    #[must_use]
     pub fn is_unordered(&self) -> bool {
         matches!(self, Self::Unordered(_))
     }

@@ -15,7 +15,9 @@ impl SendQueue {
     /// priority and no message. It has no checksum: carry it by a channel that protects it. `docs/CHANGEOVER.md` of the repository has the
     /// changeover step by step.
     ///
-    /// Refused: [`Refusal::TimeLate`].
+    /// # Errors
+    ///
+    /// [`Refusal::TimeLate`].
     pub fn save(&self, now: SocketTime) -> Result<Vec<u8>, Refusal> {
         let mut image = vec![0; self.store.len() + MAX_IMAGE_RECORDS];
         let length = self.save_into(now, &mut image)?;
@@ -26,7 +28,9 @@ impl SendQueue {
 
     /// Writes the queue's image to the buffer's start, and says how long it is; the rest of the buffer stays as it was.
     ///
-    /// Refused: [`Refusal::TimeLate`], [`Refusal::ImageBufferShort`].
+    /// # Errors
+    ///
+    /// [`Refusal::TimeLate`], [`Refusal::ImageBufferShort`].
     pub fn save_into(&self, now: SocketTime, image: &mut [u8]) -> Result<usize, Refusal> {
         let mut out = [0; OUT_WORDS];
         Refusal::judge(ffi::save(&self.words, &self.store, image, &mut out, now.0))?;
@@ -45,7 +49,9 @@ impl SendQueue {
     /// meanwhile; of several half-sent messages (the saved queue had interleaving) the rest of the one with the smallest stream id. dcSCTP
     /// may begin another message first. With interleaving, which is to be chosen before restoring, the streams take turns as ever.
     ///
-    /// Refused: [`Refusal::TimeLate`], [`Refusal::QueueUsed`], [`Refusal::ImageWrong`], [`Refusal::PriorityOther`],
+    /// # Errors
+    ///
+    /// [`Refusal::TimeLate`], [`Refusal::QueueUsed`], [`Refusal::ImageWrong`], [`Refusal::PriorityOther`],
     /// [`Refusal::ImageLarge`].
     pub fn restore(&mut self, now: SocketTime, image: &[u8]) -> Result<(), Refusal> {
         self.event_count = 0;

@@ -1,6 +1,11 @@
 #![doc = include_str!("../README.md")]
 #![deny(unsafe_code)]
 #![deny(missing_docs)]
+#![warn(clippy::pedantic)]
+#![allow(
+    clippy::cast_possible_truncation,
+    reason = "the library tells every number as 64 bits; that each fits the width of its field is proved, and usize has 64 bits (build.rs)"
+)]
 
 mod chunk;
 mod event;
@@ -19,6 +24,7 @@ mod queue;
 mod readiness;
 mod refusal;
 mod resets;
+pub mod sink;
 mod streams;
 mod time;
 
@@ -27,7 +33,9 @@ pub use chunk::ChunkKind;
 pub use chunk::read_chunk;
 pub use chunk::write_chunk;
 pub use event::Event;
+pub use event::EventSink;
 pub use event::Events;
+pub use event::SocketEvent;
 pub use fragment::Data;
 pub use fragment::DataToSend;
 pub use ids::Fsn;

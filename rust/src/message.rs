@@ -22,11 +22,13 @@ impl LifecycleId {
     ///
     /// If it is 0.
     #[allow(clippy::should_implement_trait)]
+    #[must_use]
     pub fn from(number: u64) -> Self {
         Self::new(number).expect("a lifecycle id is not 0")
     }
 
     /// Its number.
+    #[must_use]
     pub fn value(&self) -> u64 {
         self.0.get()
     }
@@ -57,6 +59,7 @@ pub struct Message<'a> {
 
 impl<'a> Message<'a> {
     /// A message.
+    #[must_use]
     pub fn new(stream_id: StreamId, ppid: PpId, payload: &'a [u8]) -> Self {
         Self { stream_id, ppid, payload }
     }

@@ -39,7 +39,9 @@ impl SendQueue {
     /// Each chunk carries what one [`produce`](SendQueue::produce) at this time would give; its payload is copied once, from the queue to its
     /// place. The buffer behind the packet stays as it was. It takes as much stack as `produce`.
     ///
-    /// Refused: [`Refusal::PacketLimitWrong`], [`Refusal::PacketBufferShort`], [`Refusal::TimeLate`].
+    /// # Errors
+    ///
+    /// [`Refusal::PacketLimitWrong`], [`Refusal::PacketBufferShort`], [`Refusal::TimeLate`].
     pub fn fill_packet(
         &mut self,
         now: SocketTime,
@@ -47,8 +49,7 @@ impl SendQueue {
         packet: &Packet,
     ) -> Result<Option<Filled>, Refusal> {
         let mut out = [0; OUT_WORDS];
-        let number =
-            ffi::fill_packet(&mut self.words, &self.store, &mut self.events, buffer, &mut out, now.0, packet);
+        let number = ffi::fill_packet(&mut self.words, &self.store, &mut self.events, buffer, &mut out, now.0, packet);
         self.reported(&out);
         Refusal::judge(number)?;
         let [chunks, _, bytes, ..] = out;

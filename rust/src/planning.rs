@@ -11,7 +11,9 @@ use crate::refusal::Refusal;
 /// `sizes` are those of each stream's first message. The priorities do it on a new queue of `max_payload_bytes`, with interleaving on, where
 /// they are set before the messages are added and these are all accepted; in what order the messages are added does not matter.
 ///
-/// Refused: [`Refusal::PayloadLimitWrong`], [`Refusal::OrderWrong`], [`Refusal::OrderImpossible`].
+/// # Errors
+///
+/// [`Refusal::PayloadLimitWrong`], [`Refusal::OrderWrong`], [`Refusal::OrderImpossible`].
 pub fn plan_priorities(
     max_payload_bytes: usize,
     stream_ids: &[StreamId],

@@ -29,10 +29,13 @@ use std::fmt;
 ///
 /// It has the methods of dcSCTP's `SendQueue`, and they mean the same. What differs: the room for its state and for payloads is settled at
 /// creation, so a call can be refused ([`Refusal`]); and events are not called back but listed, by [`events`](SendQueue::events), after the
-/// call.
+/// call ([`sink::SendQueue`](crate::sink::SendQueue) hands them to a sink, as dcSCTP does).
+///
+/// A clone is a second queue with the same messages: only one of the two may send them. It is for looking ahead.
 ///
 /// Some methods answer without a `Result`, as dcSCTP's do. The one refusal that they could get is [`Refusal::WordsBroken`], and it is
 /// proved that no queue gets there; they would panic, where dcSCTP's code panics.
+#[derive(Clone)]
 pub struct SendQueue {
     pub(crate) words: Box<Words>,
     pub(crate) store: Box<[u8]>,
@@ -42,6 +45,7 @@ pub struct SendQueue {
 }
 
 /// A boxed array of zeros, made on the heap.
+#[allow(clippy::unnecessary_box_returns, reason = "an array of this length is not to pass over the stack")]
 fn zeros<const N: usize>() -> Box<[u64; N]> {
     vec![0; N].into_boxed_slice().try_into().expect("the length is the array's")
 }
@@ -54,10 +58,19 @@ pub(crate) fn accepted(number: u8) {
 impl SendQueue {
     /// A new queue. Fragments of up to `max_payload_bytes` are meant to be sent: the scheduler reckons with that size.
     ///
-    /// Refused: [`Refusal::PayloadLimitWrong`], [`Refusal::StoreWrong`].
+    /// # Errors
+    ///
+    /// [`Refusal::PayloadLimitWrong`], [`Refusal::StoreWrong`].
+    ///
+    /// # Panics
+    ///
+    /// Where the linked library tells another layout than the one that its symbols name; none that `rt` has made does.
     pub fn new(max_payload_bytes: usize, options: &Options) -> Result<Self, Refusal> {
         let layouts = ffi::layouts();
-        assert!(layouts == [LAYOUT; 2], "the proved library tells layouts {layouts:?}, this crate is written for {LAYOUT}");
+        assert!(
+            layouts == [LAYOUT; 2],
+            "the proved library tells layouts {layouts:?}, this crate is written for {LAYOUT}"
+        );
         let mut queue = Self {
             words: zeros::<QUEUE_WORDS>(),
             // A longer store than any queue takes need not be had for it to be refused.
@@ -72,7 +85,9 @@ impl SendQueue {
 
     /// Adds a message behind the others of its stream. The payload is copied.
     ///
-    /// Refused: [`Refusal::TimeLate`], [`Refusal::PayloadWrong`], [`Refusal::StreamsFull`], [`Refusal::MessagesFull`],
+    /// # Errors
+    ///
+    /// [`Refusal::TimeLate`], [`Refusal::PayloadWrong`], [`Refusal::StreamsFull`], [`Refusal::MessagesFull`],
     /// [`Refusal::StoreFull`].
     pub fn add(&mut self, now: SocketTime, message: Message<'_>, send_options: &SendOptions) -> Result<(), Refusal> {
         self.event_count = 0;
@@ -95,8 +110,10 @@ impl SendQueue {
     /// Where it drops up to 17 messages it takes 7 KB of stack, up to 128 of them 37 KB, and 253 KB to drop more in one call (measured):
     /// give a thread more.
     ///
-    /// Refused: [`Refusal::TimeLate`], [`Refusal::SizeWrong`].
-    pub fn produce(&mut self, now: SocketTime, max_size: usize) -> Result<Option<DataToSend<'_>>, Refusal> {
+    /// # Errors
+    ///
+    /// [`Refusal::TimeLate`], [`Refusal::SizeWrong`].
+    pub fn produce(&mut self, now: SocketTime, max_size: usize) -> Result<Option<DataToSend<&[u8]>>, Refusal> {
         if self.fragment.len() < max_size.min(MAX_PAYLOAD) {
             self.fragment.resize(max_size.min(MAX_PAYLOAD), 0);
         }
@@ -112,12 +129,14 @@ impl SendQueue {
     /// The fragment's bytes are written to the buffer's start and lent from there; the rest of the buffer stays as it was. It takes as much
     /// stack as [`produce`](SendQueue::produce).
     ///
-    /// Refused: [`Refusal::TimeLate`], [`Refusal::SizeWrong`] (a buffer outside 1 to 262,144 bytes).
+    /// # Errors
+    ///
+    /// [`Refusal::TimeLate`], [`Refusal::SizeWrong`] (a buffer outside 1 to 262,144 bytes).
     pub fn produce_into<'a>(
         &mut self,
         now: SocketTime,
         buffer: &'a mut [u8],
-    ) -> Result<Option<DataToSend<'a>>, Refusal> {
+    ) -> Result<Option<DataToSend<&'a [u8]>>, Refusal> {
         let size = buffer.len() as u64;
         let Some(out) = self.next(now, size, buffer)? else { return Ok(None) };
         Ok(Some(fragment::told(&out, &buffer[..fragment::length(&out)])))
@@ -143,6 +162,7 @@ impl SendQueue {
 
     /// What the last call reported, in order. The next call, whichever it is, replaces it; a call that was refused has reported nothing. Asking
     /// and saving do not count as calls. (A fragment lent by [`produce`](SendQueue::produce) must be let go of first.)
+    #[must_use]
     pub fn events(&self) -> Events<'_> {
         Events::new(&self.events[..PLACE_WORDS * self.event_count])
     }

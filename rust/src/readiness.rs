@@ -13,11 +13,13 @@ impl HandoverReadiness {
     pub const SEND_QUEUE_NOT_EMPTY: Self = Self(2);
 
     /// Whether nothing stands against it.
+    #[must_use]
     pub fn is_ready(&self) -> bool {
         *self == Self::READY
     }
 
     /// Whether this reason stands against it.
+    #[must_use]
     pub fn contains(&self, reason: Self) -> bool {
         self.0 & reason.0 != 0
     }

@@ -99,11 +99,13 @@ impl Refusal {
     ];
 
     /// Its number: 1 to 21, or 25 to 29.
+    #[must_use]
     pub fn number(self) -> u8 {
         self as u8
     }
 
     /// The refusal of this number.
+    #[must_use]
     pub fn from_number(number: u8) -> Option<Self> {
         Self::ALL.into_iter().find(|refusal| refusal.number() == number)
     }

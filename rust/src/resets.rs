@@ -37,6 +37,7 @@ pub enum ResponseOutcome {
 
 impl StreamResetHandler {
     /// Without a request underway. The first request gets this number, each later one the next, modulo 2^32.
+    #[must_use]
     pub fn new(first_number: u32) -> Self {
         let mut numbers = [0; HANDLER_NUMBERS];
         accepted(ffi::start_reset_handler(&mut numbers, first_number));
@@ -44,11 +45,13 @@ impl StreamResetHandler {
     }
 
     /// The number that the next request gets.
+    #[must_use]
     pub fn next_number(&self) -> u32 {
         self.numbers[0]
     }
 
     /// The number of the request underway.
+    #[must_use]
     pub fn request_underway(&self) -> Option<u32> {
         (self.numbers[1] != 0).then_some(self.numbers[2])
     }
@@ -57,7 +60,9 @@ impl StreamResetHandler {
     /// wrote: at most [`MAX_RESET_REQUEST`](crate::MAX_RESET_REQUEST). The request names the streams in ascending order; they are being
     /// reset from then on. With no stream ready nothing is written, and it answers `None`.
     ///
-    /// Refused: [`Refusal::RequestUnderway`], [`Refusal::RequestOutputShort`].
+    /// # Errors
+    ///
+    /// [`Refusal::RequestUnderway`], [`Refusal::RequestOutputShort`].
     pub fn make_stream_reset_request(
         &mut self,
         queue: &mut SendQueue,
@@ -75,7 +80,9 @@ impl StreamResetHandler {
 
     /// Takes the RE-CONFIG chunk that the bytes are, with the peer's response.
     ///
-    /// Refused: [`Refusal::ResponseWrong`].
+    /// # Errors
+    ///
+    /// [`Refusal::ResponseWrong`].
     pub fn handle_response(&mut self, queue: &mut SendQueue, bytes: &[u8]) -> Result<ResponseOutcome, Refusal> {
         queue.event_count = 0;
         let mut out = [0; OUT_WORDS];

@@ -11,7 +11,9 @@ use crate::refusal::Refusal;
 impl SendQueue {
     /// Closes a stream, so that it can be reset: its waiting messages are dropped, but for one that is half-sent, which is sent to its end.
     ///
-    /// Refused: [`Refusal::StreamsFull`].
+    /// # Errors
+    ///
+    /// [`Refusal::StreamsFull`].
     pub fn prepare_reset_stream(&mut self, stream_id: StreamId) -> Result<(), Refusal> {
         let mut out = [0; OUT_WORDS];
         let number = ffi::prepare_reset_stream(&mut self.words, &mut self.events, &mut out, stream_id.0);
@@ -50,7 +52,9 @@ impl SendQueue {
 
     /// Sets the amount at or below which a stream's backlog counts as low.
     ///
-    /// Refused: [`Refusal::StreamsFull`].
+    /// # Errors
+    ///
+    /// [`Refusal::StreamsFull`].
     pub fn set_buffered_amount_low_threshold(&mut self, stream_id: StreamId, threshold: usize) -> Result<(), Refusal> {
         let mut out = [0; OUT_WORDS];
         let number = ffi::set_buffered_amount_low_threshold(
@@ -67,7 +71,9 @@ impl SendQueue {
     /// Sets a stream's priority, its weight when messages are interleaved. The scheduler reads it when the stream next begins to wait, and
     /// before that at a drop not made by closing, a reset, a commit, a rollback or a switch of interleaving.
     ///
-    /// Refused: [`Refusal::StreamsFull`].
+    /// # Errors
+    ///
+    /// [`Refusal::StreamsFull`].
     pub fn set_priority(&mut self, stream_id: StreamId, priority: u16) -> Result<(), Refusal> {
         self.event_count = 0;
         Refusal::judge(ffi::set_priority(&mut self.words, stream_id.0, priority))

@@ -12,11 +12,13 @@ pub struct SocketTime(pub u64);
 
 impl SocketTime {
     /// The start.
+    #[must_use]
     pub const fn zero() -> Self {
         Self(0)
     }
 
     /// Later than every time: never.
+    #[must_use]
     pub const fn infinite_future() -> Self {
         Self(u64::MAX)
     }

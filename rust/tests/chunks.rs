@@ -5,7 +5,7 @@ use desqariy::*;
 const NOW: SocketTime = SocketTime::zero();
 
 /// A fragment with a number of its own in every field.
-fn data(payload: &[u8]) -> Data<'_> {
+fn data(payload: &[u8]) -> Data<&[u8]> {
     Data {
         stream_key: StreamKey::Ordered(StreamId(0x0102)),
         ssn: Ssn(0x0304),
@@ -18,7 +18,7 @@ fn data(payload: &[u8]) -> Data<'_> {
     }
 }
 
-fn write(room: usize, kind: ChunkKind, data: &Data<'_>) -> Result<Vec<u8>, u8> {
+fn write(room: usize, kind: ChunkKind, data: &Data<&[u8]>) -> Result<Vec<u8>, u8> {
     let mut output = vec![0xa5; room];
     let n = write_chunk(&mut output, kind, Tsn(0xfffe_fdfc), data).map_err(|refusal| {
         assert!(output.iter().all(|b| *b == 0xa5), "a refusal writes nothing");
@@ -57,7 +57,7 @@ fn the_bytes_of_an_i_data_chunk() {
 }
 
 /// What a chunk carries of a fragment.
-fn carried<'a>(kind: ChunkKind, data: &Data<'a>) -> DataToSend<'a> {
+fn carried<'a>(kind: ChunkKind, data: &Data<&'a [u8]>) -> DataToSend<&'a [u8]> {
     let data = match (kind, data.is_beginning) {
         (ChunkKind::Data, _) => Data { mid: Mid(0), fsn: Fsn(0), ..*data },
         (ChunkKind::IData, true) => Data { ssn: Ssn(0), fsn: Fsn(0), ..*data },

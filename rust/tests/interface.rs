@@ -164,7 +164,7 @@ fn what_goes_with_a_fragment() {
         mid: Mid(0),
         fsn: Fsn(0),
         ppid: PpId(u32::MAX),
-        payload: b"ab",
+        payload: &b"ab"[..],
         is_beginning: true,
         is_end: false,
     };
@@ -172,7 +172,7 @@ fn what_goes_with_a_fragment() {
     let message_id = OutgoingMessageId(0);
     assert_eq!(first, DataToSend { message_id, data, max_retransmissions: 3, expires_at, lifecycle_id: None });
     let last = q.produce(SocketTime(5), 2).unwrap().unwrap();
-    let data = Data { fsn: Fsn(1), payload: b"c", is_beginning: false, is_end: true, ..data };
+    let data = Data { fsn: Fsn(1), payload: &b"c"[..], is_beginning: false, is_end: true, ..data };
     let lifecycle_id = LifecycleId::new(8);
     assert_eq!(last, DataToSend { message_id, data, max_retransmissions: 3, expires_at, lifecycle_id });
     q.add(NOW, message(1, b"m"), &SendOptions::default()).unwrap();

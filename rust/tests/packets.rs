@@ -77,7 +77,11 @@ fn a_filling_is_the_separate_calls() {
 #[test]
 fn the_events_of_all_its_calls() {
     let mut queue = SendQueue::new(1_000, &options()).unwrap();
-    let send = SendOptions { lifecycle_id: LifecycleId::new(7), lifetime: Some(std::time::Duration::ZERO), ..Default::default() };
+    let send = SendOptions {
+        lifecycle_id: LifecycleId::new(7),
+        lifetime: Some(std::time::Duration::ZERO),
+        ..Default::default()
+    };
     queue.add(NOW, Message::new(StreamId(1), PpId(53), b"old"), &send).unwrap();
     let later = NOW + std::time::Duration::from_millis(1);
     let mut buffer = [0xa5; 36];

@@ -109,7 +109,7 @@ fn what_each_result_leads_to() {
             None
         };
         assert_eq!(ssn, wanted, "{result}: counters at 0, counting on, or not open yet");
-        assert_eq!(handler.handle_response(&mut queue, &response(3, 0)).is_ok(), true);
+        assert!(handler.handle_response(&mut queue, &response(3, 0)).is_ok());
     }
 }
 

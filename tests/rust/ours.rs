@@ -20,7 +20,7 @@ fn number<T>(answer: Result<T, Refusal>) -> u8 {
     answer.map_or_else(Refusal::number, |_| 0)
 }
 
-fn shown(fragment: Result<Option<DataToSend<'_>>, Refusal>) -> Answer {
+fn shown(fragment: Result<Option<DataToSend<&[u8]>>, Refusal>) -> Answer {
     let mut answer = Answer::default();
     match fragment {
         Err(refusal) => answer.refusal = refusal.number(),

@@ -19,7 +19,7 @@ use std::hint::black_box;
 /// So many chunks a round, each from another place of the caller's buffer and to another.
 const CHUNKS: usize = 64;
 
-fn data(payload: &[u8]) -> Data<'_> {
+fn data(payload: &[u8]) -> Data<&[u8]> {
     Data {
         stream_key: StreamKey::Ordered(StreamId(1)),
         ssn: Ssn(2),

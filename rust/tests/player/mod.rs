@@ -71,12 +71,12 @@ fn plan(mut line: Line) -> String {
     format!("P {}{priorities}\n", number(&answer))
 }
 
-fn fragment_line(d: &DataToSend) -> String {
+fn fragment_line(d: &DataToSend<&[u8]>) -> String {
     format!("p 0 1{}", fragment_fields(d))
 }
 
 /// All that goes with a fragment, and the line's end.
-fn fragment_fields(d: &DataToSend) -> String {
+fn fragment_fields(d: &DataToSend<&[u8]>) -> String {
     let never = d.expires_at == SocketTime::infinite_future();
     format!(
         " {} {} {} {} {} {} {} {} {} {} {} {} {} {} {}\n",

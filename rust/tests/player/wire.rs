@@ -29,10 +29,10 @@ pub fn write(mut line: Line) -> String {
         ppid: PpId(line.take()),
         is_beginning: line.flag(),
         is_end: line.flag(),
-        payload: &[],
+        payload: &[][..],
     };
     let bytes = payload(line.take(), line.take());
-    data.payload = &bytes;
+    data.payload = &bytes[..];
     match write_chunk(&mut output, kind, tsn, &data) {
         Err(refusal) => {
             assert!(output.iter().all(|b| *b == FILL), "a refusal writes nothing");
