@@ -1,4 +1,4 @@
--- The calls of a filling that no check refuses: at least one, none of them refused; without a fragment one alone, which says that nothing waits. Assumes nothing.
+-- The calls of a filling that no check refuses: by document 02's sizes, at least one, none of them refused; without a fragment one alone, which says that nothing waits. Assumes nothing.
 use mathlib.Core.Path.{_≡_, refl, sym, ap, _∙_}
 use mathlib.Core.Bool.{Bool, true, false}
 use mathlib.Core.List.{List, [], _∷_}
@@ -6,11 +6,12 @@ use mathlib.Core.Option.{Option, none, some}
 use Prim.Native.Nat.{ℕ, suc, _+_, _≤_}
 use native.Mathlib.Omega.{arith}
 use lib.ListN.{length}
-use Rattle.queue_model.specs.Types.{Packet, Options, Queue, Fragment, Answer, nothing-waits}
+use Rattle.queue_model.specs.Types.{Packet, Options, Queue, Fragment, Answer, fragment, nothing-waits}
 use Rattle.queue_model.specs.Answers.{is-refused, fragment-in}
 use Rattle.queue_model.specs.Refusals.{first-refusal, refused-or, checked}
 use Rattle.queue_model.specs.Produce.{produce}
 use Rattle.queue_model.specs.Fill.{Filling, no-calls, size-asked, last-call, one-more, common-header-length, filling, filled-with, fill-checks}
+use Rattle.queue_model.specs.Packets.{Asks, full, empty, goes-on}
 use Rattle.queue_model.specs.Run as run
 use Rattle.queue_model.specs.Calls as calls
 use Rattle.queue_model.proofs.Invariant.Well.{Well, room}
@@ -53,6 +54,10 @@ says-none : (size : ℕ) (a : Answer) → Gives size a → fragment-in a ≡ non
 says-none size _ (gives f l m) e = let z : _≡_ {A = ℕ} 0 1 = cc in absurd (omega arith)
 says-none size _ waits-none e = refl
 
+says-some : (size : ℕ) (a : Answer) (f : Fragment) → Gives size a → fragment-in a ≡ some f → a ≡ fragment f
+says-some size _ f (gives g l m) e = let h : g ≡ f = cc in ap fragment h
+says-some size _ f waits-none e = let z : _≡_ {A = ℕ} 0 1 = cc in absurd (omega arith)
+
 gives-accepted : (size : ℕ) (a : Answer) → Gives size a → is-refused a ≡ false
 gives-accepted size _ (gives f l m) = refl
 gives-accepted size _ waits-none = refl
@@ -84,6 +89,14 @@ module _ (store places buffer now : ℕ) (p : Packet) (q : Queue) (w : Well q) (
 
   some-size : (used : ℕ) (x : Queue) → Kind x → used ≡ common-header-length → size-asked (q .interleaving) (p .limit) used x ≡ 0 → ⊥
   some-size used x k u z = size-some (q .interleaving) (p .limit) used x (past .limit-low) (room (x .options) (k .0 .creation) .limit-low) u z
+
+  -- They are asked for document 02's sizes.
+  pub all-asked : Asks (q .interleaving) store places now (p .limit) common-header-length q (filling store places now (p .limit) q .sizes)
+  unfolding filling no-calls run.step
+  all-asked =
+      fill-induct (q .interleaving) store places now (p .limit) Kind keeps (λ used x s. Asks (q .interleaving) store places now (p .limit) used x (s .sizes))
+      (λ used x k z. full z) (λ n used x k z f. empty n z (says-none (suc n) _ (answers n used x k z) f)) (λ n used x f s k z g h. goes-on n f (s .sizes) z (says-some (suc n) _ f (answers n used x k z) g) h)
+      (p .limit) common-header-length q (w, past .same-store) (omega arith)
 
   -- None is refused.
   pub all-give : AllGive store places now (filling store places now (p .limit) q .sizes) q

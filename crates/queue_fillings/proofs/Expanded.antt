@@ -26,9 +26,10 @@ use Rattle.queue_runs.specs.Refusals.{refusal}
 use Rattle.queue_runs.proofs.Steps.{step-link, meant}
 use Rattle.queue_runs.proofs.Runs.{run-link}
 use Rattle.queue_runs.proofs.Demand3.{stands}
-use Rattle.queue_fillings.specs.Expanded.{separately, sizesAsked, instead, expanded, apart, NoFillings, StandsFor, Request5-expanded}
+use Rattle.queue_fillings.specs.Expanded.{separately, sizesAsked, instead, expanded, apart, NoFillings, StandsFor, Request5-sizes, Request5-expanded}
 use Rattle.queue_fillings.proofs.Same.{Same, same-self, run-same, after-same}
-use Rattle.queue_fillings.proofs.Separate.{calls-next, AllWithin, sizes-within, accepted-next, refused-next, accepted-within}
+use Rattle.queue_fillings.proofs.Separate.{calls-next, AllWithin, sizes-within, accepted-next, refused-next, accepted-past, accepted-within}
+use Rattle.queue_fillings.proofs.Calls.{all-asked}
 
 -- ------------------------------------------------------------------ lists
 
@@ -214,6 +215,12 @@ whole-more c cs s h w =
 pub whole : (cs : List Call) (s : State) → Good s → AllTyped cs → Whole cs s
 whole [] s g t = unfold expanded apart runs.after runs.run in record { typed = tt; no-fillings = tt; leads = same-self s g; shows = refl }
 whole (c ∷ cs) s g t = whole-more c cs s (stands-call c s g (t .0)) (whole cs (step c s .next) (step-link c s g (t .0) .good) (t .1))
+
+pub request5-sizes : Request5-sizes
+unfolding Request5-sizes
+request5-sizes a len s es bs time p r t e =
+    let g = stands a len s r .good in
+    all-asked (length (s .store)) (placesIn es) (length bs) time (packetOf p) (queueOf s) (g .well) (accepted-past (length (s .store)) (placesIn es) (length bs) time (packetOf p) (queueOf s) (sym (told es bs time p s g t) ∙ e))
 
 pub request5-expanded : Request5-expanded
 unfolding Request5-expanded

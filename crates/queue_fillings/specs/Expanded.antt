@@ -1,13 +1,15 @@
 -- Lists of calls with fillings (document 02, 5/13): what each is made of, calls for the next fragment. Assumes nothing.
 use Prim.Native.Nat.{ℕ}
 use mathlib.Core.Path.{_≡_}
+use mathlib.Core.Bool.{false}
 use mathlib.Core.List.{List, [], _∷_, _++_}
 use lib.ListN.{length, take}
 use Rattle.queue_words.specs.Flags.{pick}
-use Rattle.queue_model.specs.Fill.{filling}
+use Rattle.queue_model.specs.Fill.{common-header-length, filling}
+use Rattle.queue_model.specs.Packets.{Asks}
 use Rattle.queue_streams.specs.Events.{placesIn}
 use Rattle.packets.specs.declared.packet.Packet.{Packet}
-use Rattle.queue_runs.specs.Calls.{Call, add, produce, fill, discard, close, ready-ids, commit, rollback, reset, set-threshold, set-priority, set-interleaving, restore, ask-priority, ask-amount, ask-threshold, ask-total, ask-empty, ask-has-data, ask-streams-ready, ask-ready-count, ask-readiness, NotFilling, Shown}
+use Rattle.queue_runs.specs.Calls.{Call, add, produce, fill, discard, close, ready-ids, commit, rollback, reset, set-threshold, set-priority, set-interleaving, restore, ask-priority, ask-amount, ask-threshold, ask-total, ask-empty, ask-has-data, ask-streams-ready, ask-ready-count, ask-readiness, Typed, NotFilling, Shown}
 use Rattle.queue_runs.specs.Run.{State, step, run, after}
 use Rattle.queue_runs.specs.Meaning.{queueOf, AllTyped}
 use Rattle.queue_runs.specs.Refusals.{refusal}
@@ -19,7 +21,7 @@ abbrev pub separately : List ℕ → List ℕ → ℕ → List ℕ → List Call
 separately es bs time [] = []
 separately es bs time (n ∷ ns) = produce es (take n bs) time n ∷ separately es bs time ns
 
--- The sizes that a filling asks for (queue_model: specs/Fill; `Asks` of `Request5` says them in document 02's words).
+-- The sizes that a filling asks for (queue_model: specs/Fill); that they are document 02's: `Request5-sizes`.
 abbrev pub sizesAsked : List ℕ → ℕ → Packet → State → List ℕ
 sizesAsked es time p s = filling (length (s .store)) (placesIn es) time (p .limit) (queueOf s) .sizes
 
@@ -47,6 +49,13 @@ instead ask-has-data s = ask-has-data ∷ []
 instead ask-streams-ready s = ask-streams-ready ∷ []
 instead ask-ready-count s = ask-ready-count ∷ []
 instead ask-readiness s = ask-readiness ∷ []
+
+-- "The size asked for is [..]. Filling ends when that size is 0 or less or nothing is waiting": of a filling that is not refused, on every queue that creation and calls lead to.
+unfoldable pub Request5-sizes : Type 0
+Request5-sizes =
+    (a : Arguments) (len : ℕ) (s : State) (es bs : List ℕ) (time : ℕ) (p : Packet)
+    → Reached a len s → Typed (fill es bs time p) → refusal (step (fill es bs time p) s .shows .answer) ≡ false
+    → Asks (queueOf s .interleaving) (length (s .store)) (placesIn es) time (p .limit) common-header-length (queueOf s) (sizesAsked es time p s)
 
 -- Each call of a list by what stands for it.
 unfoldable pub expanded : List Call → State → List Call
