@@ -107,7 +107,7 @@ module _ (g : Ghost) (ws st : List ℕ) (good : Good g ws st) (f : Fragment) (bs
     known-turn : row < known → knows s (turnRows ws 0 known) ≡ true → ItsTurn
     new-turn : row ≡ known → knows s (turnRows ws 0 known) ≡ false → ItsTurn
 
-  row-is : row ≡ turnFrom ws s 0 known
+  pub row-is : row ≡ turnFrom ws s 0 known
   unfolding findTurn
   row-is = rw (le-ltb 256 known (good .known-fits))
 

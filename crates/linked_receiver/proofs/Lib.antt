@@ -27,3 +27,5 @@ pub mod Held
 pub mod Others
 pub mod Moves
 pub mod Settles
+pub mod Accepts
+pub mod Receives

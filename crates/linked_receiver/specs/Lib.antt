@@ -3,4 +3,5 @@ pub mod Rows
 pub mod Kept
 pub mod Good
 pub mod Promise
+pub mod Receives
 pub mod Fetches
