@@ -52,6 +52,13 @@ unfoldable pub firstRow : ℕ → List ℕ → Bool → ℕ → ℕ
 firstRow zero ws b i = 4096
 firstRow (suc n) ws b i = pick (beginsWith b (fragmentAt ws i)) i (pick (leb 4096 (rowBefore ws b i)) 4096 (firstRow n ws b (rowBefore ws b i)))
 
+-- the fragment after row i's in its message, or the one before it, is missing: then row i makes none whole
+unfoldable pub missingAfter : List ℕ → Bool → ℕ → Bool
+missingAfter ws b i = pick (fragmentAt ws i .last) false (leb 4096 (rowAfter ws b i))
+
+unfoldable pub missingBefore : List ℕ → Bool → ℕ → Bool
+missingBefore ws b i = pick (beginsWith b (fragmentAt ws i)) false (leb 4096 (rowBefore ws b i))
+
 -- the first row of the message that row i makes whole; 4096 for none
 unfoldable pub completes : List ℕ → Bool → ℕ → ℕ
 completes ws b i = pick (reachesLast 4096 ws b i) (firstRow 4096 ws b i) 4096

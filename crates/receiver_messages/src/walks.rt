@@ -1,7 +1,7 @@
 // From one fragment of a message to the next, and back.
 ghost use mathlib.Core.Path.{_≡_};
 ghost use Prim.Native.Nat.{_<_};
-ghost use Rattle.receiver_messages.specs.Walks.{partAfter, rowAfter, rowBefore, reachesLast, firstRow, completes, markWhole};
+ghost use Rattle.receiver_messages.specs.Walks.{partAfter, rowAfter, rowBefore, reachesLast, firstRow, missingAfter, missingBefore, completes, markWhole};
 use crate::keys::following;
 use crate::keys::part_index;
 use crate::keys::preceding;
@@ -121,11 +121,47 @@ fn first_row(receiver: &[u64; RECEIVER_WORDS], interleaved: bool, row: usize) ->
     4096
 }
 
-// The first row of the message that row i, which came last, makes whole; 4096 where it makes none whole. In order of TSNs the walk forward ends at once, but for a message's last fragment.
+// Whether the fragment after row i's in its message is missing.
+fn missing_after(receiver: &[u64; RECEIVER_WORDS], interleaved: bool, i: usize) -> bool
+    requires { ⌜ i < 4096 ⌝ }
+    ensures { λ r. ⌜ r ≡ missingAfter (now (receiver .entry)) interleaved i ⌝ }
+{
+    let f = load_fragment(receiver, i);
+    if f.last {
+        return false;
+    }
+    let j = row_after(receiver, interleaved, i);
+    j >= 4096
+}
+
+// Whether the fragment before it is missing.
+fn missing_before(receiver: &[u64; RECEIVER_WORDS], interleaved: bool, i: usize) -> bool
+    requires { ⌜ i < 4096 ⌝ }
+    ensures { λ r. ⌜ r ≡ missingBefore (now (receiver .entry)) interleaved i ⌝ }
+{
+    let f = load_fragment(receiver, i);
+    let first = begins(interleaved, f);
+    if first {
+        return false;
+    }
+    let j = row_before(receiver, interleaved, i);
+    j >= 4096
+}
+
+// The first row of the message that row i, which came last, makes whole; 4096 where it makes none whole. Its neighbours are looked for first: so fragments that come in order, or in reverse, cost no walk but
+// for the last one that was missing.
 pub fn completes(receiver: &[u64; RECEIVER_WORDS], interleaved: bool, i: usize) -> usize
     requires { ⌜ i < 4096 ⌝ }
     ensures { λ r. ⌜ r ≡ completes (now (receiver .entry)) interleaved i ⌝ }
 {
+    let after = missing_after(receiver, interleaved, i);
+    if after {
+        return 4096;
+    }
+    let before = missing_before(receiver, interleaved, i);
+    if before {
+        return 4096;
+    }
     let on = reaches_last(receiver, interleaved, i);
     if on {
         return first_row(receiver, interleaved, i);
