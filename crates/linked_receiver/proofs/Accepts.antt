@@ -1,57 +1,44 @@
 -- A fragment that is accepted: held, its TSN passed, its message settled; the words stand for the model's receiver that accepted it. Assumes nothing.
-use mathlib.Core.Path.{_≡_, refl, sym, ap, ap₂, _∙_, subst}
-use mathlib.Core.Logic.{_⊎_, inl, inr, ⊎-elim}
-use mathlib.Core.Bool.{Bool, true, false, not, _||_}
-use mathlib.Core.List.{List, [], _∷_, _++_, map}
+use mathlib.Core.Path.{_≡_, refl, sym, ap, _∙_, subst}
+use mathlib.Core.Bool.{Bool, true, false, not}
+use mathlib.Core.List.{List, [], _∷_, map}
 use mathlib.Core.Option.{Option, none, some}
-use Prim.Native.Nat.{ℕ, zero, suc, _+_, _%_, _^_, _≤_, _<_}
+use Prim.Native.Nat.{ℕ, zero, suc, _^_, _<_}
 use native.Mathlib.Omega.{arith}
 use borrow.Author.Tests.{leb-false, lt-leb}
 use lib.Dec.{leb, eqb}
 use lib.ListN.{length}
 use Rattle.types.specs.Wrap.{wrap-suc}
 use Rattle.queue_words.specs.Flags.{bit, pick}
-use Rattle.queue_model.specs.Logic.{any}
 use Rattle.receiver_model.specs.Lists.{count, keep, member}
-use Rattle.receiver_model.specs.Tsn.{is-after, is-far}
-use Rattle.receiver_model.specs.Types.{Kind, DATA, I-DATA, Chunk, Assembled, Receiver, Turn}
+use Rattle.receiver_model.specs.Types.{Kind, DATA, I-DATA, Chunk, Assembled, Receiver}
 use Rattle.receiver_model.specs.Assembly.{width, whole-among, without-message}
-use Rattle.receiver_model.specs.Receive.{Passed, pass, Queued, makes-repeat, same-place, next-in, set-next}
+use Rattle.receiver_model.specs.Receive.{Passed, pass, Queued, next-in, set-next}
 use Rattle.receiver_model.specs.Receive as model
-use Rattle.receiver_model.proofs.Lists.{true≢false, true-or-false, or-left, or-right, not-false, Value, yes-is, no-is, value, count-here, keep-yes}
+use Rattle.receiver_model.proofs.Lists.{Value, yes-is, no-is, value, keep-yes}
 use Rattle.receiver_model.proofs.Pass.{pass-zero, pass-yes, pass-no}
 use Rattle.receiver_model.proofs.Settled.{Distinct}
-use Rattle.receiver_model.proofs.AnyCalls.{older, Settled, grown-distinct, fewer-distinct}
-use Rattle.receiver_model.proofs.Window.{Ahead, Window}
-use Rattle.receiver_words.specs.Tables.{Header, Links, wordAt}
+use Rattle.receiver_words.specs.Tables.{Header, wordAt}
 use Rattle.receiver_words.specs.Turns.{turnAt}
-use Rattle.receiver_words.specs.Fragments.{fragmentAt, FitsFragment}
-use Rattle.receiver_words.specs.Index.{sameKey}
-use Rattle.receiver_words.specs.Search.{turnFrom, findTurn}
-use Rattle.receiver_words.specs.Link.{turnRows}
-use Rattle.receiver_words.specs.Chunks.{kindOf, chunkOf}
-use Rattle.receiver_words.specs.declared.fragments.Fragment.{Fragment}
+use Rattle.receiver_words.specs.Fragments.{fragmentAt}
+use Rattle.receiver_words.specs.Search.{turnFrom}
+use Rattle.receiver_words.specs.Chunks.{kindOf}
 use Rattle.receiver_messages.specs.Keys.{interleavedOf}
 use Rattle.receiver_messages.specs.Walks.{isWhole, reachesLast, completes, markWhole}
 use Rattle.receiver_messages.specs.Readiness.{queueUp}
 use Rattle.receiver_store.specs.Words.{payloadOf}
-use Rattle.receiver_fragments.specs.Checks.{lastOf}
-use Rattle.receiver_fragments.specs.Holding.{Kept, kept, hold, passTsn, nextOf, setTurn, completed, settle}
-use Rattle.receiver_fragments.specs.Receiving as words
-use Rattle.linked_receiver.specs.Rows.{Indexed, Unique, looseRows, tailRows}
-use Rattle.linked_receiver.specs.Good.{Ghost, Carried, Good, chunkIn, stands, Stands}
+use Rattle.receiver_fragments.specs.Holding.{nextOf, setTurn, completed, settle}
+use Rattle.linked_receiver.specs.Rows.{Unique, looseRows, tailRows}
+use Rattle.linked_receiver.specs.Good.{Ghost, Good, chunkIn, stands}
 use Rattle.linked_receiver.specs.Promise.{Represents}
-use Rattle.linked_receiver.proofs.HeldRows.{held-row, held-few, AnyHeld, one-held, none-held, any-held}
-use Rattle.linked_receiver.proofs.Compares.{key-place}
-use Rattle.linked_receiver.proofs.Admits.{Admitted, row-is}
+use Rattle.linked_receiver.proofs.HeldRows.{held-row, held-few}
 use Rattle.linked_receiver.proofs.Completes.{Completion, none-whole, one-whole, completes-law}
 use Rattle.linked_receiver.proofs.HandsOut.{parts-indexed}
 use Rattle.linked_receiver.proofs.Taken.{good-holds}
-use Rattle.linked_receiver.proofs.Passed.{ahead-more}
-use Rattle.linked_receiver.proofs.Held.{with-loose, rows-more, Held, holds}
-use Rattle.linked_receiver.proofs.Others.{Others, ahead-as, others-kind}
-use Rattle.linked_receiver.proofs.Moves.{with-window, passed-tsn, passed-ahead, window-turns, window-known, window-others-are, window-good, window-stands, with-turns, turn-from-same, TurnSet, sets-turn, next-is}
-use Rattle.linked_receiver.proofs.Settles.{with-queues, rows-settled, message, queued, settled-good, settled-stands, settled-next, settled-next-fits, settled-turns, settled-known, settled-kind}
+use Rattle.linked_receiver.proofs.Held.{with-loose}
+use Rattle.linked_receiver.proofs.Others.{ahead-as}
+use Rattle.linked_receiver.proofs.Moves.{with-window, with-turns, turn-from-same, TurnSet, sets-turn, next-is}
+use Rattle.linked_receiver.proofs.Settles.{with-queues, rows-settled, settled-good, settled-stands, settled-next, settled-next-fits, settled-turns, settled-known, settled-kind}
 
 -- ------------------------------------------------------------------ the model's clauses
 

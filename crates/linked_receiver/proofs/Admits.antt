@@ -1,12 +1,12 @@
 -- Room for a fragment, and the whole judgement: a fragment that is refused or a repeat leaves words and store as they were, with the model's answer. Assumes nothing.
 use mathlib.Core.Path.{_≡_, refl, sym, ap, ap₂, _∙_, subst}
-use mathlib.Core.Logic.{_⊎_, inl, inr, ⊎-elim}
+use mathlib.Core.Logic.{_⊎_, ⊎-elim}
 use mathlib.Core.Bool.{Bool, true, false, not, _&&_, _||_}
 use mathlib.Core.List.{List, [], _∷_}
-use mathlib.Core.Option.{Option, none, some}
-use Prim.Native.Nat.{ℕ, zero, suc, _+_, _-_, _^_, _≤_, _<_}
+use mathlib.Core.Option.{none, some}
+use Prim.Native.Nat.{ℕ, _+_, _-_, _^_, _≤_, _<_}
 use native.Mathlib.Omega.{arith}
-use borrow.Author.Tests.{ltb-true, ltb-false, leb-true, leb-false, lt-ltb, le-ltb, lt-leb, le-leb, eqb-true, eqb-false, eq-eqb, ne-eqb}
+use borrow.Author.Tests.{ltb-true, ltb-false, leb-false, lt-ltb, le-ltb, lt-leb, le-leb, eq-eqb, ne-eqb}
 use lib.Dec.{eqb, ltb, leb}
 use lib.ListN.{length}
 use Rattle.queue_words.specs.Flags.{pick}
@@ -14,16 +14,16 @@ use Rattle.queue_model.specs.Logic.{if_then_else_}
 use Rattle.queue_model.specs.Refusals.{first-refusal}
 use Rattle.receiver_model.specs.Lists.{count}
 use Rattle.receiver_model.specs.Tsn.{is-far}
-use Rattle.receiver_model.specs.Types.{Chunk, Turn, Receiver, refused, accepted, repeated, Step, reply}
+use Rattle.receiver_model.specs.Types.{Chunk, Receiver, refused, accepted, repeated, reply}
 use Rattle.receiver_model.specs.Receive.{same-chunk, same-kind, knows}
 use Rattle.receiver_model.specs.Receive as model
-use Rattle.receiver_model.proofs.Lists.{true≢false, Value, yes-is, no-is, value, count-nil, Same, equal, other, compare-same, at-least}
+use Rattle.receiver_model.proofs.Lists.{Value, yes-is, no-is, value, count-nil, Same, equal, other, compare-same, at-least}
 use Rattle.receiver_model.proofs.Window.{Window}
 use Rattle.receiver_words.specs.Tables.{Header, wordAt}
 use Rattle.receiver_words.specs.Fragments.{fragmentAt}
 use Rattle.receiver_words.specs.Index.{sameKey, findRow}
 use Rattle.receiver_words.specs.Search.{turnFrom, findTurn}
-use Rattle.receiver_words.specs.Link.{Linked, turnRows, TurnAt, NoTurn}
+use Rattle.receiver_words.specs.Link.{Linked, turnRows}
 use Rattle.receiver_words.specs.Chunks.{kindOf, chunkOf}
 use Rattle.receiver_words.specs.Ages.{older}
 use Rattle.receiver_words.specs.declared.fragments.Fragment.{Fragment}

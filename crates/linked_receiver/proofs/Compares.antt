@@ -1,6 +1,6 @@
 -- The comparisons of fragments are the model's: fields and payload, and the place of an I-DATA fragment. Assumes nothing.
 use mathlib.Core.Path.{_≡_, refl, sym, ap, ap₂, _∙_}
-use mathlib.Core.Bool.{Bool, true, false, _&&_}
+use mathlib.Core.Bool.{Bool, true, false}
 use mathlib.Core.List.{List, [], _∷_}
 use Prim.Native.Nat.{ℕ}
 use native.Mathlib.Omega.{arith}
@@ -13,7 +13,7 @@ use Rattle.receiver_model.specs.Types.{Kind, DATA, I-DATA, Chunk}
 use Rattle.receiver_model.specs.Assembly.{number, same-message}
 use Rattle.receiver_model.specs.Receive.{same-kind, same-chunk, same-place}
 use Rattle.receiver_model.proofs.Lists.{true≢false, and-left, and-right, eqb-is, Value, yes-is, no-is, value}
-use Rattle.receiver_model.proofs.Settled.{Alike, alike, is-alike}
+use Rattle.receiver_model.proofs.Settled.{alike, is-alike}
 use Rattle.receiver_model.proofs.AnyCalls.{same-chunk-is}
 use Rattle.receiver_words.specs.Index.{samePlace, sameKey}
 use Rattle.receiver_words.specs.Chunks.{chunkOf}

@@ -1,15 +1,14 @@
 -- Creation: `create` leaves the words of a new receiver, or refuses as the model does. Assumes nothing.
 use mathlib.Core.Path.{_≡_, refl, sym, ap, _∙_, subst}
-use mathlib.Core.Bool.{Bool, true, false, _||_}
+use mathlib.Core.Bool.{Bool}
 use mathlib.Core.List.{List, [], _∷_}
-use mathlib.Core.Option.{Option, none, some}
+use mathlib.Core.Option.{none, some}
 use Prim.Native.Nat.{ℕ, _+_, _≤_, _<_}
 use native.Mathlib.Omega.{arith}
-use borrow.Author.Tests.{ltb-true, ltb-false}
+use borrow.Author.Tests.{ltb-false}
 use lib.Dec.{ltb}
 use lib.ListN.{length}
-use Rattle.queue_words.specs.Flags.{pick, bit}
-use Rattle.queue_model.specs.Logic.{if_then_else_, outside}
+use Rattle.queue_words.specs.Flags.{bit}
 use Rattle.queue_model.specs.Refusals.{first-refusal}
 use Rattle.receiver_model.specs.Receive.{create-refusal, new-receiver}
 use Rattle.receiver_model.proofs.Lists.{Value, yes-is, no-is, value, equal, other, compare-same, none≢some, some-is}
@@ -21,7 +20,7 @@ use Rattle.receiver_words.specs.Ages.{older}
 use Rattle.receiver_messages.specs.Keys.{previous}
 use Rattle.receiver_fragments.specs.Creating.{Outcome, created, newTables, newHeader, create}
 use Rattle.linked_receiver.specs.Good.{Stands}
-use Rattle.linked_receiver.specs.Promise.{Represents, Creates}
+use Rattle.linked_receiver.specs.Promise.{Creates}
 use Rattle.linked_receiver.proofs.Fresh.{fill-long, fill-same, fill-beside, fill-table, free-long, free-next, free-table, Puts, putAll, lookUp, puts-long, puts-read, puts-table}
 use Rattle.linked_receiver.proofs.News.{new-rows, IsNew, new-stands}
 

@@ -2,15 +2,15 @@
 use mathlib.Core.Path.{_≡_, refl, sym, ap, ap₂, _∙_, subst}
 use mathlib.Core.Bool.{Bool, true, false, not}
 use mathlib.Core.List.{List, [], _∷_, _++_, map}
-use Prim.Native.Nat.{ℕ, zero, suc, _+_, _^_, _≤_, _<_}
+use Prim.Native.Nat.{ℕ, _+_, _^_, _≤_, _<_}
 use native.Mathlib.Omega.{arith}
 use borrow.Author.Tests.{eqb-true, eq-eqb}
 use lib.ListN.{length}
 use Rattle.queue_words.specs.Flags.{bit, flag, pick}
-use Rattle.receiver_model.specs.Lists.{count, keep}
+use Rattle.receiver_model.specs.Lists.{count}
 use Rattle.receiver_model.specs.Types.{Chunk, Assembled, Receiver, Turn}
 use Rattle.receiver_model.specs.Assembly.{width}
-use Rattle.receiver_model.proofs.Lists.{true≢false, true-or-false, Value, yes-is, no-is, value, count-nil, count-here, count-there, count-cons, count-append, Same, equal, other, compare-same, keep-yes}
+use Rattle.receiver_model.proofs.Lists.{true≢false, Value, yes-is, no-is, value, count-here, count-there, count-cons, count-append, Same, equal, other, compare-same, keep-yes}
 use Rattle.receiver_words.specs.Tables.{Header, wordAt}
 use Rattle.receiver_words.specs.Turns.{turnAt}
 use Rattle.receiver_words.specs.Fragments.{fragmentAt, FitsFragment}
@@ -23,12 +23,12 @@ use Rattle.receiver_words.proofs.Rows.{stands-here, not-among}
 use Rattle.receiver_messages.specs.Keys.{interleavedOf, following}
 use Rattle.receiver_messages.specs.Walks.{isWhole, partAfter}
 use Rattle.receiver_store.specs.Words.{usedOf, payloadOf}
-use Rattle.receiver_fragments.specs.Holding.{Kept, kept, hold}
+use Rattle.receiver_fragments.specs.Holding.{Kept, hold}
 use Rattle.linked_receiver.specs.Rows.{Indexed, Unique, looseRows}
-use Rattle.linked_receiver.specs.Good.{Ghost, rowsOf, wholeRows, Walk, Carried, Good, chunkIn, messageIn, stands}
+use Rattle.linked_receiver.specs.Good.{Ghost, wholeRows, Walk, Carried, Good, chunkIn, messageIn, stands}
 use Rattle.linked_receiver.proofs.Lists.{keep-same, count-kept}
 use Rattle.linked_receiver.proofs.Found.{both, find-indexed}
-use Rattle.linked_receiver.proofs.Indexes.{indexed-frame, indexed-rows}
+use Rattle.linked_receiver.proofs.Indexes.{indexed-frame}
 use Rattle.linked_receiver.proofs.Promotes.{lined-frame}
 use Rattle.linked_receiver.proofs.Walks.{KeyAmong, absent, present, key-among}
 use Rattle.linked_receiver.proofs.Frees.{Holds, held-rows, held-few}

@@ -1,20 +1,19 @@
 -- The model's held fragments are those of the held rows: what is asked of all of them, how many they are, how many bytes they have. Assumes nothing.
 use mathlib.Core.Path.{_≡_, refl, sym, ap, ap₂, _∙_, subst}
-use mathlib.Core.Bool.{Bool, true, false, not, _||_}
+use mathlib.Core.Bool.{Bool, true, false, not}
 use mathlib.Core.List.{List, [], _∷_, _++_, map}
-use Prim.Native.Nat.{ℕ, suc, _+_, _≤_, _<_}
+use Prim.Native.Nat.{ℕ, _+_, _≤_, _<_}
 use native.Mathlib.Omega.{arith}
 use lib.ListN.{length}
 use Rattle.queue_words.specs.Flags.{bit}
 use Rattle.queue_model.specs.Logic.{any}
 use Rattle.queue_model.specs.Table.{sum-by}
-use Rattle.receiver_model.specs.Lists.{keep, count, join}
-use Rattle.receiver_model.specs.Types.{Chunk, Assembled, Receiver, fragments}
+use Rattle.receiver_model.specs.Lists.{count, join}
+use Rattle.receiver_model.specs.Types.{Chunk, fragments}
 use Rattle.receiver_model.specs.Receive as model
-use Rattle.receiver_model.proofs.Lists.{Value, yes-is, no-is, value, count-nil, count-here, count-there, count-cons, count-append, count-keep-yes, count-keep-no, Same, equal, other, compare-same}
-use Rattle.receiver_words.specs.Tables.{Header, wordAt}
+use Rattle.receiver_model.proofs.Lists.{Value, yes-is, no-is, value, count-nil, count-there, count-cons, count-append, count-keep-yes, count-keep-no, Same, equal, other, compare-same}
 use Rattle.receiver_words.specs.Ages.{without, older, newer, newest, oldest}
-use Rattle.receiver_words.proofs.Rows.{stands-here, head-once, tail-once, not-among, count-without, count-without-other}
+use Rattle.receiver_words.proofs.Rows.{stands-here, head-once, tail-once, count-without, count-without-other}
 use Rattle.receiver_words.proofs.Ages.{both-rows}
 use Rattle.receiver_messages.specs.Walks.{isWhole}
 use Rattle.receiver_store.specs.Words.{sizeOf, usedOf, payloadOf}

@@ -1,26 +1,25 @@
 -- A fragment is held in a free row: the held rows, the free ones, the indexes, the count and the store change by that row, and nothing else is changed. Assumes nothing.
 use mathlib.Core.Path.{_≡_, refl, sym, ap, _∙_, subst}
 use mathlib.Core.Bool.{Bool, true, false}
-use mathlib.Core.List.{List, [], _∷_}
-use Prim.Native.Nat.{ℕ, zero, suc, _+_, _%_, _≤_, _<_}
+use mathlib.Core.List.{List, _∷_}
+use Prim.Native.Nat.{ℕ, _+_, _%_, _≤_, _<_}
 use native.Mathlib.Omega.{arith}
 use lib.Dec.{eqb}
 use lib.ListN.{length}
 use Rattle.queue_words.specs.Flags.{pick, flag}
 use Rattle.payload_store.specs.Putting.{Outcome}
 use Rattle.receiver_model.specs.Lists.{count}
-use Rattle.receiver_model.proofs.Lists.{true≢false, Value, yes-is, no-is, value, count-here, count-there, equal, other, compare-same}
-use Rattle.receiver_words.specs.Tables.{Table, Header, Turns, Ahead, Buckets, Fragments, Links, rows, width, distinct, wordAt, putWord, rowAt}
+use Rattle.receiver_model.proofs.Lists.{count-here, count-there, equal, other, compare-same}
+use Rattle.receiver_words.specs.Tables.{Table, Header, Turns, Ahead, Buckets, Fragments, Links, rows, width, distinct, wordAt, putWord}
 use Rattle.receiver_words.specs.Ahead.{aheadAt}
 use Rattle.receiver_words.specs.Turns.{turnOf, turnAt}
 use Rattle.receiver_words.specs.Fragments.{fragmentOf, fragmentWords, fragmentAt, putFragment, FitsFragment}
-use Rattle.receiver_words.specs.Chains.{RowOutcome, rowOutcome, takeFree, putEnd, linkNewest}
+use Rattle.receiver_words.specs.Chains.{RowOutcome, takeFree, putEnd, linkNewest}
 use Rattle.receiver_words.specs.Index.{bucketOf, indexRow}
 use Rattle.receiver_words.specs.Link.{Linked}
-use Rattle.receiver_words.specs.Ages.{older, newer, newest, oldest, Aged}
-use Rattle.receiver_words.specs.Frames.{Frame}
+use Rattle.receiver_words.specs.Ages.{older, Aged}
 use Rattle.receiver_words.specs.declared.fragments.Fragment.{Fragment}
-use Rattle.receiver_words.proofs.Laws.{whole-put-word, whole-put-row, word-put-same, word-put-beside, word-put-other, word-put-table, word-put-row-table, row-put-table, row-put-other-row}
+use Rattle.receiver_words.proofs.Laws.{whole-put-row, word-put-same, word-put-other, word-put-table, word-put-row-table, row-put-table, row-put-other-row}
 use Rattle.receiver_words.proofs.Records.{fragment-at-put}
 use Rattle.receiver_words.proofs.Linked.{take-first, take-linked}
 use Rattle.receiver_words.proofs.Rows.{not-among}
@@ -28,7 +27,7 @@ use Rattle.receiver_words.proofs.Ages.{link-aged}
 use Rattle.receiver_words.proofs.Ends.{link-end-beside}
 use Rattle.receiver_words.proofs.Frames.{frame-link, frame-header, link-frame}
 use Rattle.receiver_messages.specs.Walks.{isWhole}
-use Rattle.receiver_store.specs.Words.{placeOf, sizeOf, usedOf, endOf, payloadOf}
+use Rattle.receiver_store.specs.Words.{usedOf, payloadOf}
 use Rattle.receiver_store.specs.Putting.{putPayload}
 use Rattle.receiver_store.specs.Good.{Laid}
 use Rattle.receiver_store.specs.Promise.{Put}

@@ -12,11 +12,10 @@ use Rattle.receiver_model.specs.Lists.{keep, count}
 use Rattle.receiver_model.proofs.Lists.{count-there, count-cons, count-append, count-other, Same, equal, other, compare-same, keep-yes, keep-no, count-keep-yes, count-keep-no, length-keep}
 use Rattle.receiver_words.specs.Tables.{Buckets, Links, wordAt, putWord}
 use Rattle.receiver_words.specs.Fragments.{fragmentAt}
-use Rattle.receiver_words.specs.Index.{bucketOf, beforeFrom, follow, indexRow, unindexRow, indexLast}
+use Rattle.receiver_words.specs.Index.{bucketOf, beforeFrom, indexRow, unindexRow, indexLast}
 use Rattle.receiver_words.specs.Link.{Linked}
 use Rattle.receiver_words.specs.Ages.{without}
 use Rattle.receiver_words.specs.declared.fragments.Fragment.{Fragment}
-use Rattle.receiver_words.specs.Frames.{Frame}
 use Rattle.receiver_words.proofs.Laws.{word-put-other, word-put-table}
 use Rattle.receiver_words.proofs.Rows.{stands-here, not-among, without-absent}
 use Rattle.receiver_words.proofs.Linked.{next-by, linked-frame, index-linked, index-linked-other}
@@ -26,7 +25,7 @@ use Rattle.linked_receiver.specs.Rows.{hits, Indexed}
 use Rattle.linked_receiver.specs.Kept.{Kept}
 use Rattle.linked_receiver.proofs.Found.{bucket-in}
 use Rattle.linked_receiver.proofs.Lists.{keep-same, keep-append, append-nil, keep-without, count-kept}
-use Rattle.linked_receiver.proofs.Keeps.{kept-frame, kept-fragment, index-kept, unindex-kept, last-kept}
+use Rattle.linked_receiver.proofs.Keeps.{kept-fragment, index-kept, unindex-kept, last-kept}
 
 -- ------------------------------------------------------------------ the rows of an index
 

@@ -1,45 +1,37 @@
 -- What is tested before a fragment is accepted is what the model tests: 24, repeats, 22, 23. Assumes nothing.
-use mathlib.Core.Path.{_≡_, refl, sym, ap, ap₂, _∙_, subst}
-use mathlib.Core.Logic.{_⊎_, inl, inr, ⊎-elim}
+use mathlib.Core.Path.{_≡_, refl, sym, ap, ap₂, _∙_}
 use mathlib.Core.Bool.{Bool, true, false, not, _&&_, _||_}
 use mathlib.Core.List.{List, [], _∷_}
-use mathlib.Core.Option.{Option, none, some}
-use Prim.Native.Nat.{ℕ, zero, suc, _+_, _-_, _%_, _^_, _≤_, _<_}
+use Prim.Native.Nat.{ℕ, zero, suc, _+_, _-_, _^_, _<_}
 use native.Mathlib.Omega.{arith}
-use borrow.Author.Tests.{ltb-true, ltb-false, leb-true, leb-false, lt-ltb, le-ltb, lt-leb, le-leb, eqb-true, eq-eqb, ne-eqb}
-use lib.Dec.{eqb, ltb, leb}
+use borrow.Author.Tests.{ltb-true, ltb-false, lt-ltb, le-ltb, eqb-true}
+use lib.Dec.{eqb, ltb}
 use lib.ListN.{length}
 use Rattle.queue_words.specs.Flags.{pick}
-use Rattle.queue_model.specs.Logic.{if_then_else_, any}
-use Rattle.queue_model.specs.Refusals.{first-refusal}
+use Rattle.queue_model.specs.Logic.{any}
 use Rattle.receiver_model.specs.Lists.{count, member}
 use Rattle.receiver_model.specs.Tsn.{wrapped-difference, is-after, is-far}
-use Rattle.receiver_model.specs.Types.{Kind, I-DATA, Chunk, Turn, Receiver, refused, accepted, repeated, Step, reply}
-use Rattle.receiver_model.specs.Receive.{same-chunk, same-kind, same-place, makes-repeat, knows}
+use Rattle.receiver_model.specs.Types.{Kind, Chunk, Receiver}
+use Rattle.receiver_model.specs.Receive.{same-chunk, same-place, makes-repeat}
 use Rattle.receiver_model.specs.Receive as model
-use Rattle.receiver_model.proofs.Lists.{true≢false, and-left, and-right, or-left, Value, yes-is, no-is, value, count-nil, count-cons, count-here, equal, other, compare-same, member-nil, member-there, at-least}
+use Rattle.receiver_model.proofs.Lists.{true≢false, and-left, and-right, or-left, Value, yes-is, no-is, value, count-cons, count-here, equal, other, compare-same, member-nil, member-there}
 use Rattle.receiver_model.proofs.Window.{Window}
 use Rattle.receiver_words.specs.Tables.{Header, wordAt}
 use Rattle.receiver_words.specs.Ahead.{aheadAt}
 use Rattle.receiver_words.specs.Fragments.{fragmentAt}
 use Rattle.receiver_words.specs.Index.{sameKey, findRow}
-use Rattle.receiver_words.specs.Search.{turnFrom, findTurn}
-use Rattle.receiver_words.specs.Link.{Linked, firstKey, turnRows, TurnAt, NoTurn}
+use Rattle.receiver_words.specs.Link.{firstKey, turnRows}
 use Rattle.receiver_words.specs.Chunks.{kindOf, chunkOf}
-use Rattle.receiver_words.specs.Ages.{older}
 use Rattle.receiver_words.specs.declared.fragments.Fragment.{Fragment}
-use Rattle.receiver_words.proofs.Finds.{turn-finds}
 use Rattle.receiver_messages.specs.Keys.{interleavedOf}
-use Rattle.receiver_store.specs.Words.{usedOf, payloadOf}
-use Rattle.receiver_store.specs.Putting.{roomCode}
-use Rattle.receiver_store.proofs.Packs.{used-in}
-use Rattle.receiver_store.proofs.Laws.{room-law, room-full, same-law}
-use Rattle.receiver_fragments.specs.Checks.{lastOf, sameFields, heldCode, isAhead, holdsPlace, repeats, admitCode}
+use Rattle.receiver_store.specs.Words.{payloadOf}
+use Rattle.receiver_store.proofs.Laws.{same-law}
+use Rattle.receiver_fragments.specs.Checks.{lastOf, sameFields, heldCode, isAhead, holdsPlace, repeats}
 use Rattle.linked_receiver.specs.Good.{Ghost, Good, chunkIn, stands}
 use Rattle.linked_receiver.proofs.Found.{find-indexed}
 use Rattle.linked_receiver.proofs.Walks.{KeyAmong, absent, present, key-among}
-use Rattle.linked_receiver.proofs.HeldRows.{held-row, held-once, held-few, AnyHeld, one-held, none-held, any-held, held-length, used-is}
-use Rattle.linked_receiver.proofs.Compares.{kind-itself, code, same-code, place-key, key-place}
+use Rattle.linked_receiver.proofs.HeldRows.{held-row, held-few, AnyHeld, one-held, none-held, any-held}
+use Rattle.linked_receiver.proofs.Compares.{code, same-code, place-key, key-place}
 
 -- ------------------------------------------------------------------ tests
 

@@ -1,13 +1,13 @@
 -- Lists of rows: choosing, and how many there can be. Assumes nothing.
 use mathlib.Core.Path.{_≡_, refl, sym, ap, _∙_}
-use mathlib.Core.Bool.{Bool, true, false, not}
+use mathlib.Core.Bool.{Bool, not}
 use mathlib.Core.List.{List, [], _∷_, _++_}
 use Prim.Native.Nat.{ℕ, zero, suc, _≤_, _<_}
 use native.Mathlib.Omega.{arith}
 use lib.Dec.{eqb}
 use lib.ListN.{length}
 use Rattle.receiver_model.specs.Lists.{keep, count}
-use Rattle.receiver_model.proofs.Lists.{Value, yes-is, no-is, value, count-nil, count-here, count-there, count-cons, Same, equal, other, compare-same, keep-yes, keep-no, count-keep-yes, count-keep-no}
+use Rattle.receiver_model.proofs.Lists.{Value, yes-is, no-is, value, count-nil, count-there, count-cons, Same, equal, other, compare-same, keep-yes, keep-no, count-keep-yes, count-keep-no}
 use Rattle.receiver_words.specs.Ages.{without}
 use Rattle.receiver_words.proofs.Rows.{stands-here, head-once, tail-once, not-among, without-here, without-there, without-absent, count-without}
 

@@ -1,40 +1,39 @@
 -- The window moves on, and a stream gets its next number: the words are good again. Assumes nothing.
 use mathlib.Core.Path.{_≡_, refl, sym, ap, ap₂, _∙_, subst}
 use mathlib.Core.Logic.{_⊎_, inl, inr, ⊎-elim}
-use mathlib.Core.Bool.{Bool, true, false}
-use mathlib.Core.List.{List, [], _∷_}
+use mathlib.Core.Bool.{true}
+use mathlib.Core.List.{List, _∷_}
 use Prim.Native.Nat.{ℕ, zero, suc, _+_, _%_, _^_, _≤_, _<_}
 use native.Mathlib.Omega.{arith}
 use borrow.Author.Tests.{le-leb, lt-leb}
-use lib.Dec.{leb, eqb}
+use lib.Dec.{eqb}
 use lib.ListN.{length}
 use Rattle.queue_words.specs.Flags.{pick, flag}
 use Rattle.receiver_model.specs.Types.{Receiver, Kind, DATA, I-DATA}
 use Rattle.receiver_model.specs.Types as model
 use Rattle.receiver_model.specs.Assembly.{width}
 use Rattle.receiver_model.specs.Receive.{pass, next-in, set-next}
-use Rattle.receiver_model.proofs.Lists.{Same, equal, other, compare-same}
+use Rattle.receiver_model.proofs.Lists.{equal, other, compare-same}
 use Rattle.receiver_model.proofs.Window.{Ahead}
 use Rattle.receiver_words.specs.Tables.{Header, Turns, Buckets, Fragments, Links, wordAt, putWord}
 use Rattle.receiver_words.specs.Tables as table
-use Rattle.receiver_words.specs.Turns.{turnOf, turnWords, turnAt, putTurn, FitsTurn}
-use Rattle.receiver_words.specs.Fragments.{fragmentOf, fragmentAt}
+use Rattle.receiver_words.specs.Turns.{turnOf, turnWords, turnAt, putTurn}
+use Rattle.receiver_words.specs.Fragments.{fragmentOf}
 use Rattle.receiver_words.specs.Ahead.{aheadAt}
 use Rattle.receiver_words.specs.Search.{turnFrom}
-use Rattle.receiver_words.specs.Link.{Flags, turnRows, TurnAt, NoTurn}
+use Rattle.receiver_words.specs.Link.{Flags, turnRows}
 use Rattle.receiver_words.specs.Chunks.{kindOf}
 use Rattle.receiver_words.specs.declared.turns.Turn.{Turn}
 use Rattle.receiver_words.proofs.Laws.{whole-put-word, whole-put-row, word-put-same, word-put-beside, word-put-table, word-put-row-table, row-put-table, row-put-other-row, row-put-word-table}
 use Rattle.receiver_words.proofs.Records.{turn-at-put}
 use Rattle.receiver_words.proofs.Finds.{turn-finds}
-use Rattle.receiver_words.proofs.Rows.{by-row}
 use Rattle.receiver_messages.specs.Keys.{interleavedOf}
 use Rattle.receiver_fragments.specs.Holding.{passTsn, nextOf, setTurn}
 use Rattle.linked_receiver.specs.Good.{Ghost, Good, stands}
-use Rattle.linked_receiver.proofs.Turns.{set-turn, set-known, set-new}
+use Rattle.linked_receiver.proofs.Turns.{set-known, set-new}
 use Rattle.linked_receiver.proofs.Passed.{OnlyWindow, Accepted, pass-law}
 use Rattle.linked_receiver.proofs.Taken.{turn-rows-same}
-use Rattle.linked_receiver.proofs.Others.{Others, ahead-as, others-kind, others-good, others-stands}
+use Rattle.linked_receiver.proofs.Others.{Others, ahead-as, others-good, others-stands}
 
 -- ------------------------------------------------------------------ the window
 

@@ -1,20 +1,17 @@
 -- The words of a new receiver are good, and stand for the model's new receiver. Assumes nothing.
-use mathlib.Core.Path.{_≡_, refl, sym, ap, _∙_, subst}
+use mathlib.Core.Path.{_≡_, refl, sym, ap, _∙_}
 use mathlib.Core.Bool.{Bool, true, false}
-use mathlib.Core.List.{List, [], _∷_, _++_, map}
-use Prim.Native.Nat.{ℕ, zero, suc, _+_, _-_, _%_, _^_, _≤_, _<_}
+use mathlib.Core.List.{List, [], _∷_}
+use Prim.Native.Nat.{ℕ, zero, suc, _+_, _-_, _%_, _≤_, _<_}
 use native.Mathlib.Omega.{arith}
 use borrow.Author.Tests.{eq-eqb, ne-eqb}
-use lib.Dec.{eqb}
 use lib.ListN.{length}
-use Rattle.queue_words.specs.Flags.{pick, bit, flag}
+use Rattle.queue_words.specs.Flags.{bit, flag}
 use Rattle.receiver_model.specs.Lists.{keep, count, join}
 use Rattle.receiver_model.specs.Tsn.{before}
-use Rattle.receiver_model.specs.Types.{Kind, Chunk, Assembled, Turn, Receiver}
 use Rattle.receiver_model.specs.Receive.{new-receiver}
 use Rattle.receiver_model.proofs.Lists.{count-nil, count-here, count-there, member-nil, equal, other, compare-same}
-use Rattle.receiver_words.specs.Tables.{Header, Ahead, Buckets, Links, wordAt}
-use Rattle.receiver_words.specs.Ahead.{aheadAt}
+use Rattle.receiver_words.specs.Tables.{Header, Ahead, Buckets, wordAt}
 use Rattle.receiver_words.specs.Link.{Linked, turnRows}
 use Rattle.receiver_words.specs.Chunks.{kindOf}
 use Rattle.receiver_words.specs.Ages.{older}

@@ -1,5 +1,5 @@
 -- A change of the window or of the known streams leaves the rest of good words as it was. Assumes nothing.
-use mathlib.Core.Path.{_≡_, refl, sym, ap, ap₂, _∙_, subst}
+use mathlib.Core.Path.{_≡_, sym, ap, ap₂, _∙_, subst}
 use mathlib.Core.Bool.{Bool, true, false, not}
 use mathlib.Core.List.{List, [], _∷_, _++_, map}
 use Prim.Native.Nat.{ℕ, _+_, _^_, _≤_, _<_}
@@ -8,7 +8,7 @@ use lib.Dec.{eqb}
 use lib.ListN.{length}
 use Rattle.queue_words.specs.Flags.{bit, flag}
 use Rattle.receiver_model.specs.Lists.{count}
-use Rattle.receiver_model.specs.Types.{Chunk, Assembled, Receiver, Turn}
+use Rattle.receiver_model.specs.Types.{Chunk, Assembled, Turn}
 use Rattle.receiver_model.specs.Assembly.{width}
 use Rattle.receiver_model.proofs.Lists.{count-cons, count-append}
 use Rattle.receiver_words.specs.Tables.{Header, Buckets, Links, wordAt}
@@ -20,7 +20,7 @@ use Rattle.receiver_words.specs.Chunks.{kindOf, chunkOf}
 use Rattle.receiver_words.specs.declared.fragments.Fragment.{Fragment}
 use Rattle.receiver_words.proofs.Rows.{stands-here}
 use Rattle.receiver_messages.specs.Keys.{interleavedOf, following}
-use Rattle.receiver_messages.specs.Walks.{isWhole, partAfter}
+use Rattle.receiver_messages.specs.Walks.{isWhole}
 use Rattle.receiver_store.specs.Words.{payloadOf}
 use Rattle.receiver_store.proofs.Laws.{laid-same}
 use Rattle.receiver_store.proofs.Packs.{payload-words}

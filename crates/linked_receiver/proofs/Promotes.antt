@@ -4,21 +4,21 @@ use mathlib.Core.Bool.{Bool, true, false, not, _&&_}
 use mathlib.Core.List.{List, [], _∷_, _++_, map}
 use Prim.Native.Nat.{ℕ, zero, suc, _+_, _%_, _^_, _≤_, _<_}
 use native.Mathlib.Omega.{arith}
-use borrow.Author.Tests.{le-leb, lt-leb, eq-eqb}
+use borrow.Author.Tests.{lt-leb, eq-eqb}
 use lib.Dec.{eqb}
 use lib.ListN.{length}
 use Rattle.types.specs.Wrap.{wrap-suc}
 use Rattle.types.proofs.Width.{wrap-fits}
 use Rattle.queue_words.specs.Flags.{pick}
-use Rattle.receiver_model.specs.Lists.{keep, count}
-use Rattle.receiver_model.specs.Types.{Kind, Chunk, Assembled}
+use Rattle.receiver_model.specs.Lists.{count}
+use Rattle.receiver_model.specs.Types.{Chunk, Assembled}
 use Rattle.receiver_model.specs.Assembly.{number, width}
-use Rattle.receiver_model.specs.Receive.{Taken, nothing, taken, its-turn, take-next, Queued}
+use Rattle.receiver_model.specs.Receive.{nothing, taken, its-turn, take-next, Queued}
 use Rattle.receiver_model.specs.Receive as model
-use Rattle.receiver_model.proofs.Lists.{Value, yes-is, no-is, value, count-nil, count-here, count-there, count-cons, count-append, count-one, count-other, equal, other, compare-same, length-of-map}
+use Rattle.receiver_model.proofs.Lists.{Value, yes-is, no-is, value, count-here, count-there, count-cons, count-append, count-one, count-other, equal, other, compare-same, length-of-map}
 use Rattle.receiver_model.proofs.Promote.{next-nil, next-yes, next-no, beside-nothing, beside-taken, promote-zero, promote-nothing, promote-taken, map-end}
 use Rattle.receiver_words.specs.Tables.{Header, Buckets, Fragments, Links, wordAt}
-use Rattle.receiver_words.specs.Fragments.{fragmentOf, fragmentAt, FitsFragment}
+use Rattle.receiver_words.specs.Fragments.{fragmentOf, fragmentAt}
 use Rattle.receiver_words.specs.Index.{bucketOf, sameNumber, sameKey, findRow, unindexRow, indexLast}
 use Rattle.receiver_words.specs.Chains.{appendMessage}
 use Rattle.receiver_words.specs.Chunks.{kindOf, chunkOf}
@@ -28,7 +28,7 @@ use Rattle.receiver_words.specs.Frames.{Frame}
 use Rattle.receiver_words.specs.declared.fragments.Fragment.{Fragment}
 use Rattle.receiver_words.proofs.Rows.{stands-here, not-among, head-once, tail-once, unlike-head, without-head, without-there, count-without, count-without-other}
 use Rattle.receiver_words.proofs.Linked.{linked-frame}
-use Rattle.receiver_words.proofs.Messages.{last-in, linked-rows, append-lined, append-next-other}
+use Rattle.receiver_words.proofs.Messages.{last-in, append-lined, append-next-other}
 use Rattle.receiver_words.proofs.Frames.{append-frame}
 use Rattle.receiver_messages.specs.Keys.{nextTurn, numberKey}
 use Rattle.receiver_messages.specs.Readiness.{Turned, turned, takeMessage}

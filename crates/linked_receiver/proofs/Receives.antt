@@ -1,17 +1,16 @@
 -- Receiving a fragment is the model's step. Assumes nothing.
-use mathlib.Core.Path.{_≡_, refl, sym, ap, ap₂, _∙_, subst}
+use mathlib.Core.Path.{_≡_, refl, sym, ap, _∙_, subst}
 use mathlib.Core.Bool.{Bool, true, false, not, _||_}
-use mathlib.Core.List.{List, [], _∷_, _++_, map}
+use mathlib.Core.List.{List, _∷_}
 use mathlib.Core.Option.{Option, none, some}
-use Prim.Native.Nat.{ℕ, suc, _+_, _^_, _≤_, _<_}
+use Prim.Native.Nat.{ℕ, suc, _^_, _<_}
 use native.Mathlib.Omega.{arith}
 use lib.Dec.{eqb}
 use lib.ListN.{length}
-use Rattle.queue_words.specs.Flags.{bit, pick}
 use Rattle.queue_model.specs.Logic.{any}
 use Rattle.receiver_model.specs.Lists.{count, member}
-use Rattle.receiver_model.specs.Tsn.{is-after, is-far}
-use Rattle.receiver_model.specs.Types.{Chunk, Assembled, Receiver, Answer, Step, reply, refused, repeated}
+use Rattle.receiver_model.specs.Tsn.{is-after}
+use Rattle.receiver_model.specs.Types.{Chunk, Assembled, Receiver, Step, reply, refused, repeated}
 use Rattle.receiver_model.specs.Assembly.{whole-among, without-message}
 use Rattle.receiver_model.specs.Receive.{pass, makes-repeat, same-place, next-in, set-next}
 use Rattle.receiver_model.specs.Receive as model
@@ -19,7 +18,7 @@ use Rattle.receiver_model.proofs.Lists.{true≢false, or-left, or-right, not-fa
 use Rattle.receiver_model.proofs.Settled.{Distinct}
 use Rattle.receiver_model.proofs.AnyCalls.{older, Settled, grown-distinct, fewer-distinct}
 use Rattle.receiver_model.proofs.Window.{Ahead, Window}
-use Rattle.receiver_words.specs.Tables.{Header, Links, wordAt}
+use Rattle.receiver_words.specs.Tables.{Header, wordAt}
 use Rattle.receiver_words.specs.Turns.{turnAt}
 use Rattle.receiver_words.specs.Fragments.{fragmentAt, FitsFragment}
 use Rattle.receiver_words.specs.Index.{sameKey}
@@ -34,19 +33,19 @@ use Rattle.receiver_fragments.specs.Holding.{Kept, kept, hold, passTsn, settle}
 use Rattle.receiver_fragments.specs.Receiving.{Outcome, received, receiveFragment}
 use Rattle.receiver_fragments.specs.Receiving as words
 use Rattle.receiver_fragments.specs.declared.answers.Received.the-variants.{Refused, Repeated}
-use Rattle.linked_receiver.specs.Good.{Ghost, Carried, Good, chunkIn, stands, Stands}
+use Rattle.linked_receiver.specs.Good.{Ghost, Carried, Good, chunkIn, stands}
 use Rattle.linked_receiver.specs.Promise.{Represents}
-use Rattle.linked_receiver.specs.Receives.{receivedOf, Receives}
+use Rattle.linked_receiver.specs.Receives.{answerOf, Receives}
 use Rattle.linked_receiver.proofs.HeldRows.{AnyHeld, one-held, none-held, any-held}
 use Rattle.linked_receiver.proofs.Compares.{key-place}
 use Rattle.linked_receiver.proofs.Judges.{last-is}
 use Rattle.linked_receiver.proofs.Admits.{row-is, Admitted, Judged, refuses, repeats-it, accepts, judges}
 use Rattle.linked_receiver.proofs.Passed.{ahead-more}
-use Rattle.linked_receiver.proofs.Held.{with-loose, rows-more, Held, holds}
-use Rattle.linked_receiver.proofs.Others.{Others, ahead-as, others-kind}
+use Rattle.linked_receiver.proofs.Held.{rows-more, Held, holds}
+use Rattle.linked_receiver.proofs.Others.{ahead-as, others-kind}
 use Rattle.linked_receiver.proofs.Moves.{with-window, passed-tsn, passed-ahead, window-turns, window-known, window-others-are, window-good, window-stands, with-turns, turn-from-same}
 use Rattle.linked_receiver.proofs.Settles.{with-queues}
-use Rattle.linked_receiver.proofs.Accepts.{passes, come, accept-none, queued-by, accept-some, pass-fits, SettledAs, as-none, as-some, settles}
+use Rattle.linked_receiver.proofs.Accepts.{come, accept-none, accept-some, pass-fits, SettledAs, as-none, as-some, settles}
 
 -- ------------------------------------------------------------------ a fragment that is accepted
 
@@ -206,9 +205,12 @@ module _ (g : Ghost) (ws st : List ℕ) (d : Good g ws st) (f : Fragment) (bs : 
       kind2′ = sym kind2
 
   -- THE THEOREM of accepting
-  accepts-it : Represents (words.accept ws st (interleavedOf ws) f bs (wordAt Header ws 0 7) (findTurn ws (f .stream .0)) .words)
-      (words.accept ws st (interleavedOf ws) f bs (wordAt Header ws 0 7) (findTurn ws (f .stream .0)) .store) (model.accept (chunkOf (kindOf (interleavedOf ws)) f bs) (stands g ws st))
-  accepts-it = subst (λ (k : Kept). Represents (k .words) (k .store) (model.accept c r)) (sym accept-is) represented
+  pub record Accepts (k : Kept) : Type 0 where
+    pub represents : Represents (k .words) (k .store) (model.accept (chunkOf (kindOf (interleavedOf ws)) f bs) (stands g ws st))
+    pub same-store : length (k .store) ≡ length st
+
+  pub accepts-it : Accepts (words.accept ws st (interleavedOf ws) f bs (wordAt Header ws 0 7) (findTurn ws (f .stream .0)))
+  accepts-it = subst Accepts (sym accept-is) (record { represents = represented; same-store = h .same-store })
 
 -- ------------------------------------------------------------------ the call
 
@@ -217,35 +219,38 @@ module _ (g : Ghost) (ws st : List ℕ) (d : Good g ws st) (f : Fragment) (bs : 
   abbrev whole : Receiver
   whole = stands g ws st
 
-  abbrev come-in : Option Chunk
-  come-in = some (chunkOf (kindOf (interleavedOf ws)) f bs)
-
-  -- words and store as they were
-  unchanged : (a : Answer) (o : Outcome) → o .words ≡ ws → o .store ≡ st → receivedOf (o .answer) ≡ a → model.receive (length st) come-in whole ≡ reply a whole → Receives whole st come-in o
-  unchanged a o ew es ea e = record {
-    represents = subst (λ (q : Receiver). Represents (o .words) (o .store) q) (sym (ap (λ (q : Step). q .next) e))
+  unchanged : (s : Step) (o : Outcome) → o .words ≡ ws → o .store ≡ st → s .next ≡ whole → answerOf (o .answer) ≡ s .answer → model.receive (length st) (some (chunkOf (kindOf (interleavedOf ws)) f bs)) whole ≡ s
+      → Receives whole st f bs o
+  unchanged s o ew es en ea e = record {
+    answers = ea ∙ sym (ap (λ (q : Step). q .answer) e);
+    represents = subst (λ (q : Receiver). Represents (o .words) (o .store) q) (sym (ap (λ (q : Step). q .next) e ∙ en))
         (subst (λ (v : List ℕ). Represents v (o .store) whole) (sym ew) (subst (λ (v : List ℕ). Represents ws v whole) (sym es) (record { rows = g; stands = record { good = d; is = refl } })));
-    answered = ea ∙ sym (ap (λ (q : Step). q .answer) e);
+    same-store = ap length es;
   }
 
-  receives : Receives whole st come-in (receiveFragment ws st (interleavedOf ws) f bs)
+  -- THE THEOREM of receiving: the model's answer, and words of the model's next receiver
+  pub receives : Receives (stands g ws st) st f bs (receiveFragment ws st (interleavedOf ws) f bs)
   receives = go (judges g ws st d f bs (fits .tsn-fits) window)
     where
-      go : Judged g ws st d f bs (receiveFragment ws st (interleavedOf ws) f bs) → Receives whole st come-in (receiveFragment ws st (interleavedOf ws) f bs)
-      go (refuses n e m) = subst (Receives whole st come-in) (sym e) (unchanged (refused n) (received (Refused n) ws st) refl refl refl m)
-      go (repeats-it e m) = subst (Receives whole st come-in) (sym e) (unchanged repeated (received Repeated ws st) refl refl refl m)
-      go (accepts a e m) = subst (Receives whole st come-in) (sym e) (record {
-        represents = subst (λ (q : Receiver). Represents (k .words) (k .store) q) (sym (ap (λ (q : Step). q .next) m)) (accepts-it g ws st d f bs fits carries settled window a);
-        answered = sym (ap (λ (q : Step). q .answer) m);
+      go : Judged g ws st d f bs (receiveFragment ws st (interleavedOf ws) f bs) → Receives whole st f bs (receiveFragment ws st (interleavedOf ws) f bs)
+      go (refuses n e m) = subst (Receives whole st f bs) (sym e) (unchanged (reply (refused n) whole) (received (Refused n) ws st) refl refl refl refl m)
+      go (repeats-it e m) = subst (Receives whole st f bs) (sym e) (unchanged (reply repeated whole) (received Repeated ws st) refl refl refl refl m)
+      go (accepts a e m) = subst (Receives whole st f bs) (sym e) (record {
+        answers = sym (ap (λ (q : Step). q .answer) m);
+        represents = subst (λ (q : Receiver). Represents (k .words) (k .store) q) (sym (ap (λ (q : Step). q .next) m)) (p .represents);
+        same-store = p .same-store;
       })
         where
           k : Kept
           k = words.accept ws st (interleavedOf ws) f bs (wordAt Header ws 0 7) (findTurn ws (f .stream .0))
 
--- THE THEOREM of receiving a fragment: on words of a receiver that calls lead to, the model's answer, and words of the model's next receiver
-pub receive-fragment : (ws st : List ℕ) (f : Fragment) (bs : List ℕ) (r : Receiver) → Represents ws st r → Window r → Settled r → FitsFragment f → Carried (interleavedOf ws) f
-    → Receives r st (some (chunkOf (kindOf (interleavedOf ws)) f bs)) (receiveFragment ws st (interleavedOf ws) f bs)
-receive-fragment ws st f bs r p w s fits carries =
+          p : Accepts g ws st d f bs fits carries settled window a k
+          p = accepts-it g ws st d f bs fits carries settled window a
+
+-- the same of words and store of a receiver r
+pub receive-represents : (ws st : List ℕ) (f : Fragment) (bs : List ℕ) (r : Receiver) → Represents ws st r → Window r → Settled r → FitsFragment f → Carried (interleavedOf ws) f
+    → Receives r st f bs (receiveFragment ws st (interleavedOf ws) f bs)
+receive-represents ws st f bs r p w s fits carries =
     let e = p .stands .is in
-    subst (λ (q : Receiver). Receives q st (some (chunkOf (kindOf (interleavedOf ws)) f bs)) (receiveFragment ws st (interleavedOf ws) f bs)) e
+    subst (λ (q : Receiver). Receives q st f bs (receiveFragment ws st (interleavedOf ws) f bs)) e
     (receives (p .rows) ws st (p .stands .good) f bs fits carries (subst Settled (sym e) s) (subst Window (sym e) w))

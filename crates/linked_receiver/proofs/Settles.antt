@@ -2,20 +2,20 @@
 use mathlib.Core.Path.{_≡_, refl, sym, ap, ap₂, _∙_, subst}
 use mathlib.Core.Bool.{Bool, true, false, not}
 use mathlib.Core.List.{List, [], _∷_, _++_, map}
-use Prim.Native.Nat.{ℕ, zero, suc, _+_, _%_, _^_, _≤_, _<_}
+use Prim.Native.Nat.{ℕ, _+_, _%_, _^_, _≤_, _<_}
 use native.Mathlib.Omega.{arith}
 use borrow.Author.Tests.{eq-eqb, ne-eqb}
 use lib.Dec.{eqb}
 use lib.ListN.{length}
 use Rattle.queue_words.specs.Flags.{bit, flag, pick}
 use Rattle.queue_model.specs.Table.{sum-by}
-use Rattle.receiver_model.specs.Lists.{count, keep, join}
-use Rattle.receiver_model.specs.Types.{Kind, Chunk, Assembled, Receiver, Turn}
+use Rattle.receiver_model.specs.Lists.{count, join}
+use Rattle.receiver_model.specs.Types.{Chunk, Assembled, Receiver, Turn}
 use Rattle.receiver_model.specs.Assembly.{width, without-message}
 use Rattle.receiver_model.specs.Receive.{Queued}
 use Rattle.receiver_model.specs.Receive as model
-use Rattle.receiver_model.proofs.Lists.{Value, yes-is, no-is, value, count-nil, count-here, count-there, count-cons, count-append, Same, equal, other, compare-same}
-use Rattle.receiver_words.specs.Tables.{Header, Turns, Ahead, Buckets, Fragments, Links, wordAt}
+use Rattle.receiver_model.proofs.Lists.{count-nil, count-here, count-there, count-cons, count-append, equal, other, compare-same}
+use Rattle.receiver_words.specs.Tables.{Header, Ahead, Links, wordAt}
 use Rattle.receiver_words.specs.Turns.{turnAt}
 use Rattle.receiver_words.specs.Ahead.{aheadAt}
 use Rattle.receiver_words.specs.Fragments.{fragmentAt}
@@ -31,14 +31,14 @@ use Rattle.receiver_messages.specs.Readiness.{Turned, queueUp}
 use Rattle.receiver_store.specs.Words.{payloadOf}
 use Rattle.receiver_store.proofs.Laws.{laid-same}
 use Rattle.receiver_store.proofs.Packs.{payload-words}
-use Rattle.linked_receiver.specs.Rows.{Indexed, Unique, chunkAt, looseRows, tailRows}
+use Rattle.linked_receiver.specs.Rows.{Indexed, Unique, looseRows, tailRows}
 use Rattle.linked_receiver.specs.Kept.{Kept}
 use Rattle.linked_receiver.specs.Good.{Ghost, rowsOf, wholeRows, Walk, Carried, Good, chunkIn, messageIn, stands}
 use Rattle.linked_receiver.proofs.Lists.{keep-same, count-kept, few}
 use Rattle.linked_receiver.proofs.Walks.{loose-held}
 use Rattle.linked_receiver.proofs.Keeps.{kept-fragment, kept-turn}
-use Rattle.linked_receiver.proofs.Indexes.{indexed-kept, indexed-rows}
-use Rattle.linked_receiver.proofs.Promotes.{turn-key, lined-frame, Turning, Queues, Before, queues-up}
+use Rattle.linked_receiver.proofs.Indexes.{indexed-kept}
+use Rattle.linked_receiver.proofs.Promotes.{turn-key, lined-frame, Queues, Before, queues-up}
 use Rattle.linked_receiver.proofs.HeldRows.{sum-any-order}
 use Rattle.linked_receiver.proofs.Paths.{tail-loose, tail-once}
 use Rattle.linked_receiver.proofs.Marks.{walk-kept, Marked, mark-law, reach-walk, loose-marked}
