@@ -85,8 +85,10 @@ fn a_fragment_can_be_kept() {
 
 #[test]
 fn a_clone_goes_its_own_way() {
+    fn with<T: Send + Sync + Clone>(_: &T) {}
     let mut queue = SendQueue::new(100, &options()).unwrap();
     queue.add(NOW, Message::new(StreamId(1), PpId(53), b"0123456789"), &SendOptions::default()).unwrap();
+    with(&queue);
     let mut ahead = queue.clone();
     assert_eq!(ahead.produce(NOW, 10).unwrap().unwrap().data.payload, b"0123456789");
     assert!(ahead.is_empty() && queue.total_buffered_amount() == 10);
