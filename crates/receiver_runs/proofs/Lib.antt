@@ -1,4 +1,4 @@
--- The receiving head's calls one after another.
+-- The receiving head's calls one after another, and request 7/13 on the code.
 pub mod Came
 pub mod Receives
 pub mod Runs

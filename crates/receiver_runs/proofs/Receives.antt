@@ -1,4 +1,4 @@
--- Receiving bytes is the model's step, where receiving a fragment is. Assumes nothing.
+-- Receiving bytes is the model's step. Assumes nothing.
 use mathlib.Core.Path.{_≡_, refl, sym, ap, _∙_, subst}
 use mathlib.Core.Bool.{Bool, true, false, not}
 use mathlib.Core.List.{List, [], _∷_}
@@ -29,6 +29,7 @@ use Rattle.receiver_model.specs.Receive.{same-kind, refused-or}
 use Rattle.receiver_model.specs.Receive as model
 use Rattle.receiver_model.specs.Run.{Call, receive}
 use Rattle.receiver_model.proofs.Lists.{Value, yes-is, no-is, value}
+use Rattle.receiver_model.proofs.AnyCalls.{Settled}
 use Rattle.receiver_model.proofs.Bounds.{Bounded}
 use Rattle.receiver_model.proofs.Window.{Window, TypedTsn}
 use Rattle.receiver_words.specs.Tables.{Header, wordAt}
@@ -40,21 +41,25 @@ use Rattle.receiver_fragments.specs.declared.answers.Received.the-variants as a
 use Rattle.receiver_fragments.specs.Receiving.{Outcome, received, receiveFragment}
 use Rattle.receiver_calls.specs.Receiving.{fragmentOf, ofKind, receiveRead, receiveAs}
 use Rattle.receiver_calls.specs.Receiving as calls
-use Rattle.linked_receiver.specs.Good.{Carried}
+use Rattle.linked_receiver.specs.Good.{Carried, stands}
 use Rattle.linked_receiver.specs.Promise.{Represents}
-use Rattle.receiver_runs.specs.Meaning.{chunkAs, chunkRead, receivedOf}
+use Rattle.linked_receiver.specs.Receives.{answerOf}
+use Rattle.linked_receiver.proofs.Receives.{receives}
+use Rattle.receiver_runs.specs.Meaning.{chunkAs, chunkRead}
 use Rattle.receiver_runs.proofs.Came.{Came, came-window, came-bounded}
 
 -- A call of receiving with the lent store st, and what it left: the model's step on the receiver r.
 pub record Receives (r : Receiver) (st : List ℕ) (c : Option Chunk) (o : Outcome) : Type 0 where
   pub represents : Represents (o .words) (o .store) ((model.receive (length st) c r) .next)
-  pub answered : receivedOf (o .answer) ≡ (model.receive (length st) c r) .answer
+  pub answered : answerOf (o .answer) ≡ (model.receive (length st) c r) .answer
 
--- The law of receiving a fragment.
-abbrev pub FragmentLaw : Type 0
-FragmentLaw =
-    (ws st : List ℕ) (f : Fragment) (bs : List ℕ) (r : Receiver) → Represents ws st r → Window r → Bounded r → FitsFragment f → Carried (interleavedOf ws) f → 1 ≤ length bs
+-- Receiving a fragment (crate linked_receiver) is such a call.
+fragment-law : (ws st : List ℕ) (f : Fragment) (bs : List ℕ) (r : Receiver) → Represents ws st r → Window r → Bounded r → FitsFragment f → Carried (interleavedOf ws) f
     → Receives r st (some (chunkOf (kindOf (interleavedOf ws)) f bs)) (receiveFragment ws st (interleavedOf ws) f bs)
+fragment-law ws st f bs r p w b fits carried =
+    let e : stands (p .rows) ws st ≡ r = p .stands .is in
+    let h = receives (p .rows) ws st (p .stands .good) f bs fits carried (subst Settled (sym e) (b .settled)) (subst Window (sym e) w) in
+    subst (λ (x : Receiver). Receives x st (some (chunkOf (kindOf (interleavedOf ws)) f bs)) (receiveFragment ws st (interleavedOf ws) f bs)) e (record { represents = h .represents; answered = h .answers })
 
 -- ------------------------------------------------------------------ a chunk that is read
 
@@ -68,11 +73,10 @@ carried-fields : (k : ChunkKind) (t : ℕ) (d : Data) (n : ℕ) → Carried (isI
 carried-fields kind.Data t d n = refl
 carried-fields kind.IData t d n = refl
 
--- What the reader gives has its widths, no field that its chunk does not carry, and a payload.
+-- What the reader gives has its widths, and no field that its chunk does not carry.
 pub record ReadFits (bs : List ℕ) (c : read.Chunk) : Type 0 where
   pub fits : FitsFragment (fragmentOf c)
   pub carried : Carried (isIData (c .kind)) (fragmentOf c)
-  pub some-payload : 1 ≤ length (payloadOf c bs)
 
 pub read-fits : (bs : List ℕ) (c : read.Chunk) → T (areBytes bs) → readChunk bs ≡ reading.Read c → ReadFits bs c
 read-fits bs c ok h =
@@ -82,7 +86,6 @@ read-fits bs c ok h =
     record {
       fits = record { stream-fits = w .id-fits; ssn-fits = w .ssn-fits; tsn-fits = w .tsn-fits; mid-fits = w .mid-fits; fsn-fits = w .fsn-fits; ppid-fits = w .ppid-fits };
       carried = subst (λ (x : read.Chunk). Carried (isIData (x .kind)) (fragmentOf x)) (sym e) (carried-fields (c .kind) (c .tsn) (c .fragment .«data») (length (payloadOf c bs)));
-      some-payload = l .some;
     }
 
 -- The model's call has TSNs of 32 bits.
@@ -134,7 +137,7 @@ other-kind kind.IData false e = refl
 refuses : (ws st : List ℕ) (r : Receiver) (c : Option Chunk) (o : Outcome) (n : ℕ) → Represents ws st r → o ≡ received (answer.Refused n) ws st → model.receive (length st) c r ≡ reply (refused n) r → Receives r st c o
 refuses ws st r c o n p e m = record {
   represents = subst (λ (x : Outcome). Represents (x .words) (x .store) ((model.receive (length st) c r) .next)) (sym e) (subst (Represents ws st) (ap (λ (s : Step). s .next) (sym m)) p);
-  answered = ap (λ (x : Outcome). receivedOf (x .answer)) e ∙ ap (λ (s : Step). s .answer) (sym m);
+  answered = ap (λ (x : Outcome). answerOf (x .answer)) e ∙ ap (λ (s : Step). s .answer) (sym m);
 }
 
 module _ (ws st bs : List ℕ) where
@@ -162,26 +165,25 @@ receive-other ws st st′ bs r c p n = (
   model-other (length st′) r c (λ e. n (e ∙ sym (store-length ws st r p))),
 )
 
-module _ (law : FragmentLaw) where
-  module _ (ws st bs : List ℕ) (r : Receiver) (p : Represents ws st r) (v : Came r) (ok : T (areBytes bs)) where
-    read-law : (c : read.Chunk) → readChunk bs ≡ reading.Read c → Value (ofKind (c .kind) (interleavedOf ws)) → Receives r st (some (chunkOf (kindOf (isIData (c .kind))) (fragmentOf c) (payloadOf c bs))) (receiveRead ws st c bs)
-    read-law c h (yes-is e) =
-        let f = read-fits bs c ok h in
-        let k : isIData (c .kind) ≡ interleavedOf ws = of-kind (c .kind) (interleavedOf ws) e in
-        subst (λ (o : Outcome). Receives r st (some (chunkOf (kindOf (isIData (c .kind))) (fragmentOf c) (payloadOf c bs))) o) (sym (read-right ws st bs c e))
-        (subst (λ (b : Bool). Receives r st (some (chunkOf (kindOf b) (fragmentOf c) (payloadOf c bs))) (receiveFragment ws st (interleavedOf ws) (fragmentOf c) (payloadOf c bs))) (sym k)
-        (law ws st (fragmentOf c) (payloadOf c bs) r p (came-window r v) (came-bounded r v) (f .fits) (subst (λ (b : Bool). Carried b (fragmentOf c)) k (f .carried)) (f .some-payload)))
-    read-law c h (no-is e) =
-        refuses ws st r _ (receiveRead ws st c bs) 19 p (read-other ws st bs c e)
-        (model-kind (length st) r (chunkOf (kindOf (isIData (c .kind))) (fragmentOf c) (payloadOf c bs)) (store-length ws st r p)
-        (ap (same-kind (kindOf (isIData (c .kind)))) (sym (kind-is ws st r p)) ∙ other-kind (c .kind) (interleavedOf ws) e))
+module _ (ws st bs : List ℕ) (r : Receiver) (p : Represents ws st r) (v : Came r) (ok : T (areBytes bs)) where
+  read-law : (c : read.Chunk) → readChunk bs ≡ reading.Read c → Value (ofKind (c .kind) (interleavedOf ws)) → Receives r st (some (chunkOf (kindOf (isIData (c .kind))) (fragmentOf c) (payloadOf c bs))) (receiveRead ws st c bs)
+  read-law c h (yes-is e) =
+      let f = read-fits bs c ok h in
+      let k : isIData (c .kind) ≡ interleavedOf ws = of-kind (c .kind) (interleavedOf ws) e in
+      subst (λ (o : Outcome). Receives r st (some (chunkOf (kindOf (isIData (c .kind))) (fragmentOf c) (payloadOf c bs))) o) (sym (read-right ws st bs c e))
+      (subst (λ (b : Bool). Receives r st (some (chunkOf (kindOf b) (fragmentOf c) (payloadOf c bs))) (receiveFragment ws st (interleavedOf ws) (fragmentOf c) (payloadOf c bs))) (sym k)
+      (fragment-law ws st (fragmentOf c) (payloadOf c bs) r p (came-window r v) (came-bounded r v) (f .fits) (subst (λ (b : Bool). Carried b (fragmentOf c)) k (f .carried))))
+  read-law c h (no-is e) =
+      refuses ws st r _ (receiveRead ws st c bs) 19 p (read-other ws st bs c e)
+      (model-kind (length st) r (chunkOf (kindOf (isIData (c .kind))) (fragmentOf c) (payloadOf c bs)) (store-length ws st r p)
+      (ap (same-kind (kindOf (isIData (c .kind)))) (sym (kind-is ws st r p)) ∙ other-kind (c .kind) (interleavedOf ws) e))
 
-    as-law : Receives r st (chunkRead bs) (receiveAs ws st bs (readChunk bs))
-    as-law =
-        chunk-or-19 bs (Receives r st (chunkRead bs) (receiveAs ws st bs (readChunk bs)))
-        (λ c h. subst (λ (x : ChunkRead). Receives r st (chunkAs bs x) (receiveAs ws st bs x)) (sym h) (read-law c h (value (ofKind (c .kind) (interleavedOf ws)))))
-        (λ h. subst (λ (x : ChunkRead). Receives r st (chunkAs bs x) (receiveAs ws st bs x)) (sym h) (refuses ws st r none (received (answer.Refused 19) ws st) 19 p refl (model-none (length st) r (store-length ws st r p))))
+  as-law : Receives r st (chunkRead bs) (receiveAs ws st bs (readChunk bs))
+  as-law =
+      chunk-or-19 bs (Receives r st (chunkRead bs) (receiveAs ws st bs (readChunk bs)))
+      (λ c h. subst (λ (x : ChunkRead). Receives r st (chunkAs bs x) (receiveAs ws st bs x)) (sym h) (read-law c h (value (ofKind (c .kind) (interleavedOf ws)))))
+      (λ h. subst (λ (x : ChunkRead). Receives r st (chunkAs bs x) (receiveAs ws st bs x)) (sym h) (refuses ws st r none (received (answer.Refused 19) ws st) 19 p refl (model-none (length st) r (store-length ws st r p))))
 
-    -- Receiving bytes is the model's step.
-    pub receive-law : Receives r st (chunkRead bs) (calls.receive ws st bs)
-    receive-law = subst (Receives r st (chunkRead bs)) (sym (call-right ws st bs (sym (p .stands .good .store-is)))) as-law
+  -- Receiving bytes is the model's step.
+  pub receive-law : Receives r st (chunkRead bs) (calls.receive ws st bs)
+  receive-law = subst (Receives r st (chunkRead bs)) (sym (call-right ws st bs (sym (p .stands .good .store-is)))) as-law

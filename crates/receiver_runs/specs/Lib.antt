@@ -1,4 +1,4 @@
--- The receiving head's calls one after another, what they mean, and request 7/13 on the code. Assumes nothing.
+-- The receiving head's calls one after another, and what they mean. Assumes nothing.
 pub mod Calls
 pub mod Run
 pub mod Meaning

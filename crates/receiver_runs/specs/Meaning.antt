@@ -15,12 +15,11 @@ use Rattle.receiver_model.specs.Types.{Chunk}
 use Rattle.receiver_model.specs.Receive.{new-receiver}
 use Rattle.receiver_model.specs.Run as run
 use Rattle.receiver_words.specs.Chunks.{kindOf, chunkOf}
-use Rattle.receiver_fragments.specs.declared.answers.Received.{Received}
 use Rattle.receiver_fragments.specs.declared.answers.Received.the-variants as answer
-use Rattle.receiver_fragments.specs.declared.answers.Fetched.{Fetched}
 use Rattle.receiver_fragments.specs.declared.answers.Fetched.the-variants as fetch-answer
 use Rattle.receiver_calls.specs.Receiving.{fragmentOf}
 use Rattle.linked_receiver.specs.Promise.{Represents}
+use Rattle.linked_receiver.specs.Receives as receiving
 use Rattle.linked_receiver.specs.Fetches as fetching
 use Rattle.queue_runs.specs.Run.{State}
 use Rattle.receiver_runs.specs.Calls.{Lent, own, other, Call, receive, fetch, AllTyped, Answer, received, fetched, Shown}
@@ -52,14 +51,9 @@ callsOf len cs = map (callOf len) cs
 
 -- ------------------------------------------------------------------ answers
 
-abbrev pub receivedOf : Received → model.Answer
-receivedOf (answer.Refused n) = model.refused n
-receivedOf answer.Repeated = model.repeated
-receivedOf answer.Accepted = model.accepted
-
--- What a call shows, as the model's answer: of a message fetched the payload at the buffer's start (`answerOf` of crate linked_receiver).
+-- What a call shows, as the model's answer: of a message fetched the payload at the buffer's start (crate linked_receiver: `answerOf`).
 abbrev pub answerIn : Answer → List ℕ → model.Answer
-answerIn (received a) out = receivedOf a
+answerIn (received a) out = receiving.answerOf a
 answerIn (fetched a) out = fetching.answerOf a out
 
 abbrev pub answersOf : List Shown → List model.Answer
