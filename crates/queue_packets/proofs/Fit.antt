@@ -20,7 +20,8 @@ pub record Fits (f : Fragment) : Type 0 where
   pub fsn-fits : f .fsn < 2 ^ 32
   pub ppid-fits : f .ppid < 2 ^ 32
 
-abbrev MaybeFits : Option Fragment → Type 0
+-- Of the fragment in an answer, if it is one.
+abbrev pub MaybeFits : Option Fragment → Type 0
 MaybeFits none = Unit {0}
 MaybeFits (some f) = Fits f
 
@@ -32,7 +33,7 @@ made-fits q a t i is n w c =
     let j = (numbers-well (t .counters) i (k .counters-fit) ((head-well q (a .stream-id) t i is w h) .0)) .item-well in
     record { id-fits = k .id-fits; ssn-fits = j .ssn-fits; mid-fits = j .mid-fits; fsn-fits = j .fsn-fits; ppid-fits = j .ppid-fits }
 
-one-fits : (store places buffer now size : ℕ) (q : Queue) → Well q → MaybeFits (fragment-in ((produce store places buffer now size q) .outcome .answer))
+pub one-fits : (store places buffer now size : ℕ) (q : Queue) → Well q → MaybeFits (fragment-in ((produce store places buffer now size q) .outcome .answer))
 one-fits store places buffer now size q w = go (next-fragment store places buffer now size q w)
   where
     ends : (r : Queue) (s : Step) → Well r → Ends r s → MaybeFits (fragment-in (s .outcome .answer))

@@ -44,7 +44,7 @@ use Rattle.queue_packets.proofs.Fit.{Fits, AllFit, all-fit}
 
 -- ---- the chunks read
 
-in-width : (tsn : ℕ) (f : Fragment) → tsn < 2 ^ 32 → Fits f → InWidth tsn (dataOf f .«data»)
+pub in-width : (tsn : ℕ) (f : Fragment) → tsn < 2 ^ 32 → Fits f → InWidth tsn (dataOf f .«data»)
 in-width tsn f t h = record {
   tsn-fits = t;
   id-fits = subst (λ (x : StreamId). x .0 < 65536) (sym (key-same (f .unordered) (record { 0 = f .stream-id }))) (h .id-fits);

@@ -2,3 +2,6 @@
 pub mod Came
 pub mod Receives
 pub mod Runs
+pub mod Sender
+pub mod Chunks
+pub mod Request7
