@@ -3,7 +3,7 @@ use Prim.Native.Nat.{ℕ}
 use Rattle.queue_model.specs.Logic.{if_then_else_}
 use Rattle.queue_sending.specs.declared.data.Data.{Data}
 use Rattle.queue_sending.specs.declared.data.DataToSend.{DataToSend}
-use Rattle.queue_sending.specs.declared.data.Expiry.the-variants.{At}
+use Rattle.queue_words.specs.declared.items.Expiry.the-variants.{At}
 use Rattle.chunks.specs.declared.chunk.ChunkKind.{ChunkKind}
 use Rattle.chunks.specs.declared.chunk.ChunkKind.the-variants as kind
 

@@ -10,6 +10,8 @@ use queue_streams::Call;
 use queue_words::QUEUE_WORDS;
 use queue_words::header::load_options;
 use queue_words::header::load_totals;
+use queue_words::limits::MAX_TIME;
+use queue_words::limits::STREAMS;
 use restoring::empty_queue;
 use restoring::remember_half_sent;
 use restoring::restore_messages;
@@ -22,7 +24,7 @@ fn restore_code(queue: &[u64; QUEUE_WORDS], len: u64, time: u64, image: &[u8]) -
 {
     let o = load_options(queue);
     if o.store_length == len {
-        if time > 4611686018427387903 {
+        if time > MAX_TIME {
             return 4;
         }
         let t = load_totals(queue);
@@ -42,7 +44,7 @@ fn let_wait(queue: &mut [u64; QUEUE_WORDS])
     ensures { λ _. ⌜ now (queue .exit) ≡ allWaiting (now (queue .entry)) ⌝ }
 {
     let t = load_totals(&*queue);
-    if t.known > 256 {
+    if t.known > STREAMS {
         return;
     }
     wait_all(queue, t.interleaving, t.known as usize);

@@ -97,7 +97,7 @@ module _ (ws st : List ℕ) (o : words.Options) (len : length ws ≡ 20768) (sma
 
   scheduler : schedulerAt (newWords ws o) ≡ newScheduler
   unfolding begun
-  scheduler = places .scheduler ∙ Laws.scheduler-at-put (putTotals (putOptions ws o) newTotals) newScheduler long-t
+  scheduler = places .scheduler ∙ Laws.scheduler-at-put (putTotals (putOptions ws o) newTotals) newScheduler long-t tt
 
   none-known : totalsAt (newWords ws o) .known ≡ 0
   none-known = ap (λ (t : Totals). t .known) totals
@@ -136,7 +136,7 @@ module _ (ws st : List ℕ) (o : words.Options) (len : length ws ≡ 20768) (sma
 
   at-rest : modelScheduler (newWords ws o) ≡ new-scheduler (o .«payload_limit»)
   unfolding modelScheduler new-scheduler tableOf
-  at-rest = rw (options, scheduler, current-none 65536 (omega arith))
+  at-rest = rw (options, scheduler, current-none)
 
   new-model : model (newWords ws o) st ≡ new-queue (optionsOf o)
   unfolding new-queue

@@ -31,12 +31,12 @@ use Rattle.payload_store.specs.Putting.{putPayload}
 use Rattle.stream_scheduler.specs.Link.{modelScheduler}
 use Rattle.message_chains.specs.Amounts.{sum}
 use Rattle.queue_state.specs.Chains.{Linked, each}
-use Rattle.queue_state.specs.Model.{nextOf, itemOf, itemIn, streamOf, rowAt, streamIn, streamsIn}
+use Rattle.queue_state.specs.Model.{expiresOf, nextOf, itemOf, itemIn, streamOf, rowAt, streamIn, streamsIn}
 use Rattle.queue_state.specs.Good.{Row, Shape}
 use Rattle.queue_state.proofs.Chains.{last-lt, count-head, linked-none, linked-le}
 use Rattle.queue_state.proofs.Frames.{row-below, stream-is}
 use Rattle.queue_state.proofs.Rooms.{AllKnown}
-use Rattle.queue_messages.specs.Message.{newItem, expiry, isLimited, retransmissions}
+use Rattle.queue_messages.specs.Message.{newItem, expiry, retransmissions}
 use Rattle.queue_messages.specs.Add.{withLast, linkedLast, withMessage, counted, starts, started, appendedAt, appended}
 use Rattle.queue_messages.specs.declared.message.Lifetime.{Lifetime}
 use Rattle.queue_messages.specs.declared.message.Lifetime.the-variants as life
@@ -52,7 +52,7 @@ use Rattle.linked_adding.proofs.Begins.{Begun, begun, put-known, starts
 
 -- ---- the message as it waits
 
-expires-is : (time : ℕ) (l : Lifetime) → pick (isLimited l) (some (expiry time l)) none ≡ plain-add.expiry time (lifetimeOf l)
+expires-is : (time : ℕ) (l : Lifetime) → expiresOf (expiry time l) ≡ plain-add.expiry time (lifetimeOf l)
 unfolding expiry plain-add.expiry
 expires-is time life.Unlimited = refl
 expires-is time (life.Limited n) = refl

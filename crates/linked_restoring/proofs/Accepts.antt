@@ -1,21 +1,27 @@
 -- An image that is accepted has what restoring its parts needs. Assumes nothing.
-use mathlib.Core.Path.{_≡_, ap, _∙_}
-use mathlib.Core.Bool.{Bool}
+use mathlib.Core.Path.{_≡_, sym, ap, _∙_}
+use mathlib.Core.Bool.{Bool, true, false}
 use mathlib.Core.List.{List}
-use Prim.Native.Nat.{ℕ, _+_, _*_, _-_, _≤_}
+use Prim.Native.Nat.{ℕ, _+_, _*_, _-_, _/_, _%_, _≤_}
 use native.Mathlib.Omega.{arith}
-use lib.Dec.{T}
+use lib.Dec.{T, eqb}
 use lib.Pow.{areBytes}
 use lib.ListN.{length}
+use borrow.Author.Tests.{eqb-true}
+use Rattle.queue_words.specs.Flags.{pick}
+use Rattle.payload_store.proofs.Cases.{pick-both, false-true}
 use Rattle.queue_model.specs.Types.{Queue}
 use Rattle.queue_model.specs.Restore.{restored}
 use Rattle.queue_state.specs.Model.{tab}
 use Rattle.queue_state.proofs.Tabs.{tab-same}
 use Rattle.handover_records.specs.Records.{streamAt}
 use Rattle.handover_records.specs.Positions.{streamRecordAt, streamsFrom}
+use Rattle.handover_records.specs.declared.records.HandoverStreamMessage.{HandoverStreamMessage}
 use Rattle.handover_records.specs.declared.records.Trailer.{Trailer}
 use Rattle.image_rules.specs.Trailers.{trailerIn}
+use Rattle.image_rules.specs.Messages.{midRight}
 use Rattle.image_rules.specs.Code.{imageCode}
+use Rattle.restoring.specs.Messages.{hasFlag}
 use Rattle.image_rules.proofs.ReadLink.{handoverAt, Read, handover-read}
 use Rattle.image_rules.proofs.CodeLink.{image-counts}
 use Rattle.image_rules.proofs.AcceptedFacts.{Accepted, accepted-facts}
@@ -23,6 +29,19 @@ use Rattle.linked_restoring.proofs.Widths.{trailer-fits}
 use Rattle.linked_restoring.proofs.Behind.{IdsRise}
 use Rattle.linked_restoring.proofs.AllRecords.{Limits}
 use Rattle.linked_restoring.proofs.Parts.{Holds}
+
+-- "Without MID, the SSN [..] 0".
+pick-last : (b x y : Bool) → pick b x y ≡ true → b ≡ false → y ≡ true
+pick-last true x y e f = false-true (sym f)
+pick-last false x y e f = e
+
+bare-ssn : (m : HandoverStreamMessage) (head : Bool) → midRight m head ≡ true → hasFlag 2 (m .flags) ≡ false → m .ssn ≡ 0
+unfolding midRight hasFlag
+bare-ssn m head e f =
+    let a = pick-last (eqb (m .flags / 2 % 2) 1) head _ e f in
+    let b = pick-both (eqb (m .mid) 0) _ a in
+    let c = pick-both (eqb (m .ssn) 0) _ (b .1) in
+    eqb-true (m .ssn) 0 (c .0)
 
 module _ (strict : Bool) (bs : List ℕ) (bytes : T (areBytes bs)) (d len : ℕ) (fine : imageCode strict bs d len ≡ 0) where
   a : Accepted strict bs (trailerIn bs) d len
@@ -53,7 +72,7 @@ module _ (strict : Bool) (bs : List ℕ) (bytes : T (areBytes bs)) (d len : ℕ)
         streams-few = a .amounts .streams-few;
         streams-inside = omega (arith, k .fills, k .whole);
         ids-rise = rise;
-        within = λ k l. record { inside = omega (arith, a .message-inside k l); some-bytes = a .message-at k l .facts .length-some };
+        within = λ k l. record { inside = omega (arith, a .message-inside k l); some-bytes = a .message-at k l .facts .length-some; bare = bare-ssn _ _ (a .message-at k l .facts .mid-right) };
       }
 
   pub accepted-long : 20 ≤ length bs

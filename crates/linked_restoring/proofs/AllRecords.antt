@@ -24,14 +24,15 @@ use Rattle.handover_records.specs.Records.{messageAt}
 use Rattle.handover_records.specs.Positions.{messagePlace, recordAt, messagesFrom}
 use Rattle.image_rules.proofs.MessageLink.{payload-long}
 use Rattle.image_rules.proofs.RestoreLink.{more-rising, more-waiting, more-occupied}
-use Rattle.restoring.specs.Messages.{unsentOf, Restored, restored, messageRestored, messagesRestored}
+use Rattle.restoring.specs.Messages.{unsentOf, Restored, restored, messageRestored, messagesRestored, hasFlag}
 use Rattle.linked_restoring.proofs.Grows.{grows-amounts, grows-length, restore-snoc, tab-snoc}
 use Rattle.linked_restoring.proofs.OneRecord.{OneRecord, one-record, record-offset}
 
--- Message record k, the first one's place being `start`, lies inside the image and has a payload.
+-- Message record k, the first one's place being `start`, lies inside the image and has a payload; without MID its SSN is 0.
 pub record Within (bs : List ℕ) (start k : ℕ) : Type 0 where
   pub inside : messagePlace bs start k + 44 + messageAt bs (messagePlace bs start k) .length ≤ length bs
   pub some-bytes : 1 ≤ messageAt bs (messagePlace bs start k) .length
+  pub bare : hasFlag 2 (messageAt bs (messagePlace bs start k) .flags) ≡ false → messageAt bs (messagePlace bs start k) .ssn ≡ 0
 
 -- Streams that a queue with a store of this length can have.
 pub record Limits (ss : List Stream) (len : ℕ) : Type 0 where
@@ -122,7 +123,7 @@ module _ (ws st : List ℕ) (bs : List ℕ) (bytes : T (areBytes bs)) (start tim
 
       one : OneRecord (x .words) (x .store) bs at time (messageRestored x bs time .words) (messageRestored x bs time .store) (messageRestored x bs time .at)
       one =
-          one-record (x .words) (x .store) (a .shape) bs bytes at time (w .inside) (w .some-bytes) (omega (arith, a .store)) (a .counted) (a .below)
+          one-record (x .words) (x .store) (a .shape) bs bytes at time (w .inside) (w .some-bytes) (w .bare) (omega (arith, a .store)) (a .counted) (a .below)
           (rw (a .options, a .streams) (l .streams-few))
           (omega (arith, used-is, a .store, l .store-fits, more-occupied o time r (S n) rising, payload-long bs at (w .inside)))
           (omega (arith, waits-is, l .messages-few, more-waiting o time r (S n) rising))

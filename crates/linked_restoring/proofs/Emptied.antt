@@ -56,7 +56,7 @@ module _ (ws st : List ℕ) (id : ℕ) (len : length ws ≡ 20768) (small : id <
 
   scheduler : schedulerAt (emptied ws id) ≡ newScheduler
   unfolding begun
-  scheduler = places .scheduler ∙ Laws.scheduler-at-put (putTotals ws (emptyTotals (totalsAt ws) id)) newScheduler long-t
+  scheduler = places .scheduler ∙ Laws.scheduler-at-put (putTotals ws (emptyTotals (totalsAt ws) id)) newScheduler long-t tt
 
   none-known : totalsAt (emptied ws id) .known ≡ 0
   none-known = ap (λ (t : Totals). t .known) empty-totals
@@ -95,4 +95,4 @@ module _ (ws st : List ℕ) (id : ℕ) (len : length ws ≡ 20768) (small : id <
 
   pub empty-scheduler : modelScheduler (emptied ws id) ≡ new-scheduler (optionsAt ws .«payload_limit»)
   unfolding modelScheduler new-scheduler tableOf
-  empty-scheduler = rw (empty-options, scheduler, current-none 65536 (omega arith))
+  empty-scheduler = rw (empty-options, scheduler, current-none)

@@ -11,7 +11,7 @@ use lib.Pow.{areBytes}
 use lib.ListN.{length, take, drop}
 use Rattle.queue_words.specs.Flags.{pick}
 use Rattle.queue_words.specs.Header.{optionsAt, totalsAt}
-use Rattle.queue_words.specs.Items.{FitsItem}
+use Rattle.queue_words.specs.Items.{FitsItem, midIn, ssnIn}
 use Rattle.queue_words.specs.Known.{idAt}
 use Rattle.queue_words.specs.Streams.{streamAt, FitsStream}
 use Rattle.queue_words.specs.declared.header.Totals.{Totals}
@@ -28,7 +28,7 @@ use Rattle.payload_store.specs.Words.{usedOf}
 use Rattle.stream_scheduler.specs.Link.{modelScheduler}
 use Rattle.queue_streams.specs.Known.{newStream, lookUp, inserted}
 use Rattle.queue_streams.specs.declared.known.Place.the-variants as place
-use Rattle.queue_state.specs.Model.{itemOf, optionsOf, pauseOf, streamOf, rowAt, streamIn, streamsIn}
+use Rattle.queue_state.specs.Model.{itemOf, optionsOf, pauseOf, streamOf, rowAt, streamIn, streamsIn, expiresOf, midOf}
 use Rattle.queue_state.specs.Good.{Shape}
 use Rattle.queue_state.proofs.Frames.{stream-is}
 use Rattle.queue_state.proofs.Inserts.{Inserted, insert-link}
@@ -38,25 +38,48 @@ use Rattle.handover_records.specs.Records.{messageAt}
 use Rattle.handover_records.specs.Positions.{recordAt}
 use Rattle.handover_records.specs.declared.records.HandoverStreamMessage.{HandoverStreamMessage}
 use Rattle.image_rules.proofs.MessageLink.{payload-long, message-id-same}
-use Rattle.restoring.specs.Messages.{hasFlag, restoredItem, unsentOf, Restored, hung, hungIn, hungWith, recordRestored, messageRestored}
+use Rattle.restoring.specs.Messages.{hasFlag, restoredItem, unsentOf, Restored, hung, hungIn, hungWith, recordRestored, messageRestored, restoredNumbers, restoredExpiry}
 use Rattle.linked_restoring.proofs.Widths.{message-fits}
 use Rattle.linked_restoring.proofs.Grows.{restore-found, restore-new, new-length}
 use Rattle.linked_restoring.proofs.Hangs.{Hangs, hangs-in}
 
 -- ---- the record
 
-give-pick : (b : Bool) (n : ℕ) → pick b (some n) none ≡ give b n
+expiry-is : (b : Bool) (time left : ℕ) → expiresOf (restoredExpiry b time left) ≡ give b (time + left * 1000000)
 unfolding give
-give-pick true n = refl
-give-pick false n = refl
+expiry-is true time left = refl
+expiry-is false time left = refl
+
+mid-is : (b : Bool) (mid ssn : ℕ) → midOf (restoredNumbers b mid ssn) ≡ give b mid
+unfolding give
+mid-is true mid ssn = refl
+mid-is false mid ssn = refl
+
+-- "Without MID, the SSN [..] 0".
+ssn-is : (b : Bool) (mid ssn : ℕ) → (b ≡ false → ssn ≡ 0) → ssnIn (restoredNumbers b mid ssn) .0 ≡ ssn
+ssn-is true mid ssn f = refl
+ssn-is false mid ssn f = sym (f refl)
+
+ssn-fits-in : (b : Bool) (mid ssn : ℕ) → ssn < 65536 → ssnIn (restoredNumbers b mid ssn) .0 < 65536
+ssn-fits-in true mid ssn h = h
+ssn-fits-in false mid ssn h = omega arith
+
+mid-fits-in : (b : Bool) (mid ssn : ℕ) → mid < 4294967296 → midIn (restoredNumbers b mid ssn) .0 < 4294967296
+mid-fits-in true mid ssn h = h
+mid-fits-in false mid ssn h = omega arith
 
 -- the bytes of its payload
 abbrev pub payloadAt : List ℕ → ℕ → List ℕ
 payloadAt bs at = take (messageAt bs at .length) (drop (at + 44) bs)
 
-item-is : (bs : List ℕ) (at time : ℕ) → itemOf (restoredItem time (messageAt bs at)) (payloadAt bs at) ≡ restored-item time (recordAt bs at)
+item-is : (bs : List ℕ) (at time : ℕ) → (hasFlag 2 (messageAt bs at .flags) ≡ false → messageAt bs at .ssn ≡ 0) → itemOf (restoredItem time (messageAt bs at)) (payloadAt bs at) ≡ restored-item time (recordAt bs at)
 unfolding restoredItem restored-item recordAt messageAt hasFlag has-flag
-item-is bs at time = rw (give-pick, give-pick)
+item-is bs at time f =
+    let r : HandoverStreamMessage = messageAt bs at in
+    let x = expiry-is (hasFlag 4 (r .flags)) time (r .«ms_left») in
+    let y = mid-is (hasFlag 2 (r .flags)) (r .mid) (r .ssn) in
+    let z = ssn-is (hasFlag 2 (r .flags)) (r .mid) (r .ssn) f in
+    rw (x, y, z)
 
 pub record-offset : (bs : List ℕ) (at : ℕ) → (recordAt bs at) .offset ≡ messageAt bs at .offset
 unfolding recordAt messageAt
@@ -71,11 +94,11 @@ unfolding restoredItem
 item-fits bs at time b h =
     let f = message-fits bs at b h in
     record {
-      ssn-fits = f .1 .1 .1 .1 .1 .1 .0;
+      ssn-fits = ssn-fits-in (hasFlag 2 (messageAt bs at .flags)) (messageAt bs at .mid) (messageAt bs at .ssn) (f .1 .1 .1 .1 .1 .1 .0);
       retransmissions-fits = f .1 .1 .1 .1 .1 .0;
       message-id-fits = f .1 .1 .1 .1 .1 .1 .1 .1 .1 .1 .0;
       ppid-fits = f .1 .1 .1 .0;
-      mid-fits = f .1 .1 .1 .1 .1 .1 .1 .0;
+      mid-fits = mid-fits-in (hasFlag 2 (messageAt bs at .flags)) (messageAt bs at .mid) (messageAt bs at .ssn) (f .1 .1 .1 .1 .1 .1 .1 .0);
       fsn-fits = f .1 .1 .1 .1 .1 .1 .1 .1 .0;
     }
 
@@ -103,7 +126,7 @@ opened : (x : Restored) (bs : List ℕ) (time : ℕ) → x .at + 44 + messageAt 
 unfolding messageRestored recordRestored hungWith
 opened x bs time h = rw (le-ltb (length bs) 44 (omega arith), le-ltb (length bs - 44) (x .at) (omega arith), le-ltb (length bs - 44 - x .at) (messageAt bs (x .at) .length) (omega arith))
 
-module _ (ws st : List ℕ) (g : Shape ws st) (bs : List ℕ) (bytes : T (areBytes bs)) (at time : ℕ) (inside : at + 44 + messageAt bs at .length ≤ length bs) (some-bytes : 1 ≤ messageAt bs at .length)
+module _ (ws st : List ℕ) (g : Shape ws st) (bs : List ℕ) (bytes : T (areBytes bs)) (at time : ℕ) (inside : at + 44 + messageAt bs at .length ≤ length bs) (some-bytes : 1 ≤ messageAt bs at .length) (bare : hasFlag 2 (messageAt bs at .flags) ≡ false → messageAt bs at .ssn ≡ 0)
     (small : length st ≤ 2000000) (counted : totalsAt ws .total ≡ amounts (streamsIn ws st)) (below : totalsAt ws .total ≤ usedOf ws)
     (few : length (restore-message (optionsOf (optionsAt ws)) time (recordAt bs at) (streamsIn ws st)) ≤ 256)
     (room : usedOf ws + messageAt bs at .length ≤ length st) (place-left : totalsAt ws .waiting < 1024) where
@@ -169,7 +192,7 @@ module _ (ws st : List ℕ) (g : Shape ws st) (bs : List ℕ) (bytes : T (areByt
           total = h .total;
           streams =
               h .streams
-              ∙ ap (λ (x : plain.Item). put-stream (with-message (streamIn ws st j) x) (streamsIn ws st)) (item-is bs at time)
+              ∙ ap (λ (x : plain.Item). put-stream (with-message (streamIn ws st j) x) (streamsIn ws st)) (item-is bs at time bare)
               ∙ sym (restore-found (optionsOf (optionsAt ws)) time (recordAt bs at) (streamsIn ws st) (streamIn ws st j) (rw (message-id-same bs at) found));
           scheduler = h .scheduler;
           place = hung-known .1;
@@ -238,7 +261,7 @@ module _ (ws st : List ℕ) (g : Shape ws st) (bs : List ℕ) (bytes : T (areByt
           total = h .total ∙ ap (λ (x : Totals). x .total + n) t;
           streams =
               h .streams
-              ∙ ap (λ (x : plain.Item). put-stream (with-message (streamIn vs st p) x) (streamsIn vs st)) (item-is bs at time)
+              ∙ ap (λ (x : plain.Item). put-stream (with-message (streamIn vs st p) x) (streamsIn vs st)) (item-is bs at time bare)
               ∙ rw (in-vs, ins .streams) (put-twice stream-key s (with-message s i) (streamsIn ws st) refl)
               ∙ ap (λ (x : Stream). put-stream (with-message x i) (streamsIn ws st)) fresh-is
               ∙ sym (restore-new (optionsOf (optionsAt ws)) time (recordAt bs at) (streamsIn ws st) missing-record);

@@ -8,11 +8,13 @@ use native.Mathlib.Omega.{arith}
 use borrow.Author.Tests.{lt-ltb, le-ltb}
 use lib.Dec.{ltb}
 use Rattle.queue_words.specs.Flags.{pick}
-use Rattle.queue_words.specs.Header.{optionsAt, totalsAt, schedulerAt, putScheduler}
+use Rattle.queue_words.specs.Header.{optionsAt, totalsAt, schedulerAt, putScheduler, FitsRemembered}
 use Rattle.queue_words.specs.Items.{itemAt}
 use Rattle.queue_words.specs.Known.{knownAt, idAt}
 use Rattle.queue_words.specs.Streams.{streamAt}
 use Rattle.queue_words.specs.declared.header.Options.{Options}
+use Rattle.queue_words.specs.declared.header.Remembered.{Remembered}
+use Rattle.queue_words.specs.declared.header.Remembered.the-variants as remembered
 use Rattle.queue_words.specs.declared.header.SchedulerState.{SchedulerState}
 use Rattle.queue_words.specs.declared.streams.OutgoingStream.{OutgoingStream}
 use Rattle.queue_words.proofs.Laws
@@ -23,7 +25,7 @@ use Rattle.queue_model.specs.Types as plain
 use Rattle.queue_model.specs.Restore.{half-sent-first, first-half-sent, remember-half-sent}
 use Rattle.stream_scheduler.specs.Link.{GoodScheduler, Unlike, entryAt, tableOf, currentOf, modelScheduler}
 use Rattle.stream_scheduler.proofs.Index.{table-same, unlike-same}
-use Rattle.stream_scheduler.proofs.Link.{make, model-of, entry-state, current-some}
+use Rattle.stream_scheduler.proofs.Link.{make, model-of, entry-state, current-some, current-none}
 use Rattle.stream_scheduler.proofs.Frames.{untouched-state}
 use Rattle.queue_state.specs.Chains.{each}
 use Rattle.queue_state.specs.Model.{nextOf, itemIn, rowAt, streamIn, streamsIn, tab}
@@ -67,16 +69,12 @@ module _ (us st : List ℕ) (g : Shape us st) (i : ℕ) (hi : i < totalsAt us .k
 
 -- ---- the first of them
 
-none-current : currentOf 65536 ≡ none
-unfolding currentOf
-none-current = refl
-
 module _ (us st : List ℕ) (g : Shape us st) where
   -- From position i on, n streams to the end.
   first-from : (n i : ℕ) (f : ℕ → Stream) → i + n ≤ totalsAt us .known → ((j : ℕ) → j < n → f j ≡ streamIn us st (i + j))
       → first-half-sent (tab f n) ≡ currentOf (firstHalfSent us i n)
   unfolding tab first-half-sent firstHalfSent
-  first-from zero i f h e = sym none-current
+  first-from zero i f h e = sym current-none
   first-from (suc n) i f h e =
       by (halfSentAt us (knownAt us i)) refl (first-from n (suc i) (λ j. f (suc j)) (omega (arith, h)) (λ j k. let z : i + suc j ≡ suc i + j = omega arith in e (suc j) (omega (arith, k)) ∙ ap (streamIn us st) z))
     where
@@ -93,17 +91,26 @@ module _ (us st : List ℕ) (g : Shape us st) where
       id = ap (λ (s : Stream). s .id) at-i ∙ id-is us st g i hi
 
       by : (b : Bool) → halfSentAt us (knownAt us i) ≡ b → first-half-sent (tab (λ j. f (suc j)) n) ≡ currentOf (firstHalfSent us (suc i) n)
-          → (if half-sent-first ((f 0) .items) then some ((f 0) .id) else first-half-sent (tab (λ j. f (suc j)) n)) ≡ currentOf (pick (halfSentAt us (knownAt us i)) (knownAt us i .id .0) (firstHalfSent us (suc i) n))
-      by true k rest = rw (half, k) (ap some id ∙ sym (current-some (idAt us i) (Laws.known-at-fits us i .id-fits)))
+          → (if half-sent-first ((f 0) .items) then some ((f 0) .id) else first-half-sent (tab (λ j. f (suc j)) n)) ≡ currentOf (pick (halfSentAt us (knownAt us i)) (remembered.Stream (knownAt us i .id)) (firstHalfSent us (suc i) n))
+      by true k rest = rw (half, k) (ap some id ∙ sym (current-some (knownAt us i .id)))
       by false k rest = rw (half, k) rest
 
   first-is : first-half-sent (streamsIn us st) ≡ currentOf (firstHalfSent us 0 (totalsAt us .known))
   unfolding streamsIn
   first-is = first-from (totalsAt us .known) 0 (streamIn us st) (omega arith) (λ j h. let z : j ≡ 0 + j = omega arith in ap (streamIn us st) z)
 
+first-fits : (ws : List ℕ) (n i : ℕ) → FitsRemembered (firstHalfSent ws i n)
+unfolding firstHalfSent
+first-fits ws zero i = tt
+first-fits ws (suc n) i = go (halfSentAt ws (knownAt ws i))
+  where
+    go : (b : Bool) → FitsRemembered (pick b (remembered.Stream (knownAt ws i .id)) (firstHalfSent ws (suc i) n))
+    go true = Laws.known-at-fits ws i .id-fits
+    go false = first-fits ws n (suc i)
+
 -- ---- the scheduler's state with another remembered stream
 
-module _ (ws : List ℕ) (g : GoodScheduler ws) (id : ℕ) where
+module _ (ws : List ℕ) (g : GoodScheduler ws) (id : Remembered) (f : FitsRemembered id) where
   abbrev state : SchedulerState
   state = remembering (schedulerAt ws) id
 
@@ -111,7 +118,7 @@ module _ (ws : List ℕ) (g : GoodScheduler ws) (id : ℕ) where
   us = putScheduler ws state
 
   state-is : schedulerAt us ≡ state
-  state-is = Laws.scheduler-at-put ws state (g .long)
+  state-is = Laws.scheduler-at-put ws state (g .long) f
 
   pub recalls-good : GoodScheduler us
   recalls-good = record {
@@ -141,12 +148,13 @@ pub all-recalled : (il : Bool) (ws st : List ℕ) → Shape ws st → Recalled i
 unfolding recalled remember-half-sent
 all-recalled true ws st g = record { shape = g; same-totals = refl; same-options = refl; same-streams = refl; remembers = refl }
 all-recalled false ws st g =
-    let id : ℕ = firstHalfSent ws 0 (totalsAt ws .known) in
-    let m : Unmoved ws st g (putScheduler ws (remembering (schedulerAt ws) id)) = shape-scheduler ws st _ g (untouched-state ws (remembering (schedulerAt ws) id)) (recalls-good ws (g .schedules) id) in
+    let id : Remembered = firstHalfSent ws 0 (totalsAt ws .known) in
+    let fits : FitsRemembered id = first-fits ws (totalsAt ws .known) 0 in
+    let m : Unmoved ws st g (putScheduler ws (remembering (schedulerAt ws) id)) = shape-scheduler ws st _ g (untouched-state ws (remembering (schedulerAt ws) id)) (recalls-good ws (g .schedules) id fits) in
     record {
       shape = m .shape;
       same-totals = Laws.totals-put-scheduler ws (remembering (schedulerAt ws) id);
       same-options = Laws.options-put-scheduler ws (remembering (schedulerAt ws) id);
       same-streams = m .streams;
-      remembers = recalls-model ws (g .schedules) id ∙ ap (λ (c : Option ℕ). make ((modelScheduler ws) .payload-limit) c ((modelScheduler ws) .system-time) ((modelScheduler ws) .active)) (sym (first-is ws st g));
+      remembers = recalls-model ws (g .schedules) id fits ∙ ap (λ (c : Option ℕ). make ((modelScheduler ws) .payload-limit) c ((modelScheduler ws) .system-time) ((modelScheduler ws) .active)) (sym (first-is ws st g));
     }

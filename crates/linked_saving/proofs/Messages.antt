@@ -10,17 +10,21 @@ use borrow.Author.Tests.{leb-true, ltb-true, ltb-false}
 use lib.Dec.{ltb, leb}
 use lib.ListN.{length}
 use Rattle.queue_words.specs.Flags.{pick}
-use Rattle.queue_words.specs.Items.{itemAt}
+use Rattle.queue_words.specs.Items.{itemAt, hasExpiry, areGiven, midIn, ssnIn}
+use Rattle.queue_words.specs.declared.items.Expiry.{Expiry}
+use Rattle.queue_words.specs.declared.items.Expiry.the-variants.{Never, At}
 use Rattle.queue_words.specs.declared.items.Item.{Item}
+use Rattle.queue_words.specs.declared.items.Numbers.{Numbers}
+use Rattle.queue_words.specs.declared.items.Numbers.the-variants.{Missing, Given}
 use Rattle.queue_model.specs.Logic.{is-some}
 use Rattle.queue_model.specs.Bytes.{row-bytes}
 use Rattle.queue_model.specs.Image.{MessageRecord, message-widths, message-row, message-bytes, messages-bytes, bit, ms-left-at, message-record}
 use Rattle.queue_model.proofs.Image.ReadWrite.{message-bytes-of, messages-bytes-cons}
 use Rattle.payload_store.specs.Good.{payloadOf}
 use Rattle.queue_state.specs.Chains.{each}
-use Rattle.queue_state.specs.Model.{itemOf, itemIn}
+use Rattle.queue_state.specs.Model.{expiresOf, midOf, itemOf, itemIn}
 use Rattle.handover_records.specs.Records.{messageRow}
-use Rattle.saving.specs.Records.{flagsOf, leftAt, msLeft, messageRecord}
+use Rattle.saving.specs.Records.{flagsOf, leftAt, leftOf, msLeft, messageRecord}
 use Rattle.saving.specs.Sound.{ItemOk, AllOk}
 use Rattle.saving.specs.Bytes.{itemBytes, chainBytes}
 use Rattle.saving.proofs.Passing.{pick-by}
@@ -28,16 +32,16 @@ use Rattle.saving.proofs.Lengths.{payload-long}
 
 -- ------------------------------------------------------------------ the fields
 
-flags-same : (u g e : Bool) (mid at : ℕ) → pick u 1 0 + pick g 2 0 + pick e 4 0 ≡ bit u 1 + bit (is-some (pick {A = Option ℕ} g (some mid) none)) 2 + bit (is-some (pick {A = Option ℕ} e (some at) none)) 4
+flags-same : (u : Bool) (n : Numbers) (e : Expiry) → pick u 1 0 + pick (areGiven n) 2 0 + pick (hasExpiry e) 4 0 ≡ bit u 1 + bit (is-some (midOf n)) 2 + bit (is-some (expiresOf e)) 4
 unfolding bit is-some
-flags-same true true true mid at = refl
-flags-same true true false mid at = refl
-flags-same true false true mid at = refl
-flags-same true false false mid at = refl
-flags-same false true true mid at = refl
-flags-same false true false mid at = refl
-flags-same false false true mid at = refl
-flags-same false false false mid at = refl
+flags-same true (Given mid ssn) (At t) = refl
+flags-same true (Given mid ssn) Never = refl
+flags-same true Missing (At t) = refl
+flags-same true Missing Never = refl
+flags-same false (Given mid ssn) (At t) = refl
+flags-same false (Given mid ssn) Never = refl
+flags-same false Missing (At t) = refl
+flags-same false Missing Never = refl
 
 -- "rounded down, 0 if past, at most 2,147,483,647"
 left-same : (time at : ℕ) → leftAt time at ≡ min ((at - time) / 1000000) 2147483647
@@ -59,24 +63,24 @@ left-same time at =
         let z : at - time ≡ 0 = omega (arith, h) in
         rw z
 
-left-given : (e : Bool) (time at : ℕ) → pick e (leftAt time at) 0 ≡ ms-left-at time (pick e (some at) none)
+left-given : (e : Expiry) (time : ℕ) → leftOf e time ≡ ms-left-at time (expiresOf e)
 unfolding ms-left-at
-left-given true time at = left-same time at
-left-given false time at = refl
+left-given Never time = refl
+left-given (At t) time = left-same time t
 
-mid-given : (g : Bool) (mid : ℕ) → pick g mid 0 ≡ Option·getD (pick g (some mid) none) 0
-mid-given true mid = refl
-mid-given false mid = refl
+mid-given : (n : Numbers) → midIn n .0 ≡ Option·getD (midOf n) 0
+mid-given Missing = refl
+mid-given (Given mid ssn) = refl
 
 -- ------------------------------------------------------------------ the record
 
 row-same : (m : Item) (id time : ℕ) (bs : List ℕ) → m .length ≡ length bs → messageRow (messageRecord m id time) ≡ message-row (message-record time id (itemOf m bs))
 unfolding messageRecord message-record msLeft
 row-same m id time bs h =
-    fields (flagsOf m) _ (msLeft m time) _ _ _ (m .length) _ (flags-same (m .unordered) (m .«mid_given») (m .expires) (m .mid .0) (m .«expires_at»)) (left-given (m .expires) time (m .«expires_at»)) (mid-given (m .«mid_given») (m .mid .0)) h
+    fields (flagsOf m) _ (msLeft m time) _ _ _ (m .length) _ (flags-same (m .unordered) (m .numbers) (m .«expires_at»)) (left-given (m .«expires_at») time) (mid-given (m .numbers)) h
   where
     row : ℕ → ℕ → ℕ → ℕ → List ℕ
-    row f l d n = id ∷ f ∷ 0 ∷ m .ppid ∷ l ∷ m .«max_retransmissions» ∷ m .ssn .0 ∷ d ∷ m .fsn .0 ∷ m .«lifecycle_id» ∷ m .«message_id» .0 ∷ m .offset ∷ n ∷ []
+    row f l d n = id ∷ f ∷ 0 ∷ m .ppid ∷ l ∷ m .«max_retransmissions» ∷ ssnIn (m .numbers) .0 ∷ d ∷ m .fsn .0 ∷ m .«lifecycle_id» ∷ m .«message_id» .0 ∷ m .offset ∷ n ∷ []
 
     fields : (f f′ l l′ d d′ n n′ : ℕ) → f ≡ f′ → l ≡ l′ → d ≡ d′ → n ≡ n′ → row f l d n ≡ row f′ l′ d′ n′
     fields f f′ l l′ d d′ n n′ a b c e = rw (a, b, c, e)

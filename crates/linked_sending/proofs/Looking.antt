@@ -8,6 +8,8 @@ use native.Mathlib.Omega.{arith}
 use borrow.Author.Tests.{lt-ltb, le-ltb, le-leb, lt-leb}
 use lib.Dec.{ltb, leb}
 use lib.ListN.{length}
+use Rattle.queue_words.specs.declared.items.Expiry.the-variants.{Never, At}
+use Rattle.queue_words.specs.declared.items.Expiry.{Expiry}
 use Rattle.queue_words.specs.Flags.{pick}
 use Rattle.queue_words.specs.Active.{activeAt}
 use Rattle.queue_words.specs.Find.{findStream}
@@ -34,10 +36,10 @@ use Rattle.stream_scheduler.specs.declared.Peeked.{Peeked}
 use Rattle.stream_scheduler.specs.declared.Peeked.the-variants as peeked
 use Rattle.stream_scheduler.proofs.Handing.{peek-link}
 use Rattle.stream_scheduler.proofs.Link.{entry-row}
-use Rattle.queue_sending.specs.Choice.{expiredBy, lookAt, lookFor, lookAhead, lookPeeked}
+use Rattle.queue_sending.specs.Choice.{expiredBy, lookAt, lookFor, lookAhead, lookPeeked, isPast}
 use Rattle.queue_sending.specs.declared.choice.Look.the-variants as words-look
 use Rattle.queue_state.specs.Chains.{each, Linked}
-use Rattle.queue_state.specs.Model.{nextOf, itemIn, rowAt, streamIn, streamsIn, model}
+use Rattle.queue_state.specs.Model.{nextOf, itemIn, rowAt, streamIn, streamsIn, model, expiresOf}
 use Rattle.queue_state.specs.Good.{Row, Shape, Good}
 use Rattle.queue_state.proofs.Chains.{linked-none, linked-some}
 use Rattle.queue_state.proofs.Splits.{by-index}
@@ -77,11 +79,11 @@ test-same t time = by-lt time t
 
 pub expired-is : (ws st : List ℕ) (x time : ℕ) → expired time ((itemIn ws st x) .expires-at) ≡ expiredBy (itemAt ws x) time
 unfolding itemIn expiredBy
-expired-is ws st x time = go (itemAt ws x .expires) (itemAt ws x .«expires_at»)
+expired-is ws st x time = go (itemAt ws x .«expires_at»)
   where
-    go : (b : Bool) (t : ℕ) → expired time (pick b (some t) none) ≡ pick b (leb t time) false
-    go true t = test-same t time
-    go false t = refl
+    go : (e : Expiry) → expired time (expiresOf e) ≡ isPast e time
+    go Never = refl
+    go (At t) = test-same t time
 
 -- ---- the choice
 

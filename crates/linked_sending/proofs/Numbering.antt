@@ -8,12 +8,15 @@ use native.Mathlib.Omega.{arith}
 use lib.Dec.{eqb}
 use lib.ListN.{length, take, drop, length-drop}
 use lib.Seq.{length-take-le}
+use Rattle.message_chains.specs.Numbers.{withNumbers}
+use Rattle.queue_words.specs.declared.items.Numbers as words
+use Rattle.queue_words.specs.declared.items.Numbers.the-variants.{Missing, Given}
 use Rattle.types.specs.Keys.{key-of}
 use borrow.Author.Tests.{le-ltb}
 use Rattle.types.specs.Wrap.{wrapping-add}
 use Rattle.types.proofs.Width.{wrap-one, wrap-fits}
 use Rattle.queue_words.specs.Flags.{pick}
-use Rattle.queue_words.specs.Items.{FitsItem}
+use Rattle.queue_words.specs.Items.{FitsItem, areGiven, midIn}
 use Rattle.queue_words.specs.Streams.{FitsStream}
 use Rattle.queue_words.specs.declared.items.Item.{Item}
 use Rattle.queue_words.specs.declared.streams.OutgoingStream.{OutgoingStream}
@@ -22,12 +25,12 @@ use Rattle.queue_model.specs.Types as plain
 use Rattle.queue_model.specs.Logic.{if_then_else_}
 use Rattle.queue_model.specs.Produce.{Numbered, numbered, numbered-in, give-numbers, make-fragment, moved-on}
 use Rattle.message_chains.specs.Amounts.{rest, sum}
-use Rattle.queue_sending.specs.Data.{expiryOf, shownLifecycle, dataToSend}
-use Rattle.queue_sending.specs.Numbers.{numberedItem, numberedStream, movedOn, withNumbers, withCounters, nextMid, nextSsn}
+use Rattle.queue_sending.specs.Data.{shownLifecycle, dataToSend}
+use Rattle.queue_sending.specs.Numbers.{numberedItem, numberedStream, nextNumbers, movedOn, withCounters, nextMid, nextSsn}
 use Rattle.queue_sending.specs.declared.data.DataToSend.{DataToSend}
-use Rattle.queue_sending.specs.declared.data.Expiry.{Expiry}
-use Rattle.queue_sending.specs.declared.data.Expiry.the-variants.{Never, At}
-use Rattle.queue_state.specs.Model.{itemOf, streamOf}
+use Rattle.queue_words.specs.declared.items.Expiry.{Expiry}
+use Rattle.queue_words.specs.declared.items.Expiry.the-variants.{Never, At}
+use Rattle.queue_state.specs.Model.{itemOf, streamOf, expiresOf, midOf}
 use Rattle.linked_sending.specs.Meaning as meaning
 
 -- ---- the numbers
@@ -40,16 +43,15 @@ numbersOf s m bs = numbered ((streamOf 0 s []) .counters) (itemOf m bs)
 pub record Numbers (s : OutgoingStream) (m : Item) (bs : List ℕ) : Type 0 where
   pub item-is : (numbersOf s m bs) .item ≡ itemOf (numberedItem s m) bs
   pub counters-are : (numbersOf s m bs) .counters ≡ (streamOf 0 (numberedStream s m) []) .counters
-  pub given : numberedItem s m .«mid_given» ≡ true
 
 pub numbers : (s : OutgoingStream) (m : Item) (bs : List ℕ) → Numbers s m bs
 unfolding numbered numbered-in give-numbers numberedItem numberedStream
-numbers s m bs = go (m .«mid_given») refl (m .unordered) refl
+numbers s m bs = go (m .numbers) refl (m .unordered) refl
   where
-    go : (a : Bool) → m .«mid_given» ≡ a → (b : Bool) → m .unordered ≡ b → Numbers s m bs
-    go true e b f = record { item-is = rw e; counters-are = rw e; given = rw e }
-    go false e true f = record { item-is = rw (e, f); counters-are = rw (e, f, wrap-one 32 (s .«next_unordered_mid» .0)); given = rw (e, f) }
-    go false e false f = record { item-is = rw (e, f); counters-are = rw (e, f, wrap-one 16 (s .«next_ssn» .0), wrap-one 32 (s .«next_ordered_mid» .0)); given = rw (e, f) }
+    go : (a : words.Numbers) → m .numbers ≡ a → (b : Bool) → m .unordered ≡ b → Numbers s m bs
+    go (Given mid ssn) e b f = record { item-is = rw e; counters-are = rw e }
+    go Missing e true f = record { item-is = rw (e, f); counters-are = rw (e, f, wrap-one 32 (s .«next_unordered_mid» .0)) }
+    go Missing e false f = record { item-is = rw (e, f); counters-are = rw (e, f, wrap-one 16 (s .«next_ssn» .0), wrap-one 32 (s .«next_ordered_mid» .0)) }
 
 -- Numbers leave the rest of a message and of its stream.
 pub record Renumbered (s : OutgoingStream) (m : Item) : Type 0 where
@@ -66,18 +68,22 @@ pub record Renumbered (s : OutgoingStream) (m : Item) : Type 0 where
 
 pub renumbered : (s : OutgoingStream) (m : Item) → Renumbered s m
 unfolding numberedItem numberedStream
-renumbered s m = go (m .«mid_given») refl (m .unordered) refl
+renumbered s m = go (areGiven (m .numbers)) refl (m .unordered) refl
   where
-    go : (a : Bool) → m .«mid_given» ≡ a → (b : Bool) → m .unordered ≡ b → Renumbered s m
+    go : (a : Bool) → areGiven (m .numbers) ≡ a → (b : Bool) → m .unordered ≡ b → Renumbered s m
     go true e b f = record { offset-same = rw e; length-same = rw e; next-same = rw e; place-same = rw e; first-same = rw e; last-same = rw e; amount-same = rw e; threshold-same = rw e; priority-same = rw e; state-same = rw e }
     go false e true f = record { offset-same = rw (e, f); length-same = rw (e, f); next-same = rw (e, f); place-same = rw (e, f); first-same = rw (e, f); last-same = rw (e, f); amount-same = rw (e, f); threshold-same = rw (e, f); priority-same = rw (e, f); state-same = rw (e, f) }
     go false e false f = record { offset-same = rw (e, f); length-same = rw (e, f); next-same = rw (e, f); place-same = rw (e, f); first-same = rw (e, f); last-same = rw (e, f); amount-same = rw (e, f); threshold-same = rw (e, f); priority-same = rw (e, f); state-same = rw (e, f) }
 
 -- ---- the fragment
 
-expiry-is : (b : Bool) (t : ℕ) → meaning.expiryOf (pick b (some t) none) ≡ pick b (At t) Never
-expiry-is true t = refl
-expiry-is false t = refl
+expiry-is : (e : Expiry) → meaning.expiryOf (expiresOf e) ≡ e
+expiry-is Never = refl
+expiry-is (At t) = refl
+
+mid-is : (n : words.Numbers) → Option·getD (midOf n) 0 ≡ midIn n .0
+mid-is Missing = refl
+mid-is (Given mid ssn) = refl
 
 shown-is : (b : Bool) (n : ℕ) → (if b then n else 0) ≡ pick b n 0
 shown-is true n = refl
@@ -88,14 +94,15 @@ pub part-length : (bs : List ℕ) (off n : ℕ) → off + n ≤ length bs → le
 part-length bs off n h = length-take-le n (drop off bs) (simp length-drop (omega arith))
 
 -- What goes with the fragment of n bytes.
-pub data-is : (s : Stream) (m : Item) (bs : List ℕ) (n : ℕ) → m .«mid_given» ≡ true → length bs ≡ m .length → m .offset + n ≤ m .length
+pub data-is : (s : Stream) (m : Item) (bs : List ℕ) (n : ℕ) → length bs ≡ m .length → m .offset + n ≤ m .length
     → meaning.dataOf (make-fragment s (itemOf m bs) n) ≡ dataToSend (s .id) m n
-unfolding make-fragment dataToSend expiryOf shownLifecycle rest
-data-is s m bs n g e h =
+unfolding make-fragment dataToSend shownLifecycle rest
+data-is s m bs n e h =
     let l : length (take n (drop (m .offset) bs)) ≡ n = part-length bs (m .offset) n (omega arith) in
-    let x = expiry-is (m .expires) (m .«expires_at») in
+    let x = expiry-is (m .«expires_at») in
+    let d = mid-is (m .numbers) in
     let y = shown-is (eqb n (m .length - m .offset)) (m .«lifecycle_id») in
-    rw (l, g, e, x, y)
+    rw (l, d, e, x, y)
 
 -- ---- their widths
 
@@ -104,7 +111,7 @@ add-fits w n = rw (wrap-one w n) (wrap-fits w n)
 
 pub stream-fits : (s : OutgoingStream) (m : Item) → FitsStream s → FitsStream (numberedStream s m)
 unfolding numberedStream
-stream-fits s m f = go (m .«mid_given») (m .unordered)
+stream-fits s m f = go (areGiven (m .numbers)) (m .unordered)
   where
     go : (a b : Bool) → FitsStream (pick a s (pick b (withCounters s (s .«next_ssn») (nextMid (s .«next_unordered_mid»)) (s .«next_ordered_mid»)) (withCounters s (nextSsn (s .«next_ssn»)) (s .«next_unordered_mid») (nextMid (s .«next_ordered_mid»)))))
     go true b = f
@@ -123,9 +130,9 @@ stream-fits s m f = go (m .«mid_given») (m .unordered)
 
 pub item-fits : (s : OutgoingStream) (m : Item) → FitsStream s → FitsItem m → FitsItem (numberedItem s m)
 unfolding numberedItem
-item-fits s m f g = go (m .«mid_given») (m .unordered)
+item-fits s m f g = go (areGiven (m .numbers)) (m .unordered)
   where
-    go : (a b : Bool) → FitsItem (pick a m (pick b (withNumbers m (s .«next_unordered_mid») (record { 0 = 0 })) (withNumbers m (s .«next_ordered_mid») (s .«next_ssn»))))
+    go : (a b : Bool) → FitsItem (pick a m (withNumbers m (nextNumbers s b)))
     go true b = g
     go false true = record {
       ssn-fits = omega arith;

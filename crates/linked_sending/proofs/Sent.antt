@@ -234,7 +234,7 @@ module _ (ws st : List ℕ) (g : Good ws st) (at : ℕ) (c : Choice ws st (g .sh
 
     data-same : dataOf f ≡ dataToSend id m′ n
     data-same =
-        let d = data-is t m′ (payloadOf ws st (c .first)) n (numbers-are .given) (length-is ∙ sym (renumbered s m .length-same)) part-fits′ in
+        let d = data-is t m′ (payloadOf ws st (c .first)) n (length-is ∙ sym (renumbered s m .length-same)) part-fits′ in
         rw item-is (d ∙ ap (λ k. dataToSend k m′ n) (stream-facts .0))
 
     bytes-are : f .bytes ≡ take n (drop (m .offset) (payloadOf ws st (c .first)))

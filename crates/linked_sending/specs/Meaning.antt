@@ -11,8 +11,8 @@ use Rattle.queue_model.specs.Run as run
 use Rattle.queue_streams.specs.Events.{placesIn, written}
 use Rattle.queue_sending.specs.declared.data.Data.{Data}
 use Rattle.queue_sending.specs.declared.data.DataToSend.{DataToSend}
-use Rattle.queue_sending.specs.declared.data.Expiry.{Expiry}
-use Rattle.queue_sending.specs.declared.data.Expiry.the-variants.{Never, At}
+use Rattle.queue_words.specs.declared.items.Expiry.{Expiry}
+use Rattle.queue_words.specs.declared.items.Expiry.the-variants.{Never, At}
 use Rattle.queue_sending.specs.declared.data.Produced.{Produced}
 use Rattle.queue_sending.specs.declared.data.Produced.the-variants as produced
 use Rattle.queue_sending.specs.Data.{ProducedWith, producedWith, producedNumber, producedEvents, producedData}

@@ -4,6 +4,7 @@ pub mod amounts;
 pub mod dropping;
 pub mod heads;
 pub mod notes;
+pub mod numbers;
 
 pub use amounts::minus;
 pub use amounts::plus;
@@ -18,3 +19,4 @@ pub use heads::without_head;
 pub use notes::lifecycle_events;
 pub use notes::low_event;
 pub use notes::note;
+pub use numbers::with_numbers;

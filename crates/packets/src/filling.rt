@@ -29,8 +29,7 @@ use queue_streams::events::EVENT_WORDS;
 use queue_words::QUEUE_WORDS;
 use queue_words::header::load_options;
 use queue_words::header::load_totals;
-
-const MAX_TIME: u64 = 4611686018427387903;
+use queue_words::limits::MAX_TIME;
 
 // The refusals that the arguments decide: 20, 21, then document 01's 2, 3, 4, or 0.
 fn fill_code(

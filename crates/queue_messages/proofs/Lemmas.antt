@@ -22,6 +22,7 @@ use Rattle.queue_messages.specs.Add.{argumentsCode, HasPlace, rowFor}
 use Rattle.queue_messages.specs.Create.{freed}
 use Rattle.queue_messages.specs.Message.{nanoseconds}
 use Rattle.queue_messages.specs.declared.message.Lifetime.{Lifetime}
+use Rattle.queue_messages.specs.declared.message.Lifetime.the-variants as life
 
 -- the places freed so far
 pub freed-none : (ws : List ℕ) → ws ≡ freed ws 0
@@ -68,3 +69,7 @@ pub row-fits : (ws : List ℕ) (p : Place) → HasPlace ws p → rowFor ws p < 2
 row-fits ws (place.Row row) h = h
 row-fits ws (place.New position) h = h .1
 row-fits ws (place.Refused code) h = omega arith
+
+-- a lifetime that is given keeps the bound
+pub limited-fits : (l : Lifetime) (n : ℕ) → l ≡ life.Limited n → nanoseconds l ≤ 4611686018427387903 → n ≤ 4611686018427387903
+limited-fits l n e h = subst (λ (x : Lifetime). nanoseconds x ≤ 4611686018427387903) e h

@@ -8,6 +8,7 @@ use Rattle.queue_words.specs.Flags.{pick}
 use Rattle.queue_words.specs.Header.{isStrict, putOptions, putTotals, putScheduler}
 use Rattle.queue_words.specs.Items.{putNext, putPlace, putLength}
 use Rattle.queue_words.specs.declared.header.Options.{Options}
+use Rattle.queue_words.specs.declared.header.Remembered.the-variants.{NoStream}
 use Rattle.queue_words.specs.declared.header.RestartRule.{RestartRule}
 use Rattle.queue_words.specs.declared.header.SchedulerState.{SchedulerState}
 use Rattle.queue_words.specs.declared.header.Totals.{Totals}
@@ -34,7 +35,7 @@ newTotals = record {
 
 -- no stream waits, none is remembered
 abbrev pub newScheduler : SchedulerState
-newScheduler = record { current = 65536; «system_virtual_time» = 0; active = 0 }
+newScheduler = record { current = NoStream; «system_virtual_time» = 0; active = 0 }
 
 -- the first n places are free, chained in their order; none has a payload, and none points past the store
 unfoldable pub freed : List ℕ → ℕ → List ℕ

@@ -7,6 +7,7 @@ use queue_streams::answers::Call;
 use queue_words::QUEUE_WORDS;
 use queue_words::header::Gaps;
 use queue_words::header::Options;
+use queue_words::header::Remembered;
 use queue_words::header::RestartRule;
 use queue_words::header::SchedulerState;
 use queue_words::header::Totals;
@@ -79,7 +80,7 @@ fn write_new(queue: &mut [u64; QUEUE_WORDS], o: Options)
     store_scheduler_state(
         queue,
         SchedulerState {
-            current: 65536,
+            current: Remembered::NoStream,
             system_virtual_time: 0,
             active: 0,
         },

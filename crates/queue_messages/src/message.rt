@@ -1,13 +1,13 @@
 // A message as it is handed over, and as it waits.
 ghost use mathlib.Core.Path.{_≡_};
 ghost use Prim.Native.Nat.{_≤_};
-ghost use Rattle.queue_messages.specs.Message.{retransmissions, isLimited, nanoseconds, expiry, newItem};
+ghost use Rattle.queue_messages.specs.Message.{retransmissions, nanoseconds, expiry, newItem};
+use queue_words::items::Expiry;
 use queue_words::items::Item;
+use queue_words::items::Numbers;
 use queue_words::limits::NO_MESSAGE;
 use types::Fsn;
-use types::Mid;
 use types::OutgoingMessageId;
-use types::Ssn;
 use types::StreamId;
 
 // "Option becomes an enum".
@@ -41,15 +41,6 @@ fn retransmissions(m: MaxRetransmissions) -> u16
     }
 }
 
-pub fn is_limited(l: Lifetime) -> bool
-    ensures { λ r. ⌜ r ≡ isLimited l ⌝ }
-{
-    match l {
-        Lifetime::Unlimited => false,
-        Lifetime::Limited(_) => true,
-    }
-}
-
 // A lifetime's nanoseconds, 0 where there is none.
 pub fn nanoseconds(l: Lifetime) -> u64
     ensures { λ r. ⌜ r ≡ nanoseconds l ⌝ }
@@ -61,16 +52,14 @@ pub fn nanoseconds(l: Lifetime) -> u64
 }
 
 // "a lifetime sets now + lifetime + 1 ms, else never".
-fn expiry(time: u64, l: Lifetime) -> u64
+fn expiry(time: u64, l: Lifetime) -> Expiry
     requires { ⌜ (time ≤ 4611686018427387903) × (nanoseconds l ≤ 4611686018427387903) ⌝ }
     ensures { λ r. ⌜ r ≡ expiry time l ⌝ }
 {
-    let limited = is_limited(l);
-    if limited {
-        let n = nanoseconds(l);
-        return time + n + 1000000;
+    match l {
+        Lifetime::Unlimited => Expiry::Never,
+        Lifetime::Limited(n) => Expiry::At(time + n + 1000000),
     }
-    0
 }
 
 // The message as it waits, the last of its chain, its payload not yet stored (Rust: Item::new).
@@ -79,19 +68,15 @@ pub fn new_item(time: u64, id: OutgoingMessageId, m: Message) -> Item
     ensures { λ r. ⌜ r ≡ newItem time id m ⌝ }
 {
     let lifetime = m.lifetime;
-    let expires = is_limited(lifetime);
     let expires_at = expiry(time, lifetime);
     let given = m.max_retransmissions;
     let max_retransmissions = retransmissions(given);
     Item {
-        ssn: Ssn(0),
         max_retransmissions: max_retransmissions,
         unordered: m.unordered,
-        mid_given: false,
-        expires: expires,
         message_id: id,
         ppid: m.ppid,
-        mid: Mid(0),
+        numbers: Numbers::Missing,
         fsn: Fsn(0),
         expires_at: expires_at,
         lifecycle_id: m.lifecycle_id,

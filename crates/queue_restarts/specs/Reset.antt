@@ -10,6 +10,7 @@ use Rattle.queue_words.specs.Known.{knownAt}
 use Rattle.queue_words.specs.Streams.{streamAt, putStream}
 use Rattle.queue_words.specs.declared.header.Totals.{Totals}
 use Rattle.queue_words.specs.declared.items.Item.{Item}
+use Rattle.queue_words.specs.declared.items.Numbers.the-variants.{Missing}
 use Rattle.queue_words.specs.declared.streams.OutgoingStream.{OutgoingStream}
 use Rattle.queue_words.specs.declared.streams.PauseState.the-variants.{NotPaused}
 use Rattle.queue_streams.specs.Settings.{Called, called}
@@ -62,14 +63,11 @@ wholeStream s back = record {
 -- to 0."
 abbrev pub wholeItem : Bool → Item → Item
 wholeItem strict m = record {
-  ssn = pick strict (record { 0 = 0 }) (m .ssn);
   «max_retransmissions» = m .«max_retransmissions»;
   unordered = m .unordered;
-  «mid_given» = pick strict false (m .«mid_given»);
-  expires = m .expires;
   «message_id» = m .«message_id»;
   ppid = m .ppid;
-  mid = pick strict (record { 0 = 0 }) (m .mid);
+  numbers = pick strict Missing (m .numbers);
   fsn = pick strict (record { 0 = 0 }) (m .fsn);
   «expires_at» = m .«expires_at»;
   «lifecycle_id» = m .«lifecycle_id»;

@@ -6,6 +6,7 @@ ghost use Rattle.queue_restarts.specs.Reset.{putBack, sumStream, sumKnow
 use message_chains::amounts::minus;
 use message_chains::amounts::plus;
 use message_chains::amounts::remaining;
+use message_chains::numbers::with_numbers;
 use queue_streams::answers::Call;
 use queue_streams::waiting::reschedule;
 use queue_streams::waiting::room_for;
@@ -14,6 +15,7 @@ use queue_words::header::load_options;
 use queue_words::header::load_totals;
 use queue_words::header::store_totals;
 use queue_words::items::Item;
+use queue_words::items::Numbers;
 use queue_words::items::load_item;
 use queue_words::items::store_item;
 use queue_words::known::load_known;
@@ -24,7 +26,9 @@ use queue_words::streams::OutgoingStream;
 use queue_words::streams::PauseState;
 use queue_words::streams::load_stream;
 use queue_words::streams::store_stream;
+use types::Fsn;
 use types::Mid;
+use types::OutgoingMessageId;
 use types::Ssn;
 
 // The sent bytes of a head message, which come back.
@@ -116,10 +120,8 @@ fn whole_item(m: Item, strict: bool) -> Item
     let mut o = m;
     o.offset = 0;
     if strict {
-        o.mid_given = false;
-        o.mid.0 = 0;
-        o.ssn.0 = 0;
         o.fsn.0 = 0;
+        return with_numbers(o, Numbers::Missing);
     }
     o
 }

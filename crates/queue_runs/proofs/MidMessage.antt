@@ -26,6 +26,8 @@ use Rattle.queue_sending.specs.declared.data.Produced.the-variants as produced
 use Rattle.queue_state.specs.Promise as promise
 use Rattle.queue_state.proofs.Singles.{model-schedules}
 use Rattle.linked_sending.specs.Meaning.{dataOf}
+use Rattle.queue_words.specs.declared.header.Remembered.{Remembered}
+use Rattle.queue_words.specs.declared.header.Remembered.the-variants as recalled
 use Rattle.queue_runs.specs.Calls.{Call, add, produce, fill, discard, close, ready-ids, commit, rollback, reset, set-threshold, set-priority, set-interleaving, restore, ask-priority, ask-amount, ask-threshold, ask-total, ask-empty, ask-has-data, ask-streams-ready, ask-ready-count, ask-readiness, callOf, Typed, Shown, called, sent}
 use Rattle.queue_runs.specs.Run.{State, step}
 use Rattle.queue_runs.specs.Meaning.{queueOf, Good, sentOf}
@@ -91,13 +93,10 @@ never-stands {a} {len} (later {s = s} n c t u) =
 
 -- ------------------------------------------------------------------ the remembered stream
 
-current-back : (c k : ℕ) → currentOf c ≡ some k → c ≡ k
+current-back : (c : Remembered) (k : ℕ) → currentOf c ≡ some k → c ≡ recalled.Stream (record { 0 = k })
 unfolding currentOf
-current-back c k e = go (ltb c 65536) e
-  where
-    go : (b : Bool) → _≡_ {A = Option ℕ} (if b then some c else none) (some k) → c ≡ k
-    go true f = cc
-    go false f = let z : _≡_ {A = ℕ} 0 1 = cc in absurd (omega arith)
+current-back recalled.NoStream k e = let z : _≡_ {A = ℕ} 0 1 = cc in absurd (omega arith)
+current-back (recalled.Stream id) k e = let z : id .0 ≡ k = cc in λ p. recalled.Stream (record { 0 = z p })
 
 schedules-current : (ws : List ℕ) → (modelScheduler ws) .current ≡ currentOf (schedulerAt ws .current)
 unfolding modelScheduler

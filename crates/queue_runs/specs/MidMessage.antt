@@ -7,6 +7,7 @@ use mathlib.Core.Option.{Option, some}
 use lib.ListN.{length}
 use Rattle.types.specs.Keys.{key-id}
 use Rattle.queue_words.specs.Header.{schedulerAt}
+use Rattle.queue_words.specs.declared.header.Remembered.the-variants as remembered
 use Rattle.queue_model.specs.Types.{Item, Stream, expired}
 use Rattle.queue_model.specs.Streams.{find-stream}
 use Rattle.queue_model.specs.Image.{Handover}
@@ -56,12 +57,12 @@ pub data NeverInterleaved (a : Arguments) (len : ℕ) : State → Type 0 where
   at-first : {before : State} → Creates a before → length (before .store) ≡ len → NeverInterleaved a len (newState a before)
   later : {s : State} → NeverInterleaved a len s → (c : Call) → Typed c → Uninterrupted c s → NeverInterleaved a len (step c s .next)
 
--- "a half-sent head on a waiting stream means that this stream is remembered": the scheduler's word has its id.
+-- "a half-sent head on a waiting stream means that this stream is remembered"; the words have it.
 unfoldable pub Request10-remembered : Type 0
 Request10-remembered =
     (a : Arguments) (len : ℕ) (s : State) (k : ℕ) (x : Stream)
     → NeverInterleaved a len s → find-stream k (queueOf s .streams) ≡ some x → half-sent-first (x .items) ≡ true → is-waiting k (queueOf s) ≡ true
-    → schedulerAt (s .words) .current ≡ k
+    → schedulerAt (s .words) .current ≡ remembered.Stream (record { 0 = k })
 
 -- What a fragment shows is of the message i of the stream k, and not its first one.
 pub record RestOf (k : ℕ) (i : Item) (d : DataToSend) : Type 0 where

@@ -12,7 +12,7 @@ use Rattle.queue_words.specs.Flags.{pick}
 use Rattle.payload_store.specs.Reading.{readPart}
 use Rattle.message_chains.specs.Heads.{sentNotes}
 use Rattle.queue_words.specs.Active.{activeAt}
-use Rattle.queue_words.specs.Items.{itemAt}
+use Rattle.queue_words.specs.Items.{itemAt, areGiven}
 use Rattle.queue_words.specs.Streams.{streamAt}
 use Rattle.queue_words.specs.Header.{optionsAt, totalsAt}
 use Rattle.queue_words.specs.declared.header.Totals.{Totals}
@@ -44,7 +44,7 @@ true-false e = let z : _≡_ {A = ℕ} 0 1 = cc in omega arith
 -- giving numbers leaves the stream its messages
 numbered-first : (s : OutgoingStream) (m : Item) → numberedStream s m .first ≡ s .first
 unfolding numberedStream
-numbered-first s m = by (m .«mid_given») (m .unordered) _ _ refl refl
+numbered-first s m = by (areGiven (m .numbers)) (m .unordered) _ _ refl refl
   where
     by : (a b : Bool) (x y : OutgoingStream) → x .first ≡ s .first → y .first ≡ s .first → pick a s (pick b x y) .first ≡ s .first
     by true b x y e g = refl

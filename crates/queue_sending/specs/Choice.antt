@@ -8,6 +8,8 @@ use Rattle.queue_words.specs.Active.{activeAt}
 use Rattle.queue_words.specs.Find.{findStream}
 use Rattle.queue_words.specs.Items.{itemAt}
 use Rattle.queue_words.specs.Streams.{streamAt}
+use Rattle.queue_words.specs.declared.items.Expiry.{Expiry}
+use Rattle.queue_words.specs.declared.items.Expiry.the-variants.{Never, At}
 use Rattle.queue_words.specs.declared.items.Item.{Item}
 use Rattle.queue_words.specs.declared.known.Found.{Found}
 use Rattle.queue_words.specs.declared.known.Found.the-variants as found
@@ -18,8 +20,12 @@ use Rattle.queue_sending.specs.declared.choice.Look.{Look}
 use Rattle.queue_sending.specs.declared.choice.Look.the-variants as look
 
 -- "A message expires exactly if its time is at or before now".
+abbrev pub isPast : Expiry → ℕ → Bool
+isPast Never time = false
+isPast (At t) time = leb t time
+
 unfoldable pub expiredBy : Item → ℕ → Bool
-expiredBy m time = pick (m .expires) (leb (m .«expires_at») time) false
+expiredBy m time = isPast (m .«expires_at») time
 
 -- The head of the stream in a row; 16: "The scheduler chose a stream with no waiting message".
 unfoldable pub lookAt : List ℕ → ℕ → ℕ → ℕ → ℕ → Look

@@ -5,18 +5,13 @@ use mathlib.Core.List.{List, [], _∷_}
 use lib.Dec.{eqb}
 use Rattle.types.specs.Keys.{key-of}
 use Rattle.queue_words.specs.Flags.{pick}
+use Rattle.queue_words.specs.Items.{midIn, ssnIn}
 use Rattle.queue_words.specs.declared.items.Item.{Item}
 use Rattle.message_chains.specs.Amounts.{rest}
 use Rattle.queue_sending.specs.declared.data.Data.{Data}
 use Rattle.queue_sending.specs.declared.data.DataToSend.{DataToSend}
-use Rattle.queue_sending.specs.declared.data.Expiry.{Expiry}
-use Rattle.queue_sending.specs.declared.data.Expiry.the-variants.{Never, At}
 use Rattle.queue_sending.specs.declared.data.Produced.{Produced}
 use Rattle.queue_sending.specs.declared.data.Produced.the-variants as produced
-
--- "expiry time or never"
-unfoldable pub expiryOf : Item → Expiry
-expiryOf m = pick (m .expires) (At (m .«expires_at»)) Never
 
 -- "Only the last fragment shows the lifecycle id."
 unfoldable pub shownLifecycle : Item → Bool → ℕ
@@ -26,8 +21,8 @@ shownLifecycle m last = pick last (m .«lifecycle_id») 0
 abbrev pub dataOf : ℕ → Item → ℕ → Data
 dataOf id m n = record {
   «stream_key» = key-of (m .unordered) (record { 0 = id });
-  ssn = m .ssn;
-  mid = m .mid;
+  ssn = ssnIn (m .numbers);
+  mid = midIn (m .numbers);
   fsn = m .fsn;
   ppid = m .ppid;
   «is_beginning» = eqb (m .offset) 0;
@@ -42,7 +37,7 @@ dataToSend id m n = record {
   «message_id» = m .«message_id»;
   «data» = dataOf id m n;
   «max_retransmissions» = m .«max_retransmissions»;
-  «expires_at» = expiryOf m;
+  «expires_at» = m .«expires_at»;
   «lifecycle_id» = shownLifecycle m (eqb n (rest m));
 }
 

@@ -1,14 +1,18 @@
 -- The numbers of a message. Assumes nothing.
 use Prim.Native.Nat.{ℕ}
-use mathlib.Core.Bool.{true}
+use mathlib.Core.Bool.{Bool}
 use Rattle.types.specs.Wrap.{wrapping-add}
 use Rattle.types.specs.declared.Fsn.{Fsn}
 use Rattle.types.specs.declared.Mid.{Mid}
 use Rattle.types.specs.declared.Ssn.{Ssn}
 use Rattle.queue_words.specs.Flags.{pick}
+use Rattle.queue_words.specs.Items.{areGiven}
 use Rattle.queue_words.specs.declared.items.Item.{Item}
+use Rattle.queue_words.specs.declared.items.Numbers.{Numbers}
+use Rattle.queue_words.specs.declared.items.Numbers.the-variants.{Given}
 use Rattle.queue_words.specs.declared.streams.OutgoingStream.{OutgoingStream}
 use Rattle.message_chains.specs.Amounts.{sum}
+use Rattle.message_chains.specs.Numbers.{withNumbers}
 
 -- "MID (message identifier) and FSN (fragment number) are 32 bits, SSN (stream sequence number) 16, and each adds modulo its width": the next ones.
 abbrev pub nextMid : Mid → Mid
@@ -20,32 +24,13 @@ nextSsn s = record { 0 = wrapping-add 16 (s .0) 1 }
 abbrev pub nextFsn : Fsn → Fsn
 nextFsn f = record { 0 = wrapping-add 32 (f .0) 1 }
 
--- a message with its MID and SSN
-abbrev pub withNumbers : Item → Mid → Ssn → Item
-withNumbers m mid ssn = record {
-  ssn = ssn;
-  «max_retransmissions» = m .«max_retransmissions»;
-  unordered = m .unordered;
-  «mid_given» = true;
-  expires = m .expires;
-  «message_id» = m .«message_id»;
-  ppid = m .ppid;
-  mid = mid;
-  fsn = m .fsn;
-  «expires_at» = m .«expires_at»;
-  «lifecycle_id» = m .«lifecycle_id»;
-  place = m .place;
-  length = m .length;
-  offset = m .offset;
-  next = m .next;
-}
+-- the MID and SSN that a stream gives next: "ordered and unordered counting separately in each stream; only ordered ones get an SSN, others show 0"
+abbrev pub nextNumbers : OutgoingStream → Bool → Numbers
+nextNumbers s unordered = pick unordered (Given (s .«next_unordered_mid») (record { 0 = 0 })) (Given (s .«next_ordered_mid») (s .«next_ssn»))
 
 -- "A message gets its MID when its first fragment is made, ordered and unordered counting separately in each stream; only ordered ones get an SSN, others show 0."
 unfoldable pub numberedItem : OutgoingStream → Item → Item
-numberedItem s m =
-    pick (m .«mid_given») m
-    (pick (m .unordered) (withNumbers m (s .«next_unordered_mid») (record { 0 = 0 }))
-    (withNumbers m (s .«next_ordered_mid») (s .«next_ssn»)))
+numberedItem s m = pick (areGiven (m .numbers)) m (withNumbers m (nextNumbers s (m .unordered)))
 
 -- a stream with other counters
 abbrev pub withCounters : OutgoingStream → Ssn → Mid → Mid → OutgoingStream
@@ -64,21 +49,18 @@ withCounters s ssn unordered ordered = record {
 -- the stream after it has given a message its numbers
 unfoldable pub numberedStream : OutgoingStream → Item → OutgoingStream
 numberedStream s m =
-    pick (m .«mid_given») s
+    pick (areGiven (m .numbers)) s
     (pick (m .unordered) (withCounters s (s .«next_ssn») (nextMid (s .«next_unordered_mid»)) (s .«next_ordered_mid»))
     (withCounters s (nextSsn (s .«next_ssn»)) (s .«next_unordered_mid») (nextMid (s .«next_ordered_mid»))))
 
 -- "FSN grows by one a fragment": a numbered message after a fragment of n bytes that is not its last.
 unfoldable pub movedOn : Item → ℕ → Item
 movedOn m n = record {
-  ssn = m .ssn;
   «max_retransmissions» = m .«max_retransmissions»;
   unordered = m .unordered;
-  «mid_given» = m .«mid_given»;
-  expires = m .expires;
   «message_id» = m .«message_id»;
   ppid = m .ppid;
-  mid = m .mid;
+  numbers = m .numbers;
   fsn = nextFsn (m .fsn);
   «expires_at» = m .«expires_at»;
   «lifecycle_id» = m .«lifecycle_id»;

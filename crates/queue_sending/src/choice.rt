@@ -4,6 +4,7 @@ ghost use Prim.Native.Nat.{_<_};
 ghost use Rattle.queue_sending.specs.Choice.{expiredBy, lookAt, lookFor, lookAhead};
 use queue_words::QUEUE_WORDS;
 use queue_words::active::load_active;
+use queue_words::items::Expiry;
 use queue_words::items::Item;
 use queue_words::items::load_item;
 use queue_words::known::Found;
@@ -27,10 +28,11 @@ pub enum Look {
 fn expired(m: Item, time: u64) -> bool
     ensures { λ r. ⌜ r ≡ expiredBy m time ⌝ }
 {
-    if m.expires {
-        return m.expires_at <= time;
+    let e = m.expires_at;
+    match e {
+        Expiry::Never => false,
+        Expiry::At(t) => t <= time,
     }
-    false
 }
 
 // 16: "The scheduler chose a stream with no waiting message".

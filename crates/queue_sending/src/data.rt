@@ -1,7 +1,8 @@
 // What goes with a fragment (packet/data.rs, tx/send_queue.rs: DataToSend).
 ghost use mathlib.Core.Path.{_≡_};
-ghost use Rattle.queue_sending.specs.Data.{expiryOf, shownLifecycle, dataToSend};
+ghost use Rattle.queue_sending.specs.Data.{shownLifecycle, dataToSend};
 use message_chains::amounts::remaining;
+use queue_words::items::Expiry;
 use queue_words::items::Item;
 use types::Fsn;
 use types::Mid;
@@ -9,11 +10,6 @@ use types::OutgoingMessageId;
 use types::Ssn;
 use types::StreamId;
 use types::StreamKey;
-
-pub enum Expiry {
-    Never,
-    At(u64),
-}
 
 pub struct Data {
     pub stream_key: StreamKey,
@@ -42,15 +38,6 @@ pub enum Produced {
     Refused(u8),
 }
 
-fn expiry_of(m: Item) -> Expiry
-    ensures { λ r. ⌜ r ≡ expiryOf m ⌝ }
-{
-    if m.expires {
-        return Expiry::At(m.expires_at);
-    }
-    Expiry::Never
-}
-
 // "Only the last fragment shows the lifecycle id."
 fn shown_lifecycle(m: Item, is_end: bool) -> u64
     ensures { λ r. ⌜ r ≡ shownLifecycle m «is_end» ⌝ }
@@ -68,8 +55,9 @@ pub fn data_to_send(id: u16, m: Item, n: u64) -> DataToSend
     let left = remaining(m);
     let is_end = n == left;
     let stream_key = StreamKey::new(m.unordered, StreamId(id));
-    let ssn = m.ssn;
-    let mid = m.mid;
+    let numbers = m.numbers;
+    let ssn = numbers.ssn();
+    let mid = numbers.mid();
     let fsn = m.fsn;
     let data = Data {
         stream_key: stream_key,
@@ -81,7 +69,7 @@ pub fn data_to_send(id: u16, m: Item, n: u64) -> DataToSend
         is_end: is_end,
         length: n,
     };
-    let expires_at = expiry_of(m);
+    let expires_at = m.expires_at;
     let lifecycle_id = shown_lifecycle(m, is_end);
     let message_id = m.message_id;
     DataToSend {

@@ -11,7 +11,7 @@ pub mod past;
 
 pub use data::Data;
 pub use data::DataToSend;
-pub use data::Expiry;
 pub use data::Produced;
 pub use next_fragment::produce;
 pub use next_fragment::produce_after;
+pub use queue_words::items::Expiry;

@@ -4,13 +4,16 @@ use mathlib.Core.List.{List, [], _∷_}
 use mathlib.Core.Option.{Option, none, some}
 use Rattle.queue_model.specs.Types.{PauseState, not-paused, pending, paused, resetting, Stream, Queue}
 use Rattle.queue_model.specs.Types as plain
-use Rattle.queue_words.specs.Flags.{pick}
 use Rattle.queue_words.specs.Header.{optionsAt, totalsAt}
-use Rattle.queue_words.specs.Items.{itemAt}
+use Rattle.queue_words.specs.Items.{itemAt, ssnIn}
 use Rattle.queue_words.specs.Known.{knownAt}
 use Rattle.queue_words.specs.Streams.{streamAt}
 use Rattle.queue_words.specs.declared.header.Options.{Options}
+use Rattle.queue_words.specs.declared.items.Expiry.{Expiry}
+use Rattle.queue_words.specs.declared.items.Expiry.the-variants.{Never, At}
 use Rattle.queue_words.specs.declared.items.Item.{Item}
+use Rattle.queue_words.specs.declared.items.Numbers.{Numbers}
+use Rattle.queue_words.specs.declared.items.Numbers.the-variants.{Missing, Given}
 use Rattle.queue_words.specs.declared.streams.OutgoingStream.{OutgoingStream}
 use Rattle.queue_words.specs.declared.streams.PauseState as words
 use Rattle.queue_words.specs.declared.streams.PauseState.the-variants.{NotPaused, Pending, Paused, Resetting}
@@ -29,6 +32,15 @@ tab f (suc n) = f 0 ∷ tab (λ j. f (suc j)) n
 abbrev pub nextOf : List ℕ → ℕ → ℕ
 nextOf ws x = itemAt ws x .next
 
+-- its expiry, and its MID, where it has them
+abbrev pub expiresOf : Expiry → Option ℕ
+expiresOf Never = none
+expiresOf (At t) = some t
+
+abbrev pub midOf : Numbers → Option ℕ
+midOf Missing = none
+midOf (Given mid ssn) = some (mid .0)
+
 -- a waiting message with its payload
 abbrev pub itemOf : Item → List ℕ → plain.Item
 itemOf m bs = record {
@@ -36,12 +48,12 @@ itemOf m bs = record {
   ppid = m .ppid;
   unordered = m .unordered;
   max-retransmissions = m .«max_retransmissions»;
-  expires-at = pick (m .expires) (some (m .«expires_at»)) none;
+  expires-at = expiresOf (m .«expires_at»);
   lifecycle-id = m .«lifecycle_id»;
   payload = bs;
   offset = m .offset;
-  mid = pick (m .«mid_given») (some (m .mid .0)) none;
-  ssn = m .ssn .0;
+  mid = midOf (m .numbers);
+  ssn = ssnIn (m .numbers) .0;
   fsn = m .fsn .0;
 }
 

@@ -4,12 +4,11 @@
 -- `rw` finds them.
 use mathlib.Core.Path.{_≡_, refl, ap, _∙_}
 use mathlib.Core.Logic.{inl, inr}
-use mathlib.Core.Bool.{Bool, true, false}
 use mathlib.Core.List.{List}
 use Prim.Native.Nat.{ℕ, _+_, _*_, _<_}
 use native.Mathlib.Omega.{arith, ne-cases}
 use native.Mathlib.Nat.{mod-eq-of-lt, mod-lt}
-use lib.ListN.{length, length-set}
+use lib.ListN.{length, length-set, getD}
 use lib.Seq.{getD-set-other}
 use Rattle.queue_words.specs.declared.header.Options.{Options}
 use Rattle.queue_words.specs.declared.header.Totals.{Totals}
@@ -18,22 +17,17 @@ use Rattle.queue_words.specs.declared.known.Known.{Known}
 use Rattle.queue_words.specs.declared.streams.OutgoingStream.{OutgoingStream}
 use Rattle.queue_words.specs.declared.items.Item.{Item}
 use Rattle.queue_words.specs.declared.active.ActiveStreamInfo.{ActiveStreamInfo}
-use Rattle.queue_words.specs.Flags.{bit, flag}
+use Rattle.queue_words.specs.Rows.{row}
 use Rattle.queue_words.specs.Header.{optionsOf, optionsWords, optionsAt, putOptions, FitsOptions}
 use Rattle.queue_words.specs.Header.{totalsOf, totalsWords, totalsAt, putTotals, FitsTotals}
-use Rattle.queue_words.specs.Header.{schedulerOf, schedulerWords, schedulerAt, putScheduler}
+use Rattle.queue_words.specs.Header.{schedulerOf, schedulerWords, schedulerAt, putScheduler, FitsRemembered}
 use Rattle.queue_words.specs.Known.{knownOf, knownWords, knownAt, putKnown, FitsKnown}
 use Rattle.queue_words.specs.Streams.{streamOf, streamWords, streamAt, putStream, FitsStream}
 use Rattle.queue_words.specs.Items.{itemOf, itemWords, itemAt, putItem, FitsItem}
 use Rattle.queue_words.specs.Items.{putNext, putPlace, putLength, withNext, withPlace, withLength}
 use Rattle.queue_words.specs.Active.{activeOf, activeWords, activeAt, putActive, FitsActive}
-use Rattle.queue_words.proofs.Numbers.{pause-state-of-word}
+use Rattle.queue_words.proofs.Numbers.{flag-bit, pause-state-of-word, remembered-of-word, remembered-of-fits, expiry-of-words, numbers-of-words, mid-of-fits, ssn-of-fits}
 use Rattle.queue_words.proofs.Rows.{row-put-same, row-put-other, row-put-length, rows-apart, row-set-word, row-word-other}
-
--- a flag survives its word
-flag-bit : (b : Bool) → flag (bit b) ≡ b
-flag-bit true = refl
-flag-bit false = refl
 
 -- each struct survives its words
 options-words : (o : Options) → FitsOptions o → optionsOf (optionsWords o) ≡ o
@@ -59,6 +53,9 @@ totals-words t f = λ p. record {
   gaps = record { end = t .gaps .end; limit = t .gaps .limit; from = t .gaps .from; upto = t .gaps .upto };
 }
 
+scheduler-words : (s : SchedulerState) → FitsRemembered (s .current) → schedulerOf (schedulerWords s) ≡ s
+scheduler-words s f = λ p. record { current = remembered-of-word (s .current) f p; «system_virtual_time» = s .«system_virtual_time»; active = s .active }
+
 known-words : (k : Known) → FitsKnown k → knownOf (knownWords k) ≡ k
 known-words k f = λ p. record { id = record { 0 = mod-eq-of-lt (f .id-fits) p }; place = k .place }
 
@@ -77,16 +74,13 @@ stream-words s f = λ p. record {
 
 item-words : (m : Item) → FitsItem m → itemOf (itemWords m) ≡ m
 item-words m f = λ p. record {
-  ssn = record { 0 = mod-eq-of-lt (f .ssn-fits) p };
   «max_retransmissions» = mod-eq-of-lt (f .retransmissions-fits) p;
   unordered = flag-bit (m .unordered) p;
-  «mid_given» = flag-bit (m .«mid_given») p;
-  expires = flag-bit (m .expires) p;
   «message_id» = record { 0 = mod-eq-of-lt (f .message-id-fits) p };
   ppid = mod-eq-of-lt (f .ppid-fits) p;
-  mid = record { 0 = mod-eq-of-lt (f .mid-fits) p };
+  numbers = numbers-of-words (m .numbers) (f .mid-fits) (f .ssn-fits) p;
   fsn = record { 0 = mod-eq-of-lt (f .fsn-fits) p };
-  «expires_at» = m .«expires_at»;
+  «expires_at» = expiry-of-words (m .«expires_at») p;
   «lifecycle_id» = m .«lifecycle_id»;
   place = m .place;
   length = m .length;
@@ -113,6 +107,10 @@ pub totals-at-fits : (ws : List ℕ) → FitsTotals (totalsAt ws)
 unfolding totalsAt
 totals-at-fits ws = record { message-id-fits = mod-lt _ (omega arith) }
 
+pub remembered-at-fits : (ws : List ℕ) → FitsRemembered (schedulerAt ws .current)
+unfolding schedulerAt
+remembered-at-fits ws = remembered-of-fits (getD (row ws 18 3) 0 0)
+
 pub known-at-fits : (ws : List ℕ) (i : ℕ) → FitsKnown (knownAt ws i)
 unfolding knownAt
 known-at-fits ws i = record { id-fits = mod-lt _ (omega arith) }
@@ -128,12 +126,12 @@ stream-at-fits ws i = record {
 
 pub item-at-fits : (ws : List ℕ) (i : ℕ) → FitsItem (itemAt ws i)
 unfolding itemAt
-item-at-fits ws i = record {
-  ssn-fits = mod-lt _ (omega arith);
+item-at-fits ws i = let vs = row ws (3104 + i * 16) 15 in record {
+  ssn-fits = ssn-of-fits (getD vs 3 0) (getD vs 7 0) (getD vs 0 0);
   retransmissions-fits = mod-lt _ (omega arith);
   message-id-fits = mod-lt _ (omega arith);
   ppid-fits = mod-lt _ (omega arith);
-  mid-fits = mod-lt _ (omega arith);
+  mid-fits = mid-of-fits (getD vs 3 0) (getD vs 7 0) (getD vs 0 0);
   fsn-fits = mod-lt _ (omega arith);
 }
 
@@ -193,9 +191,14 @@ pub totals-at-put : (ws : List ℕ) (t : Totals) → length ws ≡ 20768 → Fit
 unfolding totalsAt putTotals
 totals-at-put ws t l f = ap totalsOf (row-put-same ws 7 (totalsWords t) (omega arith)) ∙ totals-words t f
 
-pub scheduler-at-put : (ws : List ℕ) (s : SchedulerState) → length ws ≡ 20768 → schedulerAt (putScheduler ws s) ≡ s
+pub scheduler-at-put : (ws : List ℕ) (s : SchedulerState) → length ws ≡ 20768 → FitsRemembered (s .current) → schedulerAt (putScheduler ws s) ≡ s
 unfolding schedulerAt putScheduler
-scheduler-at-put ws s l = ap schedulerOf (row-put-same ws 18 (schedulerWords s) (omega arith))
+scheduler-at-put ws s l f = ap schedulerOf (row-put-same ws 18 (schedulerWords s) (omega arith)) ∙ scheduler-words s f
+
+-- the rows in use need nothing of the remembered stream
+pub active-count-put : (ws : List ℕ) (s : SchedulerState) → length ws ≡ 20768 → schedulerAt (putScheduler ws s) .active ≡ s .active
+unfolding schedulerAt putScheduler
+active-count-put ws s l = ap (λ vs. schedulerOf vs .active) (row-put-same ws 18 (schedulerWords s) (omega arith))
 
 pub known-at-put : (ws : List ℕ) (i : ℕ) (k : Known) → length ws ≡ 20768 → i < 256 → FitsKnown k → knownAt (putKnown ws i k) i ≡ k
 unfolding knownAt putKnown

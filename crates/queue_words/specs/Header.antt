@@ -2,13 +2,16 @@
 use Prim.Native.Nat.{ℕ, _%_, _<_}
 use mathlib.Core.Bool.{Bool, true, false}
 use mathlib.Core.List.{List, [], _∷_}
+use lib.Dec.{ltb}
 use lib.ListN.{getD}
 use Rattle.queue_words.specs.Rows.{row, putRow}
-use Rattle.queue_words.specs.Flags.{bit, flag}
+use Rattle.queue_words.specs.Flags.{bit, flag, pick}
 use Rattle.queue_words.specs.declared.header.RestartRule.{RestartRule}
 use Rattle.queue_words.specs.declared.header.RestartRule.the-variants.{Dcsctp, Strict}
 use Rattle.queue_words.specs.declared.header.Options.{Options}
 use Rattle.queue_words.specs.declared.header.Totals.{Totals}
+use Rattle.queue_words.specs.declared.header.Remembered.{Remembered}
+use Rattle.queue_words.specs.declared.header.Remembered.the-variants.{NoStream, Stream}
 use Rattle.queue_words.specs.declared.header.SchedulerState.{SchedulerState}
 
 -- whether a rule is the strict one
@@ -51,13 +54,22 @@ abbrev pub totalsWords : Totals → List ℕ
 totalsWords t = bit (t .interleaving) ∷ t .«next_message_id» .0 ∷ t .total ∷ t .known ∷ t .waiting ∷ t .free ∷ t .used
     ∷ t .gaps .end ∷ t .gaps .limit ∷ t .gaps .from ∷ t .gaps .upto ∷ []
 
+-- the remembered stream of a word: an id below 65,536, else none
+abbrev pub rememberedOf : ℕ → Remembered
+rememberedOf w = pick (ltb w 65536) (Stream (record { 0 = w })) NoStream
+
+-- the word of it
+abbrev pub rememberedWord : Remembered → ℕ
+rememberedWord NoStream = 65536
+rememberedWord (Stream id) = id .0
+
 -- the scheduler's state in three words
 abbrev pub schedulerOf : List ℕ → SchedulerState
-schedulerOf vs = record { current = getD vs 0 0; «system_virtual_time» = getD vs 1 0; active = getD vs 2 0 }
+schedulerOf vs = record { current = rememberedOf (getD vs 0 0); «system_virtual_time» = getD vs 1 0; active = getD vs 2 0 }
 
 -- the words of the scheduler's state
 abbrev pub schedulerWords : SchedulerState → List ℕ
-schedulerWords s = s .current ∷ s .«system_virtual_time» ∷ s .active ∷ []
+schedulerWords s = rememberedWord (s .current) ∷ s .«system_virtual_time» ∷ s .active ∷ []
 
 -- what loads and stores do, word by word: seen through by the functions .._out and .._in alone
 abbrev pub optionsOut : List ℕ → Options
@@ -98,10 +110,14 @@ putTotals ws t = totalsIn ws t
 unfoldable pub putScheduler : List ℕ → SchedulerState → List ℕ
 putScheduler ws s = schedulerIn ws s
 
--- every narrow field is a value of its type; the scheduler's state has none
+-- every narrow field is a value of its type
 pub record FitsOptions (o : Options) : Type 0 where
   pub limit-fits : o .«payload_limit» < 65536
   pub priority-fits : o .«default_priority» < 65536
 
 pub record FitsTotals (t : Totals) : Type 0 where
   pub message-id-fits : t .«next_message_id» .0 < 4294967296
+
+abbrev pub FitsRemembered : Remembered → Type 0
+FitsRemembered NoStream = Unit {0}
+FitsRemembered (Stream id) = id .0 < 65536

@@ -2,9 +2,10 @@
 ghost use mathlib.Core.Path.{_≡_};
 ghost use Rattle.queue_words.specs.Header.{isStrict, optionsOut, optionsIn, optionsAt, putOptions, FitsOptions};
 ghost use Rattle.queue_words.specs.Header.{totalsOut, totalsIn, totalsAt, putTotals, FitsTotals};
-ghost use Rattle.queue_words.specs.Header.{schedulerOut, schedulerIn, schedulerAt, putScheduler};
+ghost use Rattle.queue_words.specs.Header.{rememberedOf, rememberedWord, schedulerOut, schedulerIn, schedulerAt, putScheduler};
 use crate::QUEUE_WORDS;
 use types::OutgoingMessageId;
+use types::StreamId;
 
 const OPTIONS: usize = 0;
 
@@ -66,9 +67,36 @@ pub struct Totals {
     pub gaps: Gaps,
 }
 
+// "the stream in mid-message if one is remembered".
+pub enum Remembered {
+    NoStream,
+    Stream(StreamId),
+}
+
+// The word for no stream, the least that is no id.
+const NO_STREAM: u64 = 65536;
+
+// The remembered stream of a word. A word above 65536, which no queue holds, is taken for none.
+fn remembered_of(w: u64) -> Remembered
+    ensures { λ r. ⌜ r ≡ rememberedOf w ⌝ }
+{
+    if w < NO_STREAM {
+        return Remembered::Stream(StreamId(w as u16));
+    }
+    Remembered::NoStream
+}
+
+fn remembered_word(r: Remembered) -> u64
+    ensures { λ w. ⌜ w ≡ rememberedWord r ⌝ }
+{
+    match r {
+        Remembered::NoStream => NO_STREAM,
+        Remembered::Stream(id) => id.0 as u64,
+    }
+}
+
 pub struct SchedulerState {
-    // The id of the remembered stream, 65536 for none.
-    pub current: u64,
+    pub current: Remembered,
     pub system_virtual_time: u64,
     // How many rows of the active table are in use.
     pub active: u64,
@@ -172,8 +200,9 @@ pub fn totals_fits(t: Totals)
 fn scheduler_out(queue: &[u64; QUEUE_WORDS]) -> SchedulerState
     ensures { λ r. ⌜ r ≡ schedulerOut (now (queue .entry)) ⌝ }
 {
+    let current = remembered_of(queue[SCHEDULER + 0]);
     SchedulerState {
-        current: queue[SCHEDULER + 0],
+        current: current,
         system_virtual_time: queue[SCHEDULER + 1],
         active: queue[SCHEDULER + 2],
     }
@@ -182,7 +211,9 @@ fn scheduler_out(queue: &[u64; QUEUE_WORDS]) -> SchedulerState
 fn scheduler_in(queue: &mut [u64; QUEUE_WORDS], s: SchedulerState)
     ensures { λ _. ⌜ now (queue .exit) ≡ schedulerIn (now (queue .entry)) s ⌝ }
 {
-    queue[SCHEDULER + 0] = s.current;
+    let current = s.current;
+    let word = remembered_word(current);
+    queue[SCHEDULER + 0] = word;
     queue[SCHEDULER + 1] = s.system_virtual_time;
     queue[SCHEDULER + 2] = s.active;
 }

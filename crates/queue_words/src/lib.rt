@@ -10,8 +10,10 @@
 //      3104 to 19487      Item, the messages                        1024      16  15
 //     19488 to 20767      ActiveStreamInfo, the active streams       256       5   5
 //
-// A row's words are its struct's fields in their order. A word that is too large for its field is read modulo the field's
-// width, a word for a flag is true where it is 1, and a pause state's word above 3 is resetting. A place is the number of a row; 1024 stands for no message.
+// A row's words are its struct's fields in their order, but a message's: SSN, retransmissions, unordered, whether it has its numbers, whether it
+// expires, message id, protocol id, MID, FSN, time of expiry, then the rest. Where it has no numbers or does not expire their words are 0. A word
+// that is too large for its field is read modulo the field's width, a word for a flag is true where it is 1, a pause state's word above 3 is
+// resetting, and no stream is remembered where the word for it is 65536 or above. A place is the number of a row; 1024 stands for no message.
 ghost use mathlib.Core.Path.{_≡_};
 ghost use lib.ListN.{length};
 
@@ -30,6 +32,7 @@ pub use active::parameters_word;
 pub use active::store_active;
 pub use header::Gaps;
 pub use header::Options;
+pub use header::Remembered;
 pub use header::RestartRule;
 pub use header::SchedulerState;
 pub use header::Totals;
@@ -41,8 +44,9 @@ pub use header::store_options;
 pub use header::store_scheduler_state;
 pub use header::store_totals;
 pub use header::totals_fits;
+pub use items::Expiry;
 pub use items::Item;
-pub use items::item_fits;
+pub use items::Numbers;
 pub use items::load_item;
 pub use items::load_length;
 pub use items::load_next;

@@ -10,6 +10,7 @@ use native.Mathlib.Numerals.{add-one}
 use native.Mathlib.Omega.{arith}
 use Rattle.queue_words.specs.Known.{knownAt}
 use Rattle.queue_words.specs.declared.known.Known.{Known}
+use Rattle.queue_words.specs.declared.header.Remembered.the-variants.{NoStream, Stream}
 use Rattle.restoring.specs.Streams.{streamRestored, streamsRestored}
 use Rattle.restoring.specs.Messages.{Restored, restored, hungWith, messageRestored, messagesRestored, waitsAt, waitsAll}
 use Rattle.restoring.specs.Recall.{halfSentAt, firstHalfSent}
@@ -67,7 +68,7 @@ module _ (ws : List ℕ) (n : ℕ) where
 
   module _ (i : ℕ) (inv : firstHalfSent ws 0 n ≡ firstHalfSent ws i (n - i)) where
     module _ (h : i < n) (k : Known) (ek : k ≡ knownAt ws i) (b : Bool) (eb : b ≡ halfSentAt ws k) where
-      pub half-here : b ≡ true → k .id .0 ≡ firstHalfSent ws 0 n
+      pub half-here : b ≡ true → Stream (record { 0 = k .id .0 }) ≡ firstHalfSent ws 0 n
       unfolding firstHalfSent
       half-here g =
           let s : n - i ≡ suc (n - (i + 1)) = omega arith in
@@ -79,7 +80,7 @@ module _ (ws : List ℕ) (n : ℕ) where
           let s : n - i ≡ suc (n - (i + 1)) = omega arith in
           inv ∙ rw (s, ← ek, ← eb, g, add-one)
 
-    pub half-end : n ≤ i → 65536 ≡ firstHalfSent ws 0 n
+    pub half-end : n ≤ i → NoStream ≡ firstHalfSent ws 0 n
     unfolding firstHalfSent
     half-end g =
         let s : n - i ≡ 0 = omega arith in

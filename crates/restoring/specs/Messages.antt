@@ -10,7 +10,11 @@ use Rattle.queue_words.specs.Items.{itemAt, putItem}
 use Rattle.queue_words.specs.Known.{knownAt}
 use Rattle.queue_words.specs.Streams.{streamAt}
 use Rattle.queue_words.specs.declared.header.Totals.{Totals}
+use Rattle.queue_words.specs.declared.items.Expiry.{Expiry}
+use Rattle.queue_words.specs.declared.items.Expiry.the-variants.{Never, At}
 use Rattle.queue_words.specs.declared.items.Item.{Item}
+use Rattle.queue_words.specs.declared.items.Numbers.{Numbers}
+use Rattle.queue_words.specs.declared.items.Numbers.the-variants.{Missing, Given}
 use Rattle.queue_words.specs.declared.known.Known.{Known}
 use Rattle.queue_words.specs.declared.streams.OutgoingStream.{OutgoingStream}
 use Rattle.payload_store.specs.Putting.{putPayload}
@@ -27,19 +31,23 @@ use Rattle.handover_records.specs.declared.records.HandoverStreamMessage.{Hando
 unfoldable pub hasFlag : ℕ → ℕ → Bool
 hasFlag n f = eqb ((f / n) % 2) 1
 
--- the message as it waits, its payload not yet stored; it expires at the time + milliseconds left
+-- its MID and SSN, where the MID is given; its expiry, at the time + milliseconds left
+abbrev pub restoredNumbers : Bool → ℕ → ℕ → Numbers
+restoredNumbers given mid ssn = pick given (Given (record { 0 = mid }) (record { 0 = ssn })) Missing
+
+abbrev pub restoredExpiry : Bool → ℕ → ℕ → Expiry
+restoredExpiry expires time left = pick expires (At (time + left * 1000000)) Never
+
+-- the message as it waits, its payload not yet stored
 unfoldable pub restoredItem : ℕ → HandoverStreamMessage → Item
 restoredItem time r = record {
-  ssn = record { 0 = r .ssn };
   «max_retransmissions» = r .«max_retransmissions»;
   unordered = hasFlag 1 (r .flags);
-  «mid_given» = hasFlag 2 (r .flags);
-  expires = hasFlag 4 (r .flags);
   «message_id» = record { 0 = r .«message_id» };
   ppid = r .ppid;
-  mid = record { 0 = r .mid };
+  numbers = restoredNumbers (hasFlag 2 (r .flags)) (r .mid) (r .ssn);
   fsn = record { 0 = r .fsn };
-  «expires_at» = time + r .«ms_left» * 1000000;
+  «expires_at» = restoredExpiry (hasFlag 4 (r .flags)) time (r .«ms_left»);
   «lifecycle_id» = r .«lifecycle_id»;
   place = 0;
   length = 0;

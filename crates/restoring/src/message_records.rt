@@ -2,7 +2,7 @@
 ghost use mathlib.Core.Path.{_≡_};
 ghost use Prim.Native.Nat.{_+_, _≤_, _<_};
 ghost use lib.ListN.{length};
-ghost use Rattle.restoring.specs.Messages.{hasFlag, restoredItem, unsentOf, countedRestored, restored, hungAt, hung, hungWith, recordRestored, messageRestored, messagesRestored};
+ghost use Rattle.restoring.specs.Messages.{hasFlag, restoredNumbers, restoredExpiry, restoredItem, unsentOf, countedRestored, restored, hungAt, hung, hungWith, recordRestored, messageRestored, messagesRestored};
 use handover_records::records::HandoverStreamMessage;
 use image_reader::read_message;
 use message_chains::amounts::plus;
@@ -16,7 +16,9 @@ use queue_words::QUEUE_WORDS;
 use queue_words::header::load_options;
 use queue_words::header::load_totals;
 use queue_words::header::store_totals;
+use queue_words::items::Expiry;
 use queue_words::items::Item;
+use queue_words::items::Numbers;
 use queue_words::items::load_next;
 use queue_words::items::store_item;
 use queue_words::limits::LAST_MESSAGE;
@@ -36,6 +38,25 @@ fn has_flag(n: u8, flags: u8) -> bool
     flags / n % 2 == 1
 }
 
+fn restored_numbers(given: bool, mid: u32, ssn: u16) -> Numbers
+    ensures { λ r. ⌜ r ≡ restoredNumbers given mid ssn ⌝ }
+{
+    if given {
+        return Numbers::Given(Mid(mid), Ssn(ssn));
+    }
+    Numbers::Missing
+}
+
+fn restored_expiry(expires: bool, time: u64, ms_left: u32) -> Expiry
+    requires { ⌜ time ≤ 4611686018427387903 ⌝ }
+    ensures { λ r. ⌜ r ≡ restoredExpiry expires time «ms_left» ⌝ }
+{
+    if expires {
+        return Expiry::At(time + ms_left as u64 * 1000000);
+    }
+    Expiry::Never
+}
+
 // The message as it waits, its payload not yet stored.
 fn restored_item(time: u64, r: HandoverStreamMessage) -> Item
     requires { ⌜ time ≤ 4611686018427387903 ⌝ }
@@ -43,18 +64,17 @@ fn restored_item(time: u64, r: HandoverStreamMessage) -> Item
 {
     let unordered = has_flag(1, r.flags);
     let mid_given = has_flag(2, r.flags);
+    let numbers = restored_numbers(mid_given, r.mid, r.ssn);
     let expires = has_flag(4, r.flags);
+    let expires_at = restored_expiry(expires, time, r.ms_left);
     Item {
-        ssn: Ssn(r.ssn),
         max_retransmissions: r.max_retransmissions,
         unordered: unordered,
-        mid_given: mid_given,
-        expires: expires,
         message_id: OutgoingMessageId(r.message_id),
         ppid: r.ppid,
-        mid: Mid(r.mid),
+        numbers: numbers,
         fsn: Fsn(r.fsn),
-        expires_at: time + r.ms_left as u64 * 1000000,
+        expires_at: expires_at,
         lifecycle_id: r.lifecycle_id,
         place: 0,
         length: 0,

@@ -3,6 +3,8 @@ ghost use mathlib.Core.Path.{_≡_};
 ghost use Prim.Native.Nat.{_≤_};
 ghost use Rattle.restoring.specs.Recall.{halfSentAt, firstHalfSent, recalled};
 use queue_words::QUEUE_WORDS;
+use queue_words::header::Remembered;
+use queue_words::header::SchedulerState;
 use queue_words::header::load_scheduler_state;
 use queue_words::header::store_scheduler_state;
 use queue_words::items::load_item;
@@ -11,9 +13,9 @@ use queue_words::known::load_known;
 use queue_words::limits::LAST_STREAM;
 use queue_words::limits::NO_MESSAGE;
 use queue_words::streams::load_stream;
+use types::StreamId;
 
 // No stream.
-const NONE: u64 = 65536;
 
 // Whether the first message of a known stream is half-sent.
 fn is_half_sent(queue: &[u64; QUEUE_WORDS], k: Known) -> bool
@@ -31,7 +33,7 @@ fn is_half_sent(queue: &[u64; QUEUE_WORDS], k: Known) -> bool
 }
 
 // Of n known streams the first whose first message is half-sent; the known streams stand by rising id.
-fn first_half_sent(queue: &[u64; QUEUE_WORDS], n: usize) -> u64
+fn first_half_sent(queue: &[u64; QUEUE_WORDS], n: usize) -> Remembered
     requires { ⌜ n ≤ 256 ⌝ }
     ensures { λ r. ⌜ r ≡ firstHalfSent (now (queue .entry)) 0 n ⌝ }
 {
@@ -40,11 +42,11 @@ fn first_half_sent(queue: &[u64; QUEUE_WORDS], n: usize) -> u64
         let k = load_known(queue, i);
         let half = is_half_sent(queue, k);
         if half {
-            return k.id.0 as u64;
+            return Remembered::Stream(StreamId(k.id.0));
         }
         i += 1;
     }
-    NONE
+    Remembered::NoStream
 }
 
 // The stream is remembered.
@@ -53,7 +55,13 @@ pub fn remember_half_sent(queue: &mut [u64; QUEUE_WORDS], n: usize)
     ensures { λ _. ⌜ now (queue .exit) ≡ recalled (now (queue .entry)) n ⌝ }
 {
     let id = first_half_sent(&*queue, n);
-    let mut s = load_scheduler_state(&*queue);
-    s.current = id;
-    store_scheduler_state(queue, s);
+    let s = load_scheduler_state(&*queue);
+    store_scheduler_state(
+        queue,
+        SchedulerState {
+            current: id,
+            system_virtual_time: s.system_virtual_time,
+            active: s.active,
+        },
+    );
 }

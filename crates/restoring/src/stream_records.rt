@@ -9,6 +9,7 @@ use queue_streams::insert_stream;
 use queue_words::QUEUE_WORDS;
 use queue_words::header::Gaps;
 use queue_words::header::Options;
+use queue_words::header::Remembered;
 use queue_words::header::SchedulerState;
 use queue_words::header::Totals;
 use queue_words::header::load_options;
@@ -49,7 +50,7 @@ pub fn empty_queue(queue: &mut [u64; QUEUE_WORDS], next_message_id: u32)
     store_scheduler_state(
         queue,
         SchedulerState {
-            current: 65536,
+            current: Remembered::NoStream,
             system_virtual_time: 0,
             active: 0,
         },

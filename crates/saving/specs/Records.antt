@@ -4,6 +4,9 @@ use mathlib.Core.List.{List}
 use lib.Dec.{ltb, leb}
 use Rattle.queue_words.specs.Flags.{pick}
 use Rattle.queue_words.specs.Header.{optionsAt, totalsAt}
+use Rattle.queue_words.specs.Items.{hasExpiry, areGiven, midIn, ssnIn}
+use Rattle.queue_words.specs.declared.items.Expiry.{Expiry}
+use Rattle.queue_words.specs.declared.items.Expiry.the-variants.{Never, At}
 use Rattle.queue_words.specs.declared.items.Item.{Item}
 use Rattle.queue_words.specs.declared.streams.OutgoingStream.{OutgoingStream}
 use Rattle.handover_records.specs.declared.records.HandoverOutgoingStream.{HandoverOutgoingStream}
@@ -22,14 +25,18 @@ streamRecord id s = record {
 
 -- "flags 1 (a sum of 1 unordered, 2 MID given, 4 lifetime, no other bit)"
 abbrev pub flagsOf : Item → ℕ
-flagsOf m = pick (m .unordered) 1 0 + pick (m .«mid_given») 2 0 + pick (m .expires) 4 0
+flagsOf m = pick (m .unordered) 1 0 + pick (areGiven (m .numbers)) 2 0 + pick (hasExpiry (m .«expires_at»)) 4 0
 
 -- "Milliseconds left are rounded down, 0 if past, at most 2,147,483,647."
 unfoldable pub leftAt : ℕ → ℕ → ℕ
 leftAt time at = pick (leb at time) 0 (pick (ltb 2147483647 ((at - time) / 1000000)) 2147483647 ((at - time) / 1000000))
 
+abbrev pub leftOf : Expiry → ℕ → ℕ
+leftOf Never time = 0
+leftOf (At t) time = leftAt time t
+
 unfoldable pub msLeft : Item → ℕ → ℕ
-msLeft m time = pick (m .expires) (leftAt time (m .«expires_at»)) 0
+msLeft m time = leftOf (m .«expires_at») time
 
 -- "Fields not given are 0."
 unfoldable pub messageRecord : Item → ℕ → ℕ → HandoverStreamMessage
@@ -40,8 +47,8 @@ messageRecord m id time = record {
   ppid = m .ppid;
   «ms_left» = msLeft m time;
   «max_retransmissions» = m .«max_retransmissions»;
-  ssn = m .ssn .0;
-  mid = pick (m .«mid_given») (m .mid .0) 0;
+  ssn = ssnIn (m .numbers) .0;
+  mid = midIn (m .numbers) .0;
   fsn = m .fsn .0;
   «lifecycle_id» = m .«lifecycle_id»;
   «message_id» = m .«message_id» .0;

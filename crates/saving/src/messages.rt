@@ -14,6 +14,7 @@ ghost use Rattle.saving.specs.Bytes.{itemBytes, chainBytes, messagesFrom
 use handover_records::records::HandoverStreamMessage;
 use handover_records::records::put_message;
 use queue_words::QUEUE_WORDS;
+use queue_words::items::Expiry;
 use queue_words::items::Item;
 use queue_words::items::load_item;
 use queue_words::known::load_known;
@@ -58,10 +59,11 @@ fn left_at(time: u64, at: u64) -> u32
 fn ms_left(m: Item, time: u64) -> u32
     ensures { λ r. ⌜ r ≡ msLeft m time ⌝ }
 {
-    if m.expires {
-        return left_at(time, m.expires_at);
+    let e = m.expires_at;
+    match e {
+        Expiry::Never => 0,
+        Expiry::At(t) => left_at(time, t),
     }
-    0
 }
 
 fn message_record(m: Item, id: u16, time: u64) -> HandoverStreamMessage
@@ -69,8 +71,14 @@ fn message_record(m: Item, id: u16, time: u64) -> HandoverStreamMessage
     ensures { λ r. ⌜ r ≡ messageRecord m id time ⌝ }
 {
     let unordered = given(m.unordered, 1);
-    let mid_given = given(m.mid_given, 2);
-    let lifetime = given(m.expires, 4);
+    let numbers = m.numbers;
+    let has_numbers = numbers.are_given();
+    let mid_given = given(has_numbers, 2);
+    let mid = numbers.mid();
+    let ssn = numbers.ssn();
+    let e = m.expires_at;
+    let expires = e.is_given();
+    let lifetime = given(expires, 4);
     let flags = unordered + mid_given + lifetime;
     HandoverStreamMessage {
         id: id,
@@ -79,8 +87,8 @@ fn message_record(m: Item, id: u16, time: u64) -> HandoverStreamMessage
         ppid: m.ppid,
         ms_left: ms_left(m, time),
         max_retransmissions: m.max_retransmissions,
-        ssn: m.ssn.0,
-        mid: given(m.mid_given, m.mid.0),
+        ssn: ssn.0,
+        mid: mid.0,
         fsn: m.fsn.0,
         lifecycle_id: m.lifecycle_id,
         message_id: m.message_id.0,

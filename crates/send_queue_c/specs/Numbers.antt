@@ -23,8 +23,8 @@ use Rattle.queue_messages.specs.declared.message.Message.{Message}
 use Rattle.priority_plan.specs.declared.plan.PlannedPriorities.{PlannedPriorities}
 use Rattle.queue_restarts.specs.declared.ready.ReadyStreams.{ReadyStreams}
 use Rattle.queue_sending.specs.declared.data.DataToSend.{DataToSend}
-use Rattle.queue_sending.specs.declared.data.Expiry.{Expiry}
-use Rattle.queue_sending.specs.declared.data.Expiry.the-variants as expiry
+use Rattle.queue_words.specs.declared.items.Expiry.{Expiry}
+use Rattle.queue_words.specs.declared.items.Expiry.the-variants as expiry
 use Rattle.queue_sending.specs.declared.data.Produced.{Produced}
 use Rattle.queue_sending.specs.declared.data.Produced.the-variants as produced
 use Rattle.saving.specs.declared.image.Saved.{Saved}

@@ -16,6 +16,7 @@ use Rattle.queue_words.specs.Active.{activeAt, putActive, parametersWord}
 use Rattle.queue_words.specs.Header.{optionsAt, schedulerAt, putScheduler}
 use Rattle.queue_words.specs.declared.active.ActiveStreamInfo.{ActiveStreamInfo}
 use Rattle.queue_words.specs.declared.active.SchedulingParameters.{SchedulingParameters}
+use Rattle.queue_words.specs.declared.header.Remembered.the-variants.{NoStream}
 use Rattle.stream_scheduler.specs.Rows.{weightOf, advanced, scheduledRow}
 use Rattle.stream_scheduler.specs.Words.{outcome, rested, stateOf, droppedRow}
 use Rattle.stream_scheduler.specs.Anew.{begunAnew, lastRow, acceptLast}
@@ -64,7 +65,7 @@ module _ (ws : List ℕ) (g : GoodScheduler ws) (at sent : ℕ) (h : at < (sched
   start-is = elim (count ((schedulerAt ws) .active)) [
     | none-there z ↦ absurd (omega arith)
     | some-there m z ↦ (let e : suc m - 1 ≡ m = omega arith in
-        rw (z, e) (sym (dropped-rest ws g at m 65536 time (subst (λ (x : ℕ). at < x) z h) z)))
+        rw (z, e) (sym (dropped-rest ws g at m NoStream time (subst (λ (x : ℕ). at < x) z h) z)))
   ]
 
   ended : accept-last (entryAt ws at) sent (modelScheduler ws) ≡ make limit none start others
@@ -97,15 +98,15 @@ module _ (ws : List ℕ) (g : GoodScheduler ws) (at sent : ℕ) (h : at < (sched
     unfolding begunAnew
     anew-link pos =
         let row : ActiveStreamInfo = scheduledRow limit id (parametersWord p) start bytes in
-        subst (Steps ws (outcome true (putScheduler (putActive ws at row) (stateOf 65536 start ((schedulerAt ws) .active)))))
-        (ap₂ (λ (c : Option ℕ) (a : Active). make limit c start (put-active a table)) (current-none 65536 (omega arith)) (row-entry ws g id bytes p (id-fits ws at) fp start) ∙ some-behind pos)
-        (row-link ws g at h row (row-fits ws g id bytes p (id-fits ws at) fp start) refl 65536 start)
+        subst (Steps ws (outcome true (putScheduler (putActive ws at row) (stateOf NoStream start ((schedulerAt ws) .active)))))
+        (ap₂ (λ (c : Option ℕ) (a : Active). make limit c start (put-active a table)) current-none (row-entry ws g id bytes p (id-fits ws at) fp start) ∙ some-behind pos)
+        (row-link ws g at h row (row-fits ws g id bytes p (id-fits ws at) fp start) refl NoStream start tt)
 
     row-ended : Steps ws (outcome true (lastRow ws at id sent bytes (parametersWord p) ((schedulerAt ws) .active))) (set-bytes-remaining id bytes (weightOf p) (accept-last (entryAt ws at) sent (modelScheduler ws)))
     unfolding lastRow
     row-ended = elim (tri bytes 0) [
       | less l ↦ absurd (omega arith)
-      | same z ↦ rw (eqb-true z, z) (subst (Steps ws (outcome true (droppedRow ws at 65536 time ((schedulerAt ws) .active)))) (none-behind (weightOf p)) (accept-last-link ws g at sent h))
+      | same z ↦ rw (eqb-true z, z) (subst (Steps ws (outcome true (droppedRow ws at NoStream time ((schedulerAt ws) .active)))) (none-behind (weightOf p)) (accept-last-link ws g at sent h))
       | more l ↦ (let ne : bytes ≡ 0 → ⊥ = λ f. omega arith in rw (eqb-false ne) (anew-link l))
     ]
 

@@ -9,13 +9,14 @@ use Rattle.queue_words.specs.Header.{optionsAt, schedulerAt, putScheduler}
 use Rattle.queue_words.specs.declared.active.ActiveStreamInfo.{ActiveStreamInfo}
 use Rattle.queue_words.specs.declared.active.SchedulingParameters.{SchedulingParameters}
 use Rattle.queue_words.specs.declared.header.Options.{Options}
+use Rattle.queue_words.specs.declared.header.Remembered.the-variants.{NoStream}
 use Rattle.queue_words.specs.declared.header.SchedulerState.{SchedulerState}
 use Rattle.stream_scheduler.specs.Rows.{advanced, scheduledRow}
 use Rattle.stream_scheduler.specs.Words.{outcome, rested, stateOf, droppedRow}
 use Rattle.stream_scheduler.specs.Anew.{begunAnew, lastRow, acceptLast}
 
 pub begun-anew : (ws : List ℕ) (at id t bytes w n : ℕ) (o : Options) (start : ℕ) (row : ActiveStreamInfo) (l m : List ℕ) → o ≡ optionsAt ws → start ≡ rested t (n - 1)
-    → row ≡ scheduledRow (o .«payload_limit») id w start bytes → l ≡ putActive ws at row → m ≡ putScheduler l (stateOf 65536 start n) → m ≡ begunAnew ws at id t bytes w n
+    → row ≡ scheduledRow (o .«payload_limit») id w start bytes → l ≡ putActive ws at row → m ≡ putScheduler l (stateOf NoStream start n) → m ≡ begunAnew ws at id t bytes w n
 unfolding begunAnew
 begun-anew ws at id t bytes w n o start row l m eo es er el em = rw (em, el, er, es, eo)
 
@@ -30,7 +31,7 @@ module _ (ws : List ℕ) (at id sent bytes : ℕ) (p : SchedulingParameters) (s 
     last-no-row g = rw (← es, le-ltb _ _ h, le-leb _ _ g)
 
     module _ (f : at < s .active) (a : ActiveStreamInfo) (ea : a ≡ activeAt ws at) (t : ℕ) (et : t ≡ advanced (a .parameters) (a .«virtual_start_time») sent) where
-      pub last-none : (l : List ℕ) → bytes ≡ 0 → l ≡ droppedRow ws at 65536 t (s .active) → outcome true l ≡ acceptLast ws at id sent bytes p
+      pub last-none : (l : List ℕ) → bytes ≡ 0 → l ≡ droppedRow ws at NoStream t (s .active) → outcome true l ≡ acceptLast ws at id sent bytes p
       unfolding acceptLast lastRow
       last-none l z el = rw (← es, le-ltb _ _ h, lt-leb _ _ f, ← ea, eq-eqb _ _ z, el, et)
 

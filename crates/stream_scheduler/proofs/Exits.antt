@@ -15,11 +15,13 @@ use Rattle.queue_words.specs.declared.active.ActiveStreamInfo.{ActiveStreamInfo
 use Rattle.queue_words.specs.declared.active.SchedulingParameters.{SchedulingParameters}
 use Rattle.queue_words.specs.declared.active.SchedulingParameters.the-variants.{RoundRobin, WeightedFairQueuing}
 use Rattle.queue_words.specs.declared.header.Options.{Options}
+use Rattle.queue_words.specs.declared.header.Remembered.{Remembered}
+use Rattle.queue_words.specs.declared.header.Remembered.the-variants.{NoStream, Stream}
 use Rattle.queue_words.specs.declared.header.SchedulerState.{SchedulerState}
 use Rattle.active_table.specs.Rows.{seek, bestTo}
 use Rattle.active_table.specs.declared.Best.{Best}
 use Rattle.stream_scheduler.specs.Rows.{advanced, scheduledRow}
-use Rattle.stream_scheduler.specs.Words.{outcome, currentRow, peekAmong, peekWords, waitsIn, forgotten, rested, stateOf, droppedRow, takenOut, removeStream, setIn, setBytesRemaining, beginWaiting, rememberedWord, acceptRow, acceptAt}
+use Rattle.stream_scheduler.specs.Words.{outcome, currentRow, peekAmong, peekWords, waitsIn, forgotten, rested, stateOf, droppedRow, takenOut, removeStream, setIn, setBytesRemaining, beginWaiting, rememberedBy, acceptRow, acceptAt}
 use Rattle.stream_scheduler.specs.declared.Peeked.the-variants.{At, Nothing, Broken}
 
 -- ------------------------------------------------------------------ cost and times
@@ -56,15 +58,6 @@ chunk-row limit id w start bytes chunk finish ec ef = rw (ef, ec)
 
 -- ------------------------------------------------------------------ the choice
 
-module _ (ws : List ℕ) (n c : ℕ) where
-  pub current-sought : (r : ℕ) → c < 65536 → r ≡ seek ws c n → r ≡ currentRow ws n c
-  unfolding currentRow
-  current-sought r h e = rw (lt-ltb _ _ h, e)
-
-  pub current-none : 65536 ≤ c → n ≡ currentRow ws n c
-  unfolding currentRow
-  current-none h = rw (le-ltb _ _ h)
-
 module _ (ws : List ℕ) (s : SchedulerState) (es : s ≡ schedulerAt ws) where
   pub peek-broken : 256 < s .active → Broken ≡ peekWords ws
   unfolding peekWords
@@ -85,12 +78,12 @@ module _ (ws : List ℕ) (s : SchedulerState) (es : s ≡ schedulerAt ws) where
 
 -- ------------------------------------------------------------------ taking a row out
 
-pub row-dropped : (ws : List ℕ) (at c t n : ℕ) (last : ActiveStreamInfo) (rest : ℕ) (l m : List ℕ) → last ≡ activeAt ws (n - 1) → rest ≡ rested t (n - 1)
+pub row-dropped : (ws : List ℕ) (at : ℕ) (c : Remembered) (t n : ℕ) (last : ActiveStreamInfo) (rest : ℕ) (l m : List ℕ) → last ≡ activeAt ws (n - 1) → rest ≡ rested t (n - 1)
     → l ≡ putActive ws at last → m ≡ putScheduler l (stateOf c rest (n - 1)) → m ≡ droppedRow ws at c t n
 unfolding droppedRow
 row-dropped ws at c t n last rest l m ea er el em = rw (em, el, ea, er)
 
-module _ (ws : List ℕ) (id at n : ℕ) (s : SchedulerState) (es : s ≡ schedulerAt ws) (c : ℕ) (ec : c ≡ forgotten (s .current) id) where
+module _ (ws : List ℕ) (id at n : ℕ) (s : SchedulerState) (es : s ≡ schedulerAt ws) (c : Remembered) (ec : c ≡ forgotten (s .current) id) where
   pub taken-row : (l : List ℕ) → at < n → l ≡ droppedRow ws at c (s .«system_virtual_time») n → l ≡ takenOut ws id at n
   unfolding takenOut
   taken-row l h el = rw (← es, lt-ltb _ _ h, el, ec)
@@ -163,21 +156,21 @@ module _ (ws : List ℕ) (at bytes : ℕ) (s : SchedulerState) (es : s ≡ sched
     accept-no-row g = rw (← es, le-ltb _ _ h, le-leb _ _ g)
 
     module _ (f : at < s .active) (a : ActiveStreamInfo) (ea : a ≡ activeAt ws at) (t : ℕ) (et : t ≡ advanced (a .parameters) (a .«virtual_start_time») bytes) where
-      pub accept-last : (l : List ℕ) → a .«bytes_remaining» ≤ bytes → l ≡ droppedRow ws at 65536 t (s .active) → outcome true l ≡ acceptAt ws at bytes
+      pub accept-last : (l : List ℕ) → a .«bytes_remaining» ≤ bytes → l ≡ droppedRow ws at NoStream t (s .active) → outcome true l ≡ acceptAt ws at bytes
       unfolding acceptAt acceptRow
       accept-last l g el = rw (← es, le-ltb _ _ h, lt-leb _ _ f, ← ea, le-leb _ _ g, el, et)
 
-      pub accept-part : (o : Options) (row : ActiveStreamInfo) (c : ℕ) (l m : List ℕ) → bytes < a .«bytes_remaining» → o ≡ optionsAt ws
+      pub accept-part : (o : Options) (row : ActiveStreamInfo) (c : Remembered) (l m : List ℕ) → bytes < a .«bytes_remaining» → o ≡ optionsAt ws
           → row ≡ scheduledRow (o .«payload_limit») (a .«stream_id» .0) (a .parameters) t (a .«bytes_remaining» - bytes) → l ≡ putActive ws at row
-          → c ≡ rememberedWord (a .«stream_id» .0) (a .parameters) → m ≡ putScheduler l (stateOf c t (s .active)) → outcome true m ≡ acceptAt ws at bytes
+          → c ≡ rememberedBy (a .«stream_id» .0) (a .parameters) → m ≡ putScheduler l (stateOf c t (s .active)) → outcome true m ≡ acceptAt ws at bytes
       unfolding acceptAt acceptRow
       accept-part o row c l m g eo er el ec em = rw (← es, le-ltb _ _ h, lt-leb _ _ f, ← ea, lt-leb _ _ g, ← eo, em, el, er, ec, et)
 
 module _ (id w : ℕ) (p : SchedulingParameters) (ep : p ≡ parametersOf w) where
-  pub remembered-turns : p ≡ RoundRobin → id ≡ rememberedWord id w
+  pub remembered-turns : p ≡ RoundRobin → Stream (record { 0 = id }) ≡ rememberedBy id w
   remembered-turns ev = rw (← ep, ev)
 
-  pub remembered-weighted : (v : ℕ) → p ≡ WeightedFairQueuing v → 65536 ≡ rememberedWord id w
+  pub remembered-weighted : (v : ℕ) → p ≡ WeightedFairQueuing v → NoStream ≡ rememberedBy id w
   remembered-weighted v ev = rw (← ep, ev)
 
 module _ (ws : List ℕ) (id : ℕ) (s : SchedulerState) (es : s ≡ schedulerAt ws) where

@@ -18,8 +18,9 @@ use Rattle.queue_words.specs.declared.active.SchedulingParameters.{SchedulingPa
 use Rattle.queue_words.specs.declared.header.SchedulerState.{SchedulerState}
 use Rattle.queue_words.proofs.Laws.{options-put-scheduler, totals-put-scheduler, known-put-scheduler, stream-put-scheduler, item-put-scheduler, options-put-active, totals-put-active, known-put-active, stream-put-active, item-put-active}
 use Rattle.active_table.specs.Rows.{seek}
+use Rattle.queue_words.specs.declared.header.Remembered.{Remembered}
 use Rattle.stream_scheduler.specs.Rows.{advanced, scheduledRow}
-use Rattle.stream_scheduler.specs.Words.{Outcome, outcome, forgotten, rested, stateOf, droppedRow, takenOut, removeStream, setIn, setBytesRemaining, rememberedWord, partRow, acceptRow, acceptAt}
+use Rattle.stream_scheduler.specs.Words.{Outcome, outcome, forgotten, rested, stateOf, droppedRow, takenOut, removeStream, setIn, setBytesRemaining, rememberedBy, partRow, acceptRow, acceptAt}
 use Rattle.stream_scheduler.specs.Link.{entryAt, GoodScheduler, Steps, FitsParameters, Room, listed, free, Untouched}
 use Rattle.stream_scheduler.proofs.Search.{Sought, hit, miss, sought}
 use Rattle.stream_scheduler.proofs.Link.{set-link, remove-link}
@@ -99,7 +100,7 @@ pub outcome-if : (ws : List ℕ) (b : Bool) (x y : Outcome) → Untouched ws (x 
 outcome-if ws true x y k l = k
 outcome-if ws false x y k l = l
 
-pub untouched-dropped : (ws : List ℕ) (at c t n : ℕ) → Untouched ws (droppedRow ws at c t n)
+pub untouched-dropped : (ws : List ℕ) (at : ℕ) (c : Remembered) (t n : ℕ) → Untouched ws (droppedRow ws at c t n)
 unfolding droppedRow
 untouched-dropped ws at c t n = untouched-both ws at _ _
 

@@ -12,7 +12,10 @@ use Rattle.queue_model.specs.Scheduler.{moved, scheduled, find-active, put-acti
 use Rattle.queue_model.proofs.Tests.{Tri, ltb-true, ltb-false, leb-true, leb-false, eqb-true, eqb-false, less, same, more, tri}
 use Rattle.queue_words.specs.Active.{activeAt, putActive, FitsActive, parametersOf}
 use Rattle.queue_words.specs.declared.active.SchedulingParameters.{SchedulingParameters}
-use Rattle.queue_words.specs.Header.{optionsAt, schedulerAt, putScheduler}
+use Rattle.types.specs.declared.StreamId.{StreamId}
+use Rattle.queue_words.specs.Header.{optionsAt, schedulerAt, putScheduler, FitsRemembered}
+use Rattle.queue_words.specs.declared.header.Remembered.{Remembered}
+use Rattle.queue_words.specs.declared.header.Remembered.the-variants.{NoStream, Stream}
 use Rattle.queue_words.specs.declared.active.ActiveStreamInfo.{ActiveStreamInfo}
 use Rattle.queue_words.proofs.Laws.{active-at-fits}
 use Rattle.stream_scheduler.specs.declared.Peeked.{Peeked}
@@ -20,7 +23,7 @@ use Rattle.stream_scheduler.specs.declared.Peeked.the-variants.{At, Noth
 use Rattle.queue_words.specs.declared.active.SchedulingParameters.the-variants.{RoundRobin, WeightedFairQueuing}
 use Rattle.active_table.specs.Rows.{seek, bestTo}
 use Rattle.stream_scheduler.specs.Rows.{weightOf, weightAt, advanced, scheduledRow}
-use Rattle.stream_scheduler.specs.Words.{Outcome, outcome, currentRow, peekAmong, peekWords, stateOf, droppedRow, rememberedIn, rememberedWord, partRow, acceptRow, acceptAt}
+use Rattle.stream_scheduler.specs.Words.{Outcome, outcome, currentRow, peekAmong, peekWords, stateOf, droppedRow, rememberedIn, rememberedBy, partRow, acceptRow, acceptAt}
 use Rattle.stream_scheduler.specs.Link.{entryOf, entryAt, tableOf, currentOf, modelScheduler, GoodScheduler, Steps, Chooses, row-chosen, none-chosen}
 use Rattle.stream_scheduler.proofs.Index.{table-nil, table-at, table-none, table-least}
 use Rattle.stream_scheduler.proofs.Search.{Sought, hit, miss, sought, best-is}
@@ -42,14 +45,18 @@ part-is : (ws : List ℕ) (a : Active) (bytes : ℕ) → accept-part a bytes (mo
 unfolding accept-part modelScheduler
 part-is ws a bytes = refl
 
--- The word of the remembered stream, by the weight.
-remember-in : (id : ℕ) (p : SchedulingParameters) → id < 65536 → currentOf (rememberedIn id p) ≡ remember id (weightOf p)
+-- The remembered stream, by the weight.
+remember-in : (id : ℕ) (p : SchedulingParameters) → currentOf (rememberedIn id p) ≡ remember id (weightOf p)
 unfolding remember
-remember-in id RoundRobin f = current-some id f
-remember-in id (WeightedFairQueuing v) f = current-none 65536 (omega arith)
+remember-in id RoundRobin = current-some (record { 0 = id })
+remember-in id (WeightedFairQueuing v) = current-none
 
-remember-word : (id w : ℕ) → id < 65536 → currentOf (rememberedWord id w) ≡ remember id (weightAt w)
-remember-word id w f = remember-in id (parametersOf w) f
+remember-by : (id w : ℕ) → currentOf (rememberedBy id w) ≡ remember id (weightAt w)
+remember-by id w = remember-in id (parametersOf w)
+
+remembered-fits : (id : ℕ) (p : SchedulingParameters) → id < 65536 → FitsRemembered (rememberedIn id p)
+remembered-fits id RoundRobin f = f
+remembered-fits id (WeightedFairQueuing v) f = tt
 
 module _ (ws : List ℕ) (g : GoodScheduler ws) (at bytes : ℕ) (h : at < (schedulerAt ws) .active) where
   abbrev row : ActiveStreamInfo
@@ -58,21 +65,21 @@ module _ (ws : List ℕ) (g : GoodScheduler ws) (at bytes : ℕ) (h : at < (sche
   abbrev time : ℕ
   time = advanced ((activeAt ws at) .parameters) ((activeAt ws at) .«virtual_start_time») bytes
 
-  pub accept-last-link : Steps ws (outcome true (droppedRow ws at 65536 time ((schedulerAt ws) .active))) (accept-last (entryAt ws at) bytes (modelScheduler ws))
+  pub accept-last-link : Steps ws (outcome true (droppedRow ws at NoStream time ((schedulerAt ws) .active))) (accept-last (entryAt ws at) bytes (modelScheduler ws))
   accept-last-link = elim (count ((schedulerAt ws) .active)) [
     | none-there z ↦ absurd (omega arith)
     | some-there m z ↦ (let h′ : at < suc m = subst (λ (x : ℕ). at < x) z h in
         let l : ℕ = (optionsAt ws) .«payload_limit» in
         let id : ℕ = (entryAt ws at) .stream-id in
-        let q : droppedRow ws at 65536 time ((schedulerAt ws) .active) ≡ droppedRow ws at 65536 time (suc m) = ap (droppedRow ws at 65536 time) z in
+        let q : droppedRow ws at NoStream time ((schedulerAt ws) .active) ≡ droppedRow ws at NoStream time (suc m) = ap (droppedRow ws at NoStream time) z in
         record {
           step-done = refl;
-          step-good = subst GoodScheduler (sym q) (dropped-good ws g at m 65536 time h′ z);
-          step-model = ap modelScheduler q ∙ dropped-model ws g at m 65536 time h′ z
-              ∙ ap₂ (λ (x : Option ℕ) (y : ℕ). make l x (rest-time time (without-active id (tableOf (entryAt ws) y))) (without-active id (tableOf (entryAt ws) y))) (current-none 65536 (omega arith) ∙ sym (forget-own id)) (sym z)
+          step-good = subst GoodScheduler (sym q) (dropped-good ws g at m NoStream time h′ z);
+          step-model = ap modelScheduler q ∙ dropped-model ws g at m NoStream time h′ z tt
+              ∙ ap₂ (λ (x : Option ℕ) (y : ℕ). make l x (rest-time time (without-active id (tableOf (entryAt ws) y))) (without-active id (tableOf (entryAt ws) y))) (current-none ∙ sym (forget-own id)) (sym z)
               ∙ ap (λ (x : ℕ). make l (forget id (some id)) (rest-time x (without-active id (tableOf (entryAt ws) ((schedulerAt ws) .active)))) (without-active id (tableOf (entryAt ws) ((schedulerAt ws) .active)))) (sym (moved-is ws at bytes))
               ∙ sym (last-is ws (entryAt ws at) bytes);
-          step-count = subst (λ (x : List ℕ). (schedulerAt x) .active ≤ suc ((schedulerAt ws) .active)) (sym q) (dropped-count ws g at m 65536 time h′ z);
+          step-count = subst (λ (x : List ℕ). (schedulerAt x) .active ≤ suc ((schedulerAt ws) .active)) (sym q) (dropped-count ws g at m NoStream time h′ z);
         })
   ]
 
@@ -88,30 +95,30 @@ module _ (ws : List ℕ) (g : GoodScheduler ws) (at bytes : ℕ) (h : at < (sche
       scheduled-row ((optionsAt ws) .«payload_limit») ((activeAt ws at) .«stream_id» .0) ((activeAt ws at) .parameters) time ((activeAt ws at) .«bytes_remaining» - bytes)
       ∙ ap (λ (t : ℕ). scheduled ((optionsAt ws) .«payload_limit») ((activeAt ws at) .«stream_id» .0) (weightAt ((activeAt ws at) .parameters)) t ((activeAt ws at) .«bytes_remaining» - bytes)) (sym (moved-is ws at bytes))
 
-  part-current : currentOf (rememberedWord ((activeAt ws at) .«stream_id» .0) ((activeAt ws at) .parameters)) ≡ remember ((entryAt ws at) .stream-id) ((entryAt ws at) .weight)
+  part-current : currentOf (rememberedBy ((activeAt ws at) .«stream_id» .0) ((activeAt ws at) .parameters)) ≡ remember ((entryAt ws at) .stream-id) ((entryAt ws at) .weight)
   unfolding entryAt
-  part-current = remember-word ((activeAt ws at) .«stream_id» .0) ((activeAt ws at) .parameters) ((active-at-fits ws at) .stream-id-fits)
+  part-current = remember-by ((activeAt ws at) .«stream_id» .0) ((activeAt ws at) .parameters)
 
   part-id : part .«stream_id» .0 ≡ (entryAt ws at) .stream-id
   unfolding entryAt
   part-id = refl
 
-  accept-part-link : Steps ws (outcome true (putScheduler (putActive ws at part) (stateOf (rememberedWord ((activeAt ws at) .«stream_id» .0) ((activeAt ws at) .parameters)) time ((schedulerAt ws) .active)))) (accept-part (entryAt ws at) bytes (modelScheduler ws))
+  accept-part-link : Steps ws (outcome true (putScheduler (putActive ws at part) (stateOf (rememberedBy ((activeAt ws at) .«stream_id» .0) ((activeAt ws at) .parameters)) time ((schedulerAt ws) .active)))) (accept-part (entryAt ws at) bytes (modelScheduler ws))
   accept-part-link =
       let l : ℕ = (optionsAt ws) .«payload_limit» in
       let as′ : List Active = tableOf (entryAt ws) ((schedulerAt ws) .active) in
-      subst (Steps ws (outcome true (putScheduler (putActive ws at part) (stateOf (rememberedWord ((activeAt ws at) .«stream_id» .0) ((activeAt ws at) .parameters)) time ((schedulerAt ws) .active)))))
+      subst (Steps ws (outcome true (putScheduler (putActive ws at part) (stateOf (rememberedBy ((activeAt ws at) .«stream_id» .0) ((activeAt ws at) .parameters)) time ((schedulerAt ws) .active)))))
       (ap₂ (λ (c : Option ℕ) (t : ℕ). make l c t (put-active (entryOf part) as′)) part-current (sym (moved-is ws at bytes))
       ∙ ap (λ (a : Active). make l (remember ((entryAt ws at) .stream-id) ((entryAt ws at) .weight)) (moved (entryAt ws at) bytes) (put-active a as′)) part-entry
       ∙ sym (part-is ws (entryAt ws at) bytes))
-      (row-link ws g at h part part-fits part-id (rememberedWord ((activeAt ws at) .«stream_id» .0) ((activeAt ws at) .parameters)) time)
+      (row-link ws g at h part part-fits part-id (rememberedBy ((activeAt ws at) .«stream_id» .0) ((activeAt ws at) .parameters)) time (remembered-fits ((activeAt ws at) .«stream_id» .0) (parametersOf ((activeAt ws at) .parameters)) ((active-at-fits ws at) .stream-id-fits)))
 
   same-size : (entryAt ws at) .bytes-remaining ≡ (activeAt ws at) .«bytes_remaining»
   unfolding entryAt
   same-size = refl
 
   by-size : (b : Bool) → leb ((activeAt ws at) .«bytes_remaining») bytes ≡ b
-      → Steps ws (outcome true (if b then droppedRow ws at 65536 time ((schedulerAt ws) .active) else putScheduler (putActive ws at part) (stateOf (rememberedWord ((activeAt ws at) .«stream_id» .0) ((activeAt ws at) .parameters)) time ((schedulerAt ws) .active))))
+      → Steps ws (outcome true (if b then droppedRow ws at NoStream time ((schedulerAt ws) .active) else putScheduler (putActive ws at part) (stateOf (rememberedBy ((activeAt ws at) .«stream_id» .0) ((activeAt ws at) .parameters)) time ((schedulerAt ws) .active))))
       (if b then accept-last (entryAt ws at) bytes (modelScheduler ws) else accept-part (entryAt ws at) bytes (modelScheduler ws))
   by-size true e = accept-last-link
   by-size false e = accept-part-link
@@ -166,11 +173,11 @@ module _ (ws : List ℕ) (g : GoodScheduler ws) where
       nothing-remembered (some k) = remembered-some k ∙ table-none (entryAt ws) ((schedulerAt ws) .active) k (λ i h f. omega arith)
 
   -- The remembered stream's row.
-  peek-current : (c i : ℕ) → (schedulerAt ws) .current ≡ c → c < 65536 → i < (schedulerAt ws) .active → (entryAt ws i) .stream-id ≡ c → peek (modelScheduler ws) ≡ some (entryAt ws i)
-  peek-current c i ec f h e =
+  peek-current : (k : StreamId) (i : ℕ) → (schedulerAt ws) .current ≡ Stream k → i < (schedulerAt ws) .active → (entryAt ws i) .stream-id ≡ k .0 → peek (modelScheduler ws) ≡ some (entryAt ws i)
+  peek-current k i ec h e =
       let t : List Active = tableOf (entryAt ws) ((schedulerAt ws) .active) in
-      peek-is ∙ ap (λ (x : Option Active). or-else x (least-of t)) (ap (λ (x : ℕ). remembered (currentOf x) t) ec ∙ ap (λ (x : Option ℕ). remembered x t) (current-some c f) ∙ remembered-some c
-      ∙ ap (λ (k : ℕ). find-active k t) (sym e) ∙ table-at (entryAt ws) ((schedulerAt ws) .active) i (g .unlike) h) ∙ or-some (entryAt ws i) (least-of t)
+      peek-is ∙ ap (λ (x : Option Active). or-else x (least-of t)) (ap (λ (x : Remembered). remembered (currentOf x) t) ec ∙ ap (λ (x : Option ℕ). remembered x t) (current-some k) ∙ remembered-some (k .0)
+      ∙ ap (λ (x : ℕ). find-active x t) (sym e) ∙ table-at (entryAt ws) ((schedulerAt ws) .active) i (g .unlike) h) ∙ or-some (entryAt ws i) (least-of t)
 
   -- The least row, where none is remembered that waits.
   peek-least : (m : ℕ) → (schedulerAt ws) .active ≡ suc m → remembered (currentOf ((schedulerAt ws) .current)) (tableOf (entryAt ws) ((schedulerAt ws) .active)) ≡ none → peek (modelScheduler ws) ≡ some (entryAt ws ((bestTo ws m) .at))
@@ -192,28 +199,21 @@ module _ (ws : List ℕ) (g : GoodScheduler ws) where
   least-chosen : (i m : ℕ) → (schedulerAt ws) .active ≡ suc m → (schedulerAt ws) .active ≤ i → remembered (currentOf ((schedulerAt ws) .current)) (tableOf (entryAt ws) ((schedulerAt ws) .active)) ≡ none → Chooses ws (peek (modelScheduler ws)) (peekAmong ws ((schedulerAt ws) .active) i)
   least-chosen i m z h r = let o = (best-is ws m) .best-in in subst (Chooses ws (peek (modelScheduler ws))) (sym (among-least i m z h)) (row-chosen ((bestTo ws m) .at) (omega arith) (peek-least m z r))
 
-  current-row-some : (c : ℕ) → c < 65536 → currentRow ws ((schedulerAt ws) .active) c ≡ seek ws c ((schedulerAt ws) .active)
-  unfolding currentRow
-  current-row-some c h = ap (λ (b : Bool). if b then seek ws c ((schedulerAt ws) .active) else (schedulerAt ws) .active) (ltb-true h)
+  chooses-some : (m : ℕ) → (schedulerAt ws) .active ≡ suc m → (c : StreamId) → (schedulerAt ws) .current ≡ Stream c → (i : ℕ) → Sought ws (c .0) ((schedulerAt ws) .active) i → Chooses ws (peek (modelScheduler ws)) (peekAmong ws ((schedulerAt ws) .active) i)
+  chooses-some m z c ec i (hit h e) = subst (Chooses ws (peek (modelScheduler ws))) (sym (among i h)) (row-chosen i h (peek-current c i ec h e))
+  chooses-some m z c ec i (miss k h) =
+      least-chosen i m z (omega arith) (ap (λ (x : Remembered). remembered (currentOf x) (tableOf (entryAt ws) ((schedulerAt ws) .active))) ec ∙ ap (λ (x : Option ℕ). remembered x (tableOf (entryAt ws) ((schedulerAt ws) .active))) (current-some c) ∙ remembered-some (c .0) ∙ table-none (entryAt ws) ((schedulerAt ws) .active) (c .0) h)
 
-  current-row-none : (c : ℕ) → 65536 ≤ c → currentRow ws ((schedulerAt ws) .active) c ≡ (schedulerAt ws) .active
-  unfolding currentRow
-  current-row-none c h = ap (λ (b : Bool). if b then seek ws c ((schedulerAt ws) .active) else (schedulerAt ws) .active) (ltb-false h)
-
-  chooses-some : (m : ℕ) → (schedulerAt ws) .active ≡ suc m → (c : ℕ) → (schedulerAt ws) .current ≡ c → c < 65536 → (i : ℕ) → Sought ws c ((schedulerAt ws) .active) i → Chooses ws (peek (modelScheduler ws)) (peekAmong ws ((schedulerAt ws) .active) i)
-  chooses-some m z c ec f i (hit h e) = subst (Chooses ws (peek (modelScheduler ws))) (sym (among i h)) (row-chosen i h (peek-current c i ec f h e))
-  chooses-some m z c ec f i (miss k h) =
-      least-chosen i m z (omega arith) (ap (λ (x : ℕ). remembered (currentOf x) (tableOf (entryAt ws) ((schedulerAt ws) .active))) ec ∙ ap (λ (x : Option ℕ). remembered x (tableOf (entryAt ws) ((schedulerAt ws) .active))) (current-some c f) ∙ remembered-some c ∙ table-none (entryAt ws) ((schedulerAt ws) .active) c h)
-
-  chooses-none : (m : ℕ) → (schedulerAt ws) .active ≡ suc m → 65536 ≤ (schedulerAt ws) .current → Chooses ws (peek (modelScheduler ws)) (peekAmong ws ((schedulerAt ws) .active) ((schedulerAt ws) .active))
-  chooses-none m z h = least-chosen ((schedulerAt ws) .active) m z (omega arith) (ap (λ (x : Option ℕ). remembered x (tableOf (entryAt ws) ((schedulerAt ws) .active))) (current-none ((schedulerAt ws) .current) h) ∙ remembered-none)
+  chooses-none : (m : ℕ) → (schedulerAt ws) .active ≡ suc m → (schedulerAt ws) .current ≡ NoStream → Chooses ws (peek (modelScheduler ws)) (peekAmong ws ((schedulerAt ws) .active) ((schedulerAt ws) .active))
+  chooses-none m z e = least-chosen ((schedulerAt ws) .active) m z (omega arith) (ap (λ (x : Remembered). remembered (currentOf x) (tableOf (entryAt ws) ((schedulerAt ws) .active))) e ∙ ap (λ (x : Option ℕ). remembered x (tableOf (entryAt ws) ((schedulerAt ws) .active))) current-none ∙ remembered-none)
 
   by-current : (m : ℕ) → (schedulerAt ws) .active ≡ suc m → Chooses ws (peek (modelScheduler ws)) (peekAmong ws ((schedulerAt ws) .active) (currentRow ws ((schedulerAt ws) .active) ((schedulerAt ws) .current)))
-  by-current m z = elim (tri ((schedulerAt ws) .current) 65536) [
-    | less l ↦ subst (λ (i : ℕ). Chooses ws (peek (modelScheduler ws)) (peekAmong ws ((schedulerAt ws) .active) i)) (sym (current-row-some ((schedulerAt ws) .current) l)) (chooses-some m z ((schedulerAt ws) .current) refl l (seek ws ((schedulerAt ws) .current) ((schedulerAt ws) .active)) (sought ws ((schedulerAt ws) .current) ((schedulerAt ws) .active)))
-    | same e ↦ (let k : 65536 ≤ (schedulerAt ws) .current = omega arith in subst (λ (i : ℕ). Chooses ws (peek (modelScheduler ws)) (peekAmong ws ((schedulerAt ws) .active) i)) (sym (current-row-none ((schedulerAt ws) .current) k)) (chooses-none m z k))
-    | more l ↦ (let k : 65536 ≤ (schedulerAt ws) .current = omega arith in subst (λ (i : ℕ). Chooses ws (peek (modelScheduler ws)) (peekAmong ws ((schedulerAt ws) .active) i)) (sym (current-row-none ((schedulerAt ws) .current) k)) (chooses-none m z k))
-  ]
+  unfolding currentRow
+  by-current m z = go ((schedulerAt ws) .current) refl
+    where
+      go : (c : Remembered) → (schedulerAt ws) .current ≡ c → Chooses ws (peek (modelScheduler ws)) (peekAmong ws ((schedulerAt ws) .active) (currentRow ws ((schedulerAt ws) .active) c))
+      go NoStream e = chooses-none m z e
+      go (Stream k) e = chooses-some m z k e (seek ws (k .0) ((schedulerAt ws) .active)) (sought ws (k .0) ((schedulerAt ws) .active))
 
   pub peek-link : Chooses ws (peek (modelScheduler ws)) (peekWords ws)
   unfolding peekWords

@@ -14,19 +14,22 @@ use Rattle.queue_model.specs.Scheduler.{saturating, cost, moved, scheduled, act
 use Rattle.queue_model.proofs.Tests.{Tri, ltb-true, ltb-false, leb-true, leb-false, eqb-true, eqb-false, less, same, more, tri}
 use Rattle.queue_model.proofs.Table.{put-later, put-here, put-before, put-end}
 use Rattle.queue_model.proofs.Scheduler.{set-none, set-some}
+use Rattle.types.specs.declared.StreamId.{StreamId}
 use Rattle.queue_words.specs.Active.{activeAt, putActive, FitsActive, parametersOf, parametersWord}
-use Rattle.queue_words.specs.Header.{optionsAt, schedulerAt, putScheduler}
+use Rattle.queue_words.specs.Header.{optionsAt, schedulerAt, putScheduler, FitsRemembered}
 use Rattle.queue_words.specs.declared.active.ActiveStreamInfo.{ActiveStreamInfo}
 use Rattle.queue_words.specs.declared.active.SchedulingParameters.{SchedulingParameters}
 use Rattle.queue_words.specs.declared.active.SchedulingParameters.the-variants.{RoundRobin, WeightedFairQueuing}
 use Rattle.queue_words.specs.declared.header.Options.{Options}
+use Rattle.queue_words.specs.declared.header.Remembered.{Remembered}
+use Rattle.queue_words.specs.declared.header.Remembered.the-variants.{NoStream, Stream}
 use Rattle.queue_words.specs.declared.header.SchedulerState.{SchedulerState}
-use Rattle.queue_words.proofs.Laws.{active-at-fits, active-at-put, active-at-put-other, active-put-scheduler, scheduler-put-active, scheduler-at-put, options-put-active, options-put-scheduler, whole-put-active, whole-put-scheduler}
+use Rattle.queue_words.proofs.Laws.{active-at-fits, active-at-put, active-at-put-other, active-put-scheduler, scheduler-put-active, scheduler-at-put, active-count-put, remembered-at-fits, options-put-active, options-put-scheduler, whole-put-active, whole-put-scheduler}
 use Rattle.stream_scheduler.specs.declared.Peeked.{Peeked}
 use Rattle.stream_scheduler.specs.declared.Peeked.the-variants.{At, Nothing, Broken}
 use Rattle.active_table.specs.Rows.{seek, bestTo}
 use Rattle.stream_scheduler.specs.Rows.{weightOf, weightAt, advanced, scheduledRow}
-use Rattle.stream_scheduler.specs.Words.{Outcome, outcome, currentRow, peekAmong, peekWords, forgotten, rested, stateOf, droppedRow, takenOut, removeStream, setIn, setBytesRemaining, rememberedWord, partRow, acceptRow, acceptAt}
+use Rattle.stream_scheduler.specs.Words.{Outcome, outcome, currentRow, peekAmong, peekWords, forgotten, rested, stateOf, droppedRow, takenOut, removeStream, setIn, setBytesRemaining, rememberedBy, partRow, acceptRow, acceptAt}
 use Rattle.stream_scheduler.specs.Link.{entryOf, entryAt, tableOf, currentOf, modelScheduler, Unlike, GoodScheduler, Steps, FitsParameters, Room, listed, free}
 use Rattle.stream_scheduler.proofs.Index.{table-nil, table-suc, table-at, table-none, table-same, table-set, table-add, unlike-same, unlike-add, unlike-drop, table-drop, table-without, table-least}
 use Rattle.stream_scheduler.proofs.Search.{Sought, hit, miss, sought, best-is}
@@ -79,17 +82,13 @@ pub id-fits : (ws : List ℕ) (i : ℕ) → (entryAt ws i) .stream-id < 65536
 unfolding entryAt
 id-fits ws i = (active-at-fits ws i) .stream-id-fits
 
-pub current-some : (c : ℕ) → c < 65536 → currentOf c ≡ some c
+pub current-some : (k : StreamId) → currentOf (Stream k) ≡ some (k .0)
 unfolding currentOf
-current-some c h = ap (λ (b : Bool). if b then some c else none) (ltb-true h)
+current-some k = refl
 
-pub current-none : (c : ℕ) → 65536 ≤ c → currentOf c ≡ none
+pub current-none : currentOf NoStream ≡ none
 unfolding currentOf
-current-none c h = ap (λ (b : Bool). if b then some c else none) (ltb-false h)
-
-forget-some : (id c : ℕ) → (c ≡ id → ⊥) → forget id (some c) ≡ some c
-unfolding forget
-forget-some id c n = ap (λ (b : Bool). if b then none else some c) (eqb-false n)
+current-none = refl
 
 pub forget-own : (id : ℕ) → forget id (some id) ≡ none
 unfolding forget
@@ -99,19 +98,22 @@ pub forget-none : (id : ℕ) → forget id none ≡ none
 unfolding forget
 forget-none id = refl
 
-forgotten-current : (c id : ℕ) → id < 65536 → currentOf (forgotten c id) ≡ forget id (currentOf c)
-forgotten-current c id h = elim (tri c id) [
-  | less l ↦ kept (λ e. omega arith)
-  | same e ↦ ap (λ (b : Bool). currentOf (if b then 65536 else c)) (eqb-true e) ∙ current-none 65536 (omega arith) ∙ sym (ap (λ (x : ℕ). forget id (currentOf x)) e ∙ ap (forget id) (current-some id h) ∙ forget-own id)
-  | more l ↦ kept (λ e. omega arith)
-]
+forgotten-current : (c : Remembered) (id : ℕ) → currentOf (forgotten c id) ≡ forget id (currentOf c)
+unfolding currentOf forget
+forgotten-current NoStream id = refl
+forgotten-current (Stream k) id = go (eqb (k .0) id)
   where
-    kept : (c ≡ id → ⊥) → currentOf (forgotten c id) ≡ forget id (currentOf c)
-    kept n = ap (λ (b : Bool). currentOf (if b then 65536 else c)) (eqb-false n) ∙ (elim (tri c 65536) as (λ _. currentOf c ≡ forget id (currentOf c)) [
-      | less l ↦ current-some c l ∙ sym (ap (forget id) (current-some c l) ∙ forget-some id c n)
-      | same e ↦ (let g : 65536 ≤ c = omega arith in current-none c g ∙ sym (ap (forget id) (current-none c g) ∙ forget-none id))
-      | more l ↦ (let g : 65536 ≤ c = omega arith in current-none c g ∙ sym (ap (forget id) (current-none c g) ∙ forget-none id))
-    ])
+    go : (b : Bool) → currentOf (if b then NoStream else Stream (record { 0 = k .0 })) ≡ (if b then none else some (k .0))
+    go true = refl
+    go false = refl
+
+forgotten-fits : (c : Remembered) (id : ℕ) → FitsRemembered c → FitsRemembered (forgotten c id)
+forgotten-fits NoStream id f = f
+forgotten-fits (Stream k) id f = go (eqb (k .0) id)
+  where
+    go : (b : Bool) → FitsRemembered (if b then NoStream else Stream (record { 0 = k .0 }))
+    go true = tt
+    go false = f
 
 rest-put : (t : ℕ) (a : Active) (as′ : List Active) → rest-time t (put-active a as′) ≡ t
 unfolding rest-time
@@ -133,7 +135,7 @@ rested-table t e (suc n) = let z : suc n ≡ 0 → ⊥ = λ f. omega arith in ap
 -- ---- taking a row out
 
 -- The last of suc m rows in the place of another, with a state of one row fewer.
-module _ (ws : List ℕ) (at m c t : ℕ) where
+module _ (ws : List ℕ) (at m : ℕ) (c : Remembered) (t : ℕ) where
   dropped-is : droppedRow ws at c t (suc m) ≡ putScheduler (putActive ws at (activeAt ws m)) (stateOf c (rested t m) m)
   unfolding droppedRow
   dropped-is =
@@ -151,8 +153,11 @@ module _ (ws : List ℕ) (at m c t : ℕ) where
     dropped-here h = ap (λ (x : List ℕ). entryAt x at) dropped-is ∙ entry-state (putActive ws at (activeAt ws m)) (stateOf c (rested t m) m) at
         ∙ entry-put ws at (activeAt ws m) long h (active-at-fits ws m) ∙ sym (entry-row ws m)
 
-    pub dropped-state : schedulerAt (droppedRow ws at c t (suc m)) ≡ stateOf c (rested t m) m
-    dropped-state = ap schedulerAt dropped-is ∙ scheduler-at-put (putActive ws at (activeAt ws m)) (stateOf c (rested t m) m) (whole-put-active ws at (activeAt ws m) ∙ long)
+    pub dropped-left : schedulerAt (droppedRow ws at c t (suc m)) .active ≡ m
+    dropped-left = ap (λ (x : List ℕ). schedulerAt x .active) dropped-is ∙ active-count-put (putActive ws at (activeAt ws m)) (stateOf c (rested t m) m) (whole-put-active ws at (activeAt ws m) ∙ long)
+
+    dropped-state : FitsRemembered c → schedulerAt (droppedRow ws at c t (suc m)) ≡ stateOf c (rested t m) m
+    dropped-state f = ap schedulerAt dropped-is ∙ scheduler-at-put (putActive ws at (activeAt ws m)) (stateOf c (rested t m) m) (whole-put-active ws at (activeAt ws m) ∙ long) f
 
 -- A stream's waiting ended: its row is dropped, or it has none and the rows stay.
 module _ (ws : List ℕ) (id : ℕ) where
@@ -169,7 +174,7 @@ module _ (ws : List ℕ) (id : ℕ) where
       ap (λ (b : Bool). if b then droppedRow ws (s .active) (forgotten (s .current) id) (s .«system_virtual_time») (s .active) else putScheduler ws (stateOf (forgotten (s .current) id) (rested (s .«system_virtual_time») (s .active)) (s .active))) (ltb-false k)
 
 module _ (ws : List ℕ) (g : GoodScheduler ws) where
-  module _ (at m c t : ℕ) (h : at < suc m) (en : (schedulerAt ws) .active ≡ suc m) where
+  module _ (at m : ℕ) (c : Remembered) (t : ℕ) (h : at < suc m) (en : (schedulerAt ws) .active ≡ suc m) where
     unlike-n : Unlike (entryAt ws) (suc m)
     unlike-n = subst (Unlike (entryAt ws)) en (g .unlike)
 
@@ -182,18 +187,18 @@ module _ (ws : List ℕ) (g : GoodScheduler ws) where
     there : (j : ℕ) → (at ≡ j → ⊥) → entryAt (droppedRow ws at c t (suc m)) j ≡ entryAt ws j
     there = dropped-there ws at m c t
 
-    state-is : schedulerAt (droppedRow ws at c t (suc m)) ≡ stateOf c (rested t m) m
-    state-is = dropped-state ws at m c t (g .long)
+    left-is : schedulerAt (droppedRow ws at c t (suc m)) .active ≡ m
+    left-is = dropped-left ws at m c t (g .long)
 
     pub dropped-good : GoodScheduler (droppedRow ws at c t (suc m))
     dropped-good = let k = few-n in record {
       long = dropped-whole ws at m c t ∙ g .long;
-      few = subst (λ (x : SchedulerState). x .active ≤ 256) (sym state-is) (omega arith);
-      unlike = subst (λ (x : SchedulerState). Unlike (entryAt (droppedRow ws at c t (suc m))) (x .active)) (sym state-is) (unlike-drop (entryAt ws) (entryAt (droppedRow ws at c t (suc m))) m at unlike-n h here there);
+      few = subst (λ (x : ℕ). x ≤ 256) (sym left-is) (omega arith);
+      unlike = subst (Unlike (entryAt (droppedRow ws at c t (suc m)))) (sym left-is) (unlike-drop (entryAt ws) (entryAt (droppedRow ws at c t (suc m))) m at unlike-n h here there);
     }
 
     pub dropped-count : (schedulerAt (droppedRow ws at c t (suc m))) .active ≤ suc ((schedulerAt ws) .active)
-    dropped-count = subst (λ (x : SchedulerState). x .active ≤ suc ((schedulerAt ws) .active)) (sym state-is) (omega arith)
+    dropped-count = subst (λ (x : ℕ). x ≤ suc ((schedulerAt ws) .active)) (sym left-is) (omega arith)
 
     dropped-table : tableOf (entryAt (droppedRow ws at c t (suc m))) m ≡ without-active ((entryAt ws at) .stream-id) (tableOf (entryAt ws) (suc m))
     dropped-table = table-drop (entryAt ws) (entryAt (droppedRow ws at c t (suc m))) m at unlike-n h here there
@@ -202,11 +207,11 @@ module _ (ws : List ℕ) (g : GoodScheduler ws) where
     pub dropped-rest : rested t m ≡ rest-time t (without-active ((entryAt ws at) .stream-id) (tableOf (entryAt ws) (suc m)))
     dropped-rest = rested-table t (entryAt (droppedRow ws at c t (suc m))) m ∙ ap (rest-time t) dropped-table
 
-    pub dropped-model : modelScheduler (droppedRow ws at c t (suc m)) ≡ make ((optionsAt ws) .«payload_limit») (currentOf c) (rest-time t (without-active ((entryAt ws at) .stream-id) (tableOf (entryAt ws) (suc m)))) (without-active ((entryAt ws at) .stream-id) (tableOf (entryAt ws) (suc m)))
-    dropped-model =
+    pub dropped-model : FitsRemembered c → modelScheduler (droppedRow ws at c t (suc m)) ≡ make ((optionsAt ws) .«payload_limit») (currentOf c) (rest-time t (without-active ((entryAt ws at) .stream-id) (tableOf (entryAt ws) (suc m)))) (without-active ((entryAt ws at) .stream-id) (tableOf (entryAt ws) (suc m)))
+    dropped-model f =
         model-of (droppedRow ws at c t (suc m)) ((optionsAt ws) .«payload_limit») (stateOf c (rested t m) m) (without-active ((entryAt ws at) .stream-id) (tableOf (entryAt ws) (suc m)))
         (ap (λ (x : List ℕ). (optionsAt x) .«payload_limit») (dropped-is ws at m c t) ∙ ap (λ (o : Options). o .«payload_limit») (options-put-scheduler (putActive ws at (activeAt ws m)) (stateOf c (rested t m) m) ∙ options-put-active ws at (activeAt ws m)))
-        state-is dropped-table
+        (dropped-state ws at m c t (g .long) f) dropped-table
         ∙ ap (λ (x : ℕ). make ((optionsAt ws) .«payload_limit») (currentOf c) x (without-active ((entryAt ws at) .stream-id) (tableOf (entryAt ws) (suc m)))) dropped-rest
 
 -- A count is 0 or one more than another.
@@ -232,15 +237,15 @@ module _ (ws : List ℕ) (g : GoodScheduler ws) (id : ℕ) (fits : id < 65536) w
   taken-hit at h e = elim (count ((schedulerAt ws) .active)) [
     | none-there z ↦ absurd (omega arith)
     | some-there m z ↦ (let s : SchedulerState = schedulerAt ws in
-        let c : ℕ = forgotten (s .current) id in
+        let c : Remembered = forgotten (s .current) id in
         let h′ : at < suc m = subst (λ (x : ℕ). at < x) z h in
         let q : takenOut ws id at (s .active) ≡ droppedRow ws at c (s .«system_virtual_time») (suc m) = out-hit ws id at h ∙ ap (droppedRow ws at c (s .«system_virtual_time»)) z in
         record {
           step-done = refl;
           step-good = subst GoodScheduler (sym q) (dropped-good ws g at m c (s .«system_virtual_time») h′ z);
-          step-model = ap modelScheduler q ∙ dropped-model ws g at m c (s .«system_virtual_time») h′ z
+          step-model = ap modelScheduler q ∙ dropped-model ws g at m c (s .«system_virtual_time») h′ z (forgotten-fits (s .current) id (remembered-at-fits ws))
               ∙ ap (λ (x : ℕ). make ((optionsAt ws) .«payload_limit») (currentOf c) (rest-time (s .«system_virtual_time») (without-active x (tableOf (entryAt ws) (suc m)))) (without-active x (tableOf (entryAt ws) (suc m)))) e
-              ∙ ap₂ (λ (x : Option ℕ) (y : ℕ). make ((optionsAt ws) .«payload_limit») x (rest-time (s .«system_virtual_time») (without-active id (tableOf (entryAt ws) y))) (without-active id (tableOf (entryAt ws) y))) (forgotten-current (s .current) id fits) (sym z)
+              ∙ ap₂ (λ (x : Option ℕ) (y : ℕ). make ((optionsAt ws) .«payload_limit») x (rest-time (s .«system_virtual_time») (without-active id (tableOf (entryAt ws) y))) (without-active id (tableOf (entryAt ws) y))) (forgotten-current (s .current) id) (sym z)
               ∙ sym (removed ws id);
           step-count = subst (λ (x : List ℕ). (schedulerAt x) .active ≤ suc (s .active)) (sym q) (dropped-count ws g at m c (s .«system_virtual_time») h′ z);
         })
@@ -252,7 +257,7 @@ module _ (ws : List ℕ) (g : GoodScheduler ws) (id : ℕ) (fits : id < 65536) w
       let s : SchedulerState = schedulerAt ws in
       let v : SchedulerState = stateOf (forgotten (s .current) id) (rested (s .«system_virtual_time») (s .active)) (s .active) in
       let q : takenOut ws id (s .active) (s .active) ≡ putScheduler ws v = out-miss ws id in
-      let ev : schedulerAt (putScheduler ws v) ≡ v = scheduler-at-put ws v (g .long) in
+      let ev : schedulerAt (putScheduler ws v) ≡ v = scheduler-at-put ws v (g .long) (forgotten-fits (s .current) id (remembered-at-fits ws)) in
       let same-rows : (i : ℕ) → entryAt (putScheduler ws v) i ≡ entryAt ws i = entry-state ws v in
       let et : tableOf (entryAt (putScheduler ws v)) (s .active) ≡ tableOf (entryAt ws) (s .active) = table-same (entryAt ws) (entryAt (putScheduler ws v)) (s .active) (λ i l. same-rows i) in
       let ew : without-active id (tableOf (entryAt ws) (s .active)) ≡ tableOf (entryAt ws) (s .active) = table-without (entryAt ws) (s .active) id none-has in
@@ -265,7 +270,7 @@ module _ (ws : List ℕ) (g : GoodScheduler ws) (id : ℕ) (fits : id < 65536) w
         });
         step-model = ap modelScheduler q
             ∙ model-of (putScheduler ws v) ((optionsAt ws) .«payload_limit») v (tableOf (entryAt ws) (s .active)) (ap (λ (o : Options). o .«payload_limit») (options-put-scheduler ws v)) ev et
-            ∙ ap₂ (λ (x : Option ℕ) (y : ℕ). make ((optionsAt ws) .«payload_limit») x y (tableOf (entryAt ws) (s .active))) (forgotten-current (s .current) id fits) (rested-table (s .«system_virtual_time») (entryAt ws) (s .active))
+            ∙ ap₂ (λ (x : Option ℕ) (y : ℕ). make ((optionsAt ws) .«payload_limit») x y (tableOf (entryAt ws) (s .active))) (forgotten-current (s .current) id) (rested-table (s .«system_virtual_time») (entryAt ws) (s .active))
             ∙ ap (λ (x : List Active). make ((optionsAt ws) .«payload_limit») (forget id (currentOf (s .current))) (rest-time (s .«system_virtual_time») x) x) (sym ew)
             ∙ sym (removed ws id);
         step-count = subst (λ (x : List ℕ). (schedulerAt x) .active ≤ suc (s .active)) (sym q) (subst (λ (x : SchedulerState). x .active ≤ suc (s .active)) (sym ev) (omega arith));
@@ -284,7 +289,7 @@ module _ (ws : List ℕ) (g : GoodScheduler ws) (id : ℕ) (fits : id < 65536) w
 -- ---- a row in its place
 
 -- A row of the same stream, and a state with as many rows.
-module _ (ws : List ℕ) (g : GoodScheduler ws) (at : ℕ) (h : at < (schedulerAt ws) .active) (row : ActiveStreamInfo) (fits : FitsActive row) (own : row .«stream_id» .0 ≡ (entryAt ws at) .stream-id) (c t : ℕ) where
+module _ (ws : List ℕ) (g : GoodScheduler ws) (at : ℕ) (h : at < (schedulerAt ws) .active) (row : ActiveStreamInfo) (fits : FitsActive row) (own : row .«stream_id» .0 ≡ (entryAt ws at) .stream-id) (c : Remembered) (t : ℕ) (fc : FitsRemembered c) where
   pub row-link : Steps ws (outcome true (putScheduler (putActive ws at row) (stateOf c t ((schedulerAt ws) .active)))) (make ((optionsAt ws) .«payload_limit») (currentOf c) t (put-active (entryOf row) (tableOf (entryAt ws) ((schedulerAt ws) .active))))
   row-link =
       let s : SchedulerState = schedulerAt ws in
@@ -292,7 +297,7 @@ module _ (ws : List ℕ) (g : GoodScheduler ws) (at : ℕ) (h : at < (schedulerA
       let us : List ℕ = putActive ws at row in
       let v : SchedulerState = stateOf c t (s .active) in
       let ws′ : List ℕ = putScheduler us v in
-      let ev : schedulerAt ws′ ≡ v = scheduler-at-put us v (whole-put-active ws at row ∙ g .long) in
+      let ev : schedulerAt ws′ ≡ v = scheduler-at-put us v (whole-put-active ws at row ∙ g .long) fc in
       let here : entryAt ws′ at ≡ entryOf row = entry-state us v at ∙ entry-put ws at row (g .long) (omega arith) fits in
       let there : (j : ℕ) → (at ≡ j → ⊥) → entryAt ws′ j ≡ entryAt ws j = λ j ne. entry-state us v j ∙ entry-put-other ws at row j ne in
       let et : tableOf (entryAt ws′) (s .active) ≡ put-active (entryOf row) (tableOf (entryAt ws) (s .active)) = table-set (entryAt ws) (entryAt ws′) (s .active) at (entryOf row) (g .unlike) h own here there in
@@ -390,7 +395,7 @@ module _ (ws : List ℕ) (g : GoodScheduler ws) (id bytes : ℕ) (p : Scheduling
       let us : List ℕ = putActive ws (s .active) (row-at t) in
       let v : SchedulerState = stateOf (s .current) t (s .active + 1) in
       let ws′ : List ℕ = putScheduler us v in
-      let ev : schedulerAt ws′ ≡ v = scheduler-at-put us v (whole-put-active ws (s .active) (row-at t) ∙ g .long) in
+      let ev : schedulerAt ws′ ≡ v = scheduler-at-put us v (whole-put-active ws (s .active) (row-at t) ∙ g .long) (remembered-at-fits ws) in
       let here : entryAt ws′ (s .active) ≡ entryOf (row-at t) = entry-state us v (s .active) ∙ entry-put ws (s .active) (row-at t) (g .long) h (row-fits t) in
       let there : (j : ℕ) → j < s .active → entryAt ws′ j ≡ entryAt ws j = λ j o. entry-state us v j ∙ entry-put-other ws (s .active) (row-at t) j (λ f. omega arith) in
       let one : s .active + 1 ≡ suc (s .active) = omega arith in

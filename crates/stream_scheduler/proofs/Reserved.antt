@@ -14,15 +14,16 @@ use Rattle.queue_words.specs.Active.{activeAt, putActive, FitsActive, parameter
 use Rattle.queue_words.specs.Header.{optionsAt, schedulerAt, putScheduler}
 use Rattle.queue_words.specs.declared.active.ActiveStreamInfo.{ActiveStreamInfo}
 use Rattle.queue_words.specs.declared.active.SchedulingParameters.{SchedulingParameters}
+use Rattle.queue_words.specs.declared.header.Remembered.{Remembered}
 use Rattle.queue_words.specs.declared.header.SchedulerState.{SchedulerState}
-use Rattle.queue_words.proofs.Laws.{scheduler-at-put, scheduler-put-active, whole-put-active, whole-put-scheduler}
+use Rattle.queue_words.proofs.Laws.{active-count-put, scheduler-put-active, whole-put-active, whole-put-scheduler}
 use Rattle.active_table.specs.Rows.{seek}
 use Rattle.stream_scheduler.specs.Rows.{scheduledRow}
 use Rattle.stream_scheduler.specs.Words.{Outcome, waitsIn, forgotten, rested, stateOf, droppedRow, takenOut, setBytesRemaining}
 use Rattle.stream_scheduler.specs.Link.{entryAt, FitsParameters}
 use Rattle.stream_scheduler.proofs.Exits.{bytes-none, bytes-some, set-old, set-new}
 use Rattle.stream_scheduler.proofs.Search.{Sought, hit, miss, sought}
-use Rattle.stream_scheduler.proofs.Link.{entry-put, entry-put-other, entry-state, dropped-here, dropped-there, dropped-state, dropped-whole, out-hit, out-miss, none-there, some-there, count, word-fits, ids-put}
+use Rattle.stream_scheduler.proofs.Link.{entry-put, entry-put-other, entry-state, dropped-here, dropped-there, dropped-left, dropped-whole, out-hit, out-miss, none-there, some-there, count, word-fits, ids-put}
 
 -- ---- a list of ids
 
@@ -107,12 +108,12 @@ module _ (ws us : List ℕ) (id r r′ : ℕ) (v : Reserved ws us r) (low : r �
 
   -- ---- with no bytes
 
-  module _ (at m : ℕ) (h : at < suc m) (e : (entryAt us at) .stream-id ≡ id) (z : (schedulerAt us) .active ≡ suc m) (c t : ℕ) where
+  module _ (at m : ℕ) (h : at < suc m) (e : (entryAt us at) .stream-id ≡ id) (z : (schedulerAt us) .active ≡ suc m) (c : Remembered) (t : ℕ) where
     abbrev ds : List ℕ
     ds = droppedRow us at c t (suc m)
 
     left : (schedulerAt ds) .active ≡ m
-    left = ap (λ (x : SchedulerState). x .active) (dropped-state us at m c t (v .whole))
+    left = dropped-left us at m c t (v .whole)
 
     -- Another stream's row is still there.
     stays : (x : ℕ) → (x ≡ id → ⊥) → Lacks ds x → Lacks us x
@@ -143,7 +144,7 @@ module _ (ws us : List ℕ) (id r r′ : ℕ) (v : Reserved ws us r) (low : r �
   taken-reserved : (at : ℕ) → Sought us id ((schedulerAt us) .active) at → Reserved ws (takenOut us id at ((schedulerAt us) .active)) r′
   taken-reserved at (hit h e) = elim (count ((schedulerAt us) .active)) [
     | none-there z ↦ absurd (omega arith)
-    | some-there m z ↦ (let c : ℕ = forgotten ((schedulerAt us) .current) id in
+    | some-there m z ↦ (let c : Remembered = forgotten ((schedulerAt us) .current) id in
         let t : ℕ = (schedulerAt us) .«system_virtual_time» in
         subst (λ (x : List ℕ). Reserved ws x r′) (sym (out-hit us id at h ∙ ap (droppedRow us at c t) z)) (dropped-reserved at m (subst (λ (x : ℕ). at < x) z h) e z c t))
   ]
@@ -152,7 +153,7 @@ module _ (ws us : List ℕ) (id r r′ : ℕ) (v : Reserved ws us r) (low : r �
       let x : SchedulerState = stateOf (forgotten (s .current) id) (rested (s .«system_virtual_time») (s .active)) (s .active) in
       subst (λ (y : ℕ). Reserved ws (takenOut us id y (s .active)) r′) (sym z)
       (subst (λ (y : List ℕ). Reserved ws y r′) (sym (out-miss us id))
-      (same-ids ws us (putScheduler us x) r′ (whole-put-scheduler us x) (ap (λ (y : SchedulerState). y .active) (scheduler-at-put us x (v .whole))) (λ j. ap (λ (a : Active). a .stream-id) (entry-state us x j)) (reserved-more ws us r r′ low v)))
+      (same-ids ws us (putScheduler us x) r′ (whole-put-scheduler us x) (active-count-put us x (v .whole)) (λ j. ap (λ (a : Active). a .stream-id) (entry-state us x j)) (reserved-more ws us r r′ low v)))
 
   -- ---- with bytes
 
@@ -182,7 +183,7 @@ module _ (ws us : List ℕ) (id r r′ : ℕ) (v : Reserved ws us r) (low : r �
 
     module _ (free : (schedulerAt us) .active < 256) (t : ℕ) where
       more-rows : (schedulerAt (ns t)) .active ≡ (schedulerAt us) .active + 1
-      more-rows = ap (λ (x : SchedulerState). x .active) (scheduler-at-put (putActive us ((schedulerAt us) .active) (row-at t)) state (whole-put-active us ((schedulerAt us) .active) (row-at t) ∙ v .whole))
+      more-rows = active-count-put (putActive us ((schedulerAt us) .active) (row-at t)) state (whole-put-active us ((schedulerAt us) .active) (row-at t) ∙ v .whole)
 
       own : (entryAt (ns t) ((schedulerAt us) .active)) .stream-id ≡ id
       own = ap (λ (x : Active). x .stream-id) (entry-state (putActive us ((schedulerAt us) .active) (row-at t)) state ((schedulerAt us) .active) ∙ entry-put us ((schedulerAt us) .active) (row-at t) (v .whole) free (row-fits t))

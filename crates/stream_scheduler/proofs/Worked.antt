@@ -184,7 +184,7 @@ pub starts : (ws : List ℕ) (o : Options) → length ws ≡ 20768 → FitsOptio
 unfolding modelScheduler seen tableOf currentOf new-scheduler
 starts ws o l f =
     let l' : length (putOptions ws o) ≡ 20768 = whole-put-options ws o ∙ l in
-    let s : schedulerAt (putScheduler (putOptions ws o) at-rest) ≡ at-rest = scheduler-at-put (putOptions ws o) at-rest l' in
+    let s : schedulerAt (putScheduler (putOptions ws o) at-rest) ≡ at-rest = scheduler-at-put (putOptions ws o) at-rest l' tt in
     let p : (optionsAt (putScheduler (putOptions ws o) at-rest)) .«payload_limit» ≡ o .«payload_limit» = ap (λ (x : Options). x .«payload_limit») (options-put-scheduler (putOptions ws o) at-rest ∙ options-at-put ws o l f) in
     let z : (schedulerAt (putScheduler (putOptions ws o) at-rest)) .active ≡ 0 = ap (λ (x : SchedulerState). x .active) s in
     record {

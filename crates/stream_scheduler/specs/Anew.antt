@@ -7,6 +7,7 @@ use Rattle.queue_model.specs.Logic.{if_then_else_}
 use Rattle.queue_words.specs.Active.{activeAt, putActive, parametersWord}
 use Rattle.queue_words.specs.Header.{optionsAt, schedulerAt, putScheduler}
 use Rattle.queue_words.specs.declared.active.SchedulingParameters.{SchedulingParameters}
+use Rattle.queue_words.specs.declared.header.Remembered.the-variants.{NoStream}
 use Rattle.stream_scheduler.specs.Rows.{advanced, scheduledRow}
 use Rattle.stream_scheduler.specs.Words.{Outcome, outcome, rested, stateOf, droppedRow}
 
@@ -15,14 +16,14 @@ use Rattle.stream_scheduler.specs.Words.{Outcome, outcome, rested, state
 unfoldable pub begunAnew : List ℕ → ℕ → ℕ → ℕ → ℕ → ℕ → ℕ → List ℕ
 begunAnew ws at id t bytes w n =
     let start = rested t (n - 1) in
-    putScheduler (putActive ws at (scheduledRow ((optionsAt ws) .«payload_limit») id w start bytes)) (stateOf 65536 start n)
+    putScheduler (putActive ws at (scheduledRow ((optionsAt ws) .«payload_limit») id w start bytes)) (stateOf NoStream start n)
 
 -- "Handing out moves its start, and the system time, by the cost of the bytes handed out"; with no bytes behind them the row is taken out.
 unfoldable pub lastRow : List ℕ → ℕ → ℕ → ℕ → ℕ → ℕ → ℕ → List ℕ
 lastRow ws at id sent bytes w n =
     let a = activeAt ws at in
     let t = advanced (a .parameters) (a .«virtual_start_time») sent in
-    if eqb bytes 0 then droppedRow ws at 65536 t n else begunAnew ws at id t bytes w n
+    if eqb bytes 0 then droppedRow ws at NoStream t n else begunAnew ws at id t bytes w n
 
 -- The last bytes of the row `at` handed out; its stream goes on with so many bytes, 0 for none.
 unfoldable pub acceptLast : List ℕ → ℕ → ℕ → ℕ → ℕ → SchedulingParameters → Outcome

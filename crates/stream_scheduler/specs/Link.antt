@@ -4,9 +4,7 @@ use mathlib.Core.Path.{_≡_}
 use mathlib.Core.Bool.{true}
 use mathlib.Core.List.{List, []}
 use mathlib.Core.Option.{Option, none, some}
-use lib.Dec.{ltb}
 use lib.ListN.{length}
-use Rattle.queue_model.specs.Logic.{if_then_else_}
 use Rattle.queue_model.specs.Types.{Active, Scheduler}
 use Rattle.queue_model.specs.Scheduler.{put-active}
 use Rattle.queue_words.specs.Active.{activeAt}
@@ -17,6 +15,8 @@ use Rattle.queue_words.specs.Streams.{streamAt}
 use Rattle.queue_words.specs.declared.active.ActiveStreamInfo.{ActiveStreamInfo}
 use Rattle.queue_words.specs.declared.active.SchedulingParameters.{SchedulingParameters}
 use Rattle.queue_words.specs.declared.active.SchedulingParameters.the-variants.{RoundRobin, WeightedFairQueuing}
+use Rattle.queue_words.specs.declared.header.Remembered.{Remembered}
+use Rattle.queue_words.specs.declared.header.Remembered.the-variants.{NoStream, Stream}
 use Rattle.queue_words.specs.declared.header.SchedulerState.{SchedulerState}
 use Rattle.stream_scheduler.specs.Rows.{weightAt}
 use Rattle.stream_scheduler.specs.Words.{Outcome}
@@ -35,9 +35,10 @@ unfoldable pub tableOf : (ℕ → Active) → ℕ → List Active
 tableOf e zero = []
 tableOf e (suc n) = put-active (e n) (tableOf e n)
 
--- The remembered stream of its word.
-unfoldable pub currentOf : ℕ → Option ℕ
-currentOf c = if ltb c 65536 then some c else none
+-- The remembered stream.
+unfoldable pub currentOf : Remembered → Option ℕ
+currentOf NoStream = none
+currentOf (Stream id) = some (id .0)
 
 -- The scheduler that the words stand for.
 unfoldable pub modelScheduler : List ℕ → Scheduler
@@ -56,7 +57,7 @@ pub record GoodScheduler (ws : List ℕ) : Type 0 where
 
 -- The state of a new scheduler: nothing remembered, no time, no row.
 abbrev pub at-rest : SchedulerState
-at-rest = record { current = 65536; «system_virtual_time» = 0; active = 0 }
+at-rest = record { current = NoStream; «system_virtual_time» = 0; active = 0 }
 
 -- ------------------------------------------------------------------ what a function must show
 

@@ -9,6 +9,8 @@ use Rattle.queue_words.specs.Header.{optionsAt, schedulerAt, putScheduler}
 use Rattle.queue_words.specs.declared.active.ActiveStreamInfo.{ActiveStreamInfo}
 use Rattle.queue_words.specs.declared.active.SchedulingParameters.{SchedulingParameters}
 use Rattle.queue_words.specs.declared.active.SchedulingParameters.the-variants.{RoundRobin, WeightedFairQueuing}
+use Rattle.queue_words.specs.declared.header.Remembered.{Remembered}
+use Rattle.queue_words.specs.declared.header.Remembered.the-variants.{NoStream, Stream}
 use Rattle.queue_words.specs.declared.header.SchedulerState.{SchedulerState}
 use Rattle.active_table.specs.Rows.{seek, bestTo}
 use Rattle.stream_scheduler.specs.Rows.{advanced, scheduledRow}
@@ -26,8 +28,9 @@ outcome d ws = record { done = d; next = ws }
 -- ------------------------------------------------------------------ the choice
 
 -- The remembered stream's row, or n.
-unfoldable pub currentRow : List ℕ → ℕ → ℕ → ℕ
-currentRow ws n c = if ltb c 65536 then seek ws c n else n
+unfoldable pub currentRow : List ℕ → ℕ → Remembered → ℕ
+currentRow ws n NoStream = n
+currentRow ws n (Stream id) = seek ws (id .0) n
 
 unfoldable pub peekAmong : List ℕ → ℕ → ℕ → Peeked
 peekAmong ws n i = if ltb i n then At i else At ((bestTo ws (n - 1)) .at)
@@ -45,17 +48,21 @@ waitsIn ws id = let n = (schedulerAt ws) .active in if ltb 256 n then false else
 -- ------------------------------------------------------------------ taking a row out
 
 -- The remembered stream, unless it is this one; and the system time, 0 where no row is left.
-abbrev pub forgotten : ℕ → ℕ → ℕ
-forgotten c id = if eqb c id then 65536 else c
+abbrev pub keptUnless : ℕ → ℕ → Remembered
+keptUnless k id = if eqb k id then NoStream else Stream (record { 0 = k })
+
+abbrev pub forgotten : Remembered → ℕ → Remembered
+forgotten NoStream id = NoStream
+forgotten (Stream k) id = keptUnless (k .0) id
 
 abbrev pub rested : ℕ → ℕ → ℕ
 rested t n = if eqb n 0 then 0 else t
 
-abbrev pub stateOf : ℕ → ℕ → ℕ → SchedulerState
+abbrev pub stateOf : Remembered → ℕ → ℕ → SchedulerState
 stateOf c t n = record { current = c; «system_virtual_time» = t; active = n }
 
 -- The last of n rows takes a row's place.
-unfoldable pub droppedRow : List ℕ → ℕ → ℕ → ℕ → ℕ → List ℕ
+unfoldable pub droppedRow : List ℕ → ℕ → Remembered → ℕ → ℕ → List ℕ
 droppedRow ws at c t n = putScheduler (putActive ws at (activeAt ws (n - 1))) (stateOf c (rested t (n - 1)) (n - 1))
 
 -- A stream's waiting ended, whose row is `at`, or that has none where `at` is n.
@@ -91,12 +98,12 @@ beginWaiting ws id bytes p = let n = (schedulerAt ws) .active in if ltb 256 n th
 -- ------------------------------------------------------------------ handing out
 
 -- "Without interleaving a stream is remembered from any fragment but a last one": by turns, and not by weights.
-abbrev pub rememberedIn : ℕ → SchedulingParameters → ℕ
-rememberedIn id RoundRobin = id
-rememberedIn id (WeightedFairQueuing v) = 65536
+abbrev pub rememberedIn : ℕ → SchedulingParameters → Remembered
+rememberedIn id RoundRobin = Stream (record { 0 = id })
+rememberedIn id (WeightedFairQueuing v) = NoStream
 
-abbrev pub rememberedWord : ℕ → ℕ → ℕ
-rememberedWord id w = rememberedIn id (parametersOf w)
+abbrev pub rememberedBy : ℕ → ℕ → Remembered
+rememberedBy id w = rememberedIn id (parametersOf w)
 
 -- A row after bytes of it are handed out, at a time, that are not its last.
 abbrev pub partRow : List ℕ → ActiveStreamInfo → ℕ → ℕ → ActiveStreamInfo
@@ -106,7 +113,7 @@ unfoldable pub acceptRow : List ℕ → ℕ → ℕ → ℕ → List ℕ
 acceptRow ws at bytes n =
     let a = activeAt ws at in
     let t = advanced (a .parameters) (a .«virtual_start_time») bytes in
-    if leb (a .«bytes_remaining») bytes then droppedRow ws at 65536 t n else putScheduler (putActive ws at (partRow ws a t bytes)) (stateOf (rememberedWord (a .«stream_id» .0) (a .parameters)) t n)
+    if leb (a .«bytes_remaining») bytes then droppedRow ws at NoStream t n else putScheduler (putActive ws at (partRow ws a t bytes)) (stateOf (rememberedBy (a .«stream_id» .0) (a .parameters)) t n)
 
 unfoldable pub acceptAt : List ℕ → ℕ → ℕ → Outcome
 unfolding acceptRow

@@ -12,6 +12,7 @@ use queue_words::active::SchedulingParameters;
 use queue_words::active::load_active;
 use queue_words::active::parameters_word;
 use queue_words::active::store_active;
+use queue_words::header::Remembered;
 use queue_words::header::SchedulerState;
 use queue_words::header::load_options;
 use queue_words::header::load_scheduler_state;
@@ -39,7 +40,7 @@ fn begin_anew(
     store_scheduler_state(
         queue,
         SchedulerState {
-            current: 65536,
+            current: Remembered::NoStream,
             system_virtual_time: start,
             active: n as u64,
         },
@@ -69,7 +70,7 @@ pub fn accept_last(
     let a = load_active(&*queue, at);
     let time = calculate_vt(a.parameters, a.virtual_start_time, sent);
     if bytes == 0 {
-        drop_row(queue, at, 65536, time, n);
+        drop_row(queue, at, Remembered::NoStream, time, n);
         return true;
     }
     let parameters = parameters_word(priority);

@@ -11,7 +11,7 @@ ghost use Prim.Native.Nat.{_+_, _-_, _*_, _<_, _≤_, min};
 ghost use Rattle.queue_model.specs.Scheduler.{cost, saturating};
 ghost use Rattle.queue_model.specs.Types.{weighted};
 ghost use Rattle.stream_scheduler.specs.Rows.{advanced, scheduledRow};
-ghost use Rattle.stream_scheduler.specs.Words.{outcome, forgotten, rested, rememberedWord, currentRow, peekWords, waitsIn, droppedRow, takenOut, removeStream, setIn, setBytesRemaining, beginWaiting, acceptAt};
+ghost use Rattle.stream_scheduler.specs.Words.{outcome, forgotten, rested, rememberedBy, keptUnless, currentRow, peekWords, waitsIn, droppedRow, takenOut, removeStream, setIn, setBytesRemaining, beginWaiting, acceptAt};
 use active_table::least_row;
 use active_table::seek;
 use queue_words::QUEUE_WORDS;
@@ -21,6 +21,7 @@ use queue_words::active::load_active;
 use queue_words::active::parameters_of;
 use queue_words::active::parameters_word;
 use queue_words::active::store_active;
+use queue_words::header::Remembered;
 use queue_words::header::SchedulerState;
 use queue_words::header::load_options;
 use queue_words::header::load_scheduler_state;
@@ -111,14 +112,14 @@ pub enum Peeked {
 }
 
 // The row of the remembered stream, or n.
-fn current_row(queue: &[u64; QUEUE_WORDS], n: usize, current: u64) -> usize
+fn current_row(queue: &[u64; QUEUE_WORDS], n: usize, current: Remembered) -> usize
     requires { ⌜ n ≤ 256 ⌝ }
     ensures { λ r. ⌜ r ≡ currentRow (now (queue .entry)) n current ⌝ }
 {
-    if current < 65536 {
-        return seek(queue, current as u16, n);
+    match current {
+        Remembered::NoStream => n,
+        Remembered::Stream(id) => seek(queue, id.0, n),
     }
-    n
 }
 
 // "Choice: the stream in mid-message if one is remembered, else the smallest finish time, then the smallest id."
@@ -133,7 +134,8 @@ pub fn peek(queue: &[u64; QUEUE_WORDS]) -> Peeked
     if n == 0 {
         return Peeked::Nothing;
     }
-    let i = current_row(queue, n, s.current);
+    let current = s.current;
+    let i = current_row(queue, n, current);
     if i < n {
         return Peeked::At(i);
     }
@@ -164,17 +166,27 @@ fn rest_time(time: u64, n: u64) -> u64
     time
 }
 
-fn forget(current: u64, stream_id: u16) -> u64
+// The remembered stream, unless it is this one.
+fn kept(id: u16, stream_id: u16) -> Remembered
+    ensures { λ r. ⌜ r ≡ keptUnless id «stream_id» ⌝ }
+{
+    if id == stream_id {
+        return Remembered::NoStream;
+    }
+    Remembered::Stream(StreamId(id))
+}
+
+fn forget(current: Remembered, stream_id: u16) -> Remembered
     ensures { λ r. ⌜ r ≡ forgotten current «stream_id» ⌝ }
 {
-    if current == (stream_id as u64) {
-        return 65536;
+    match current {
+        Remembered::NoStream => Remembered::NoStream,
+        Remembered::Stream(id) => kept(id.0, stream_id),
     }
-    current
 }
 
 // Takes a row out: the last of n rows takes its place.
-fn drop_row(queue: &mut [u64; QUEUE_WORDS], at: usize, current: u64, time: u64, n: usize)
+fn drop_row(queue: &mut [u64; QUEUE_WORDS], at: usize, current: Remembered, time: u64, n: usize)
     requires { ⌜ (at < n) × (n ≤ 256) ⌝ }
     ensures { λ _. ⌜ now (queue .exit) ≡ droppedRow (now (queue .entry)) at current time n ⌝ }
 {
@@ -198,7 +210,8 @@ fn take_out(queue: &mut [u64; QUEUE_WORDS], stream_id: u16, at: usize, n: usize)
     ensures { λ _. ⌜ now (queue .exit) ≡ takenOut (now (queue .entry)) «stream_id» at n ⌝ }
 {
     let s = load_scheduler_state(&*queue);
-    let current = forget(s.current, stream_id);
+    let before = s.current;
+    let current = forget(before, stream_id);
     let time = s.system_virtual_time;
     if at < n {
         drop_row(queue, at, current, time, n);
@@ -252,13 +265,14 @@ fn set_row(
     }
     if n < STREAM_ROWS {
         let s = load_scheduler_state(&*queue);
+        let current = s.current;
         let row = schedule_next_chunk(limit, stream_id, parameters, s.system_virtual_time, bytes);
         store_active(queue, n, row);
         let more = (n + 1) as u64;
         store_scheduler_state(
             queue,
             SchedulerState {
-                current: s.current,
+                current: current,
                 system_virtual_time: s.system_virtual_time,
                 active: more,
             },
@@ -310,13 +324,13 @@ pub fn begin_waiting(
 }
 
 // "Without interleaving a stream is remembered from any fragment but a last one".
-fn remember(stream_id: u16, parameters: u32) -> u64
-    ensures { λ r. ⌜ r ≡ rememberedWord «stream_id» parameters ⌝ }
+fn remember(stream_id: u16, parameters: u32) -> Remembered
+    ensures { λ r. ⌜ r ≡ rememberedBy «stream_id» parameters ⌝ }
 {
     let p = parameters_of(parameters);
     match p {
-        SchedulingParameters::RoundRobin => stream_id as u64,
-        SchedulingParameters::WeightedFairQueuing(_) => 65536,
+        SchedulingParameters::RoundRobin => Remembered::Stream(StreamId(stream_id)),
+        SchedulingParameters::WeightedFairQueuing(_) => Remembered::NoStream,
     }
 }
 
@@ -335,7 +349,7 @@ pub fn accept(queue: &mut [u64; QUEUE_WORDS], at: usize, bytes: u64) -> bool
     let a = load_active(&*queue, at);
     let time = calculate_vt(a.parameters, a.virtual_start_time, bytes);
     if a.bytes_remaining <= bytes {
-        drop_row(queue, at, 65536, time, n);
+        drop_row(queue, at, Remembered::NoStream, time, n);
         return true;
     }
     let o = load_options(&*queue);

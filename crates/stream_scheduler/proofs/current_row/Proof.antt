@@ -1,14 +1,31 @@
--- `stream_scheduler::current_row` meets its contract: each return is a case of `currentRow` (proofs/Exits.antt). Assumes nothing.
+-- `stream_scheduler::current_row` meets its contract: each return is what its definition says, by what the calls ensure and the tests taken. Assumes nothing.
 use borrow.Author.Needs.{needs}
-use Rattle.stream_scheduler.proofs.Exits.{current-sought, current-none}
+use Rattle.stream_scheduler.specs.Words.{currentRow}
 use Rattle.stream_scheduler.proofs.current_row.Statement.{statement}
 use Rattle.stream_scheduler.proofs.current_row.Tie as tie
 
 returns : tie.Need-returns
-returns c = current-sought _ _ _ _ (c .before .if1 .taken) (c .seek .ensures)
+unfolding currentRow
+returns c =
+    rw
+    (
+    (c .enum-told .given .1)
+    )
 
 returns-2 : tie.Need-returns-2
-returns-2 c = current-none _ _ _ (c .if1 .left)
+unfolding currentRow
+returns-2 c =
+    rw (
+      (c .before .before .current .given .1),
+      ← (c .seek .ensures),
+    )
 
 pub current-row-spec : {M : Type 1} → statement M
-current-row-spec = tie.close (tie.spec (λ c. search needs) (λ c κs. search needs) returns returns-2)
+current-row-spec =
+    tie.close
+    (tie.spec
+    (λ c. search needs)
+    (λ c. search needs)
+    (λ c. search needs)
+    returns
+    returns-2)

@@ -1,13 +1,28 @@
--- `stream_scheduler::forget` meets its contract: each return is a case of `forgotten`. Assumes nothing.
-use borrow.Author.Tests.{eq-eqb, ne-eqb}
+-- `stream_scheduler::forget` meets its contract: each return is what its definition says, by what the calls ensure and the tests taken. Assumes nothing.
+use borrow.Author.Needs.{needs}
 use Rattle.stream_scheduler.proofs.forget.Statement.{statement}
 use Rattle.stream_scheduler.proofs.forget.Tie as tie
 
 returns : tie.Need-returns
-returns c = rw (eq-eqb _ _ (c .if1 .taken))
+returns c =
+    rw
+    (
+    (c .enum-told .given .1)
+    )
 
 returns-2 : tie.Need-returns-2
-returns-2 c = rw (ne-eqb _ _ (c .if1 .left))
+returns-2 c =
+    rw (
+      (c .before .before .current .given .1),
+      ← (c .kept .ensures),
+    )
 
 pub forget-spec : {M : Type 1} → statement M
-forget-spec = tie.close (tie.spec returns returns-2)
+forget-spec =
+    tie.close
+    (tie.spec
+    (λ c. search needs)
+    (λ c. search needs)
+    (λ c. search needs)
+    returns
+    returns-2)

@@ -1,4 +1,4 @@
--- `stream_scheduler::remember` meets its contract: each arm is a case of `rememberedWord` (proofs/Exits.antt). Assumes nothing.
+-- `stream_scheduler::remember` meets its contract: each arm is a case of `rememberedBy` (proofs/Exits.antt). Assumes nothing.
 use borrow.Author.Needs.{needs}
 use Rattle.stream_scheduler.proofs.Exits.{remembered-turns, remembered-weighted}
 use Rattle.stream_scheduler.proofs.remember.Statement.{statement}

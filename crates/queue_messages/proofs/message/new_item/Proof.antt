@@ -8,7 +8,6 @@ returns : tie.Need-returns
 unfolding newItem
 returns c =
     rw (
-      ← (c .before .before .is-limited .ensures),
       ← (c .before .expiry .ensures),
       ← (c .retransmissions .ensures),
     )
@@ -17,7 +16,6 @@ pub new-item-spec : {M : Type 1} → statement M
 new-item-spec =
     tie.close
     (tie.spec
-    (λ c. search needs)
     (λ c. search needs)
     (λ c. search needs)
     returns)

@@ -1,4 +1,5 @@
 -- `queue_sending::choice::expired` meets its contract: each return is what its definition says, by what the calls ensure and the tests taken. Assumes nothing.
+use borrow.Author.Needs.{needs}
 use Rattle.queue_sending.specs.Choice.{expiredBy}
 use Rattle.queue_sending.proofs.choice.expired.Statement.{statement}
 use Rattle.queue_sending.proofs.choice.expired.Tie as tie
@@ -8,7 +9,7 @@ unfolding expiredBy
 returns c =
     rw
     (
-    (c .before .if1 .taken)
+    (c .enum-told .given .1)
     )
 
 returns-2 : tie.Need-returns-2
@@ -16,12 +17,14 @@ unfolding expiredBy
 returns-2 c =
     rw
     (
-    (c .if1 .left)
+    (c .before .e .given .1)
     )
 
 pub expired-spec : {M : Type 1} → statement M
 expired-spec =
     tie.close
     (tie.spec
+    (λ c. search needs)
+    (λ c. search needs)
     returns
     returns-2)

@@ -8,9 +8,10 @@ returns : tie.Need-returns
 unfolding dataToSend
 returns c =
     rw (
-      ← (c .before .before .before .before .before .before .before .before .remaining .ensures),
-      ← (c .before .before .before .before .before .before .before .new .ensures),
-      ← (c .before .before .expiry-of .ensures),
+      ← (c .before .before .before .before .before .before .before .remaining .ensures),
+      ← (c .before .before .before .before .before .before .new .ensures),
+      ← (c .before .before .before .before .before .ssn .ensures),
+      ← (c .before .before .before .before .mid .ensures),
       ← (c .before .shown-lifecycle .ensures),
     )
 
@@ -18,6 +19,7 @@ pub data-to-send-spec : {M : Type 1} → statement M
 data-to-send-spec =
     tie.close
     (tie.spec
+    (λ c. search needs)
     (λ c. search needs)
     (λ c. search needs)
     (λ c. search needs)

@@ -1,4 +1,5 @@
 -- `queue_sending::numbers::numbered_item` meets its contract: each return is what its definition says, by what the calls ensure and the tests taken. Assumes nothing.
+use borrow.Author.Needs.{needs}
 use Rattle.queue_sending.specs.Numbers.{numberedItem}
 use Rattle.queue_sending.proofs.numbers.numbered_item.Statement.{statement}
 use Rattle.queue_sending.proofs.numbers.numbered_item.Tie as tie
@@ -6,31 +7,27 @@ use Rattle.queue_sending.proofs.numbers.numbered_item.Tie as tie
 returns : tie.Need-returns
 unfolding numberedItem
 returns c =
-    rw
-    (
-    (c .if1 .taken)
+    rw (
+      ← (c .before .are-given .ensures),
+      (c .if1 .taken),
     )
 
 returns-2 : tie.Need-returns-2
 unfolding numberedItem
 returns-2 c =
     rw (
+      ← (c .before .before .before .are-given .ensures),
       (c .before .before .if1 .left),
-      (c .before .if2 .taken),
+      ← (c .before .next-numbers .ensures),
     )
-
-returns-3 : tie.Need-returns-3
-unfolding numberedItem
-returns-3 c =
-    rw (
-      (c .before .before .before .if1 .left),
-      (c .before .before .if2 .left),
-    )
+    (c .with-numbers .ensures)
 
 pub numbered-item-spec : {M : Type 1} → statement M
 numbered-item-spec =
     tie.close
     (tie.spec
+    (λ c. search needs)
     returns
-    returns-2
-    returns-3)
+    (λ c. search needs)
+    (λ c. search needs)
+    returns-2)

@@ -7,15 +7,16 @@ use Rattle.queue_sending.proofs.numbers.numbered_stream.Tie as tie
 returns : tie.Need-returns
 unfolding numberedStream
 returns c =
-    rw
-    (
-    (c .if1 .taken)
+    rw (
+      ← (c .before .are-given .ensures),
+      (c .if1 .taken),
     )
 
 returns-2 : tie.Need-returns-2
 unfolding numberedStream
 returns-2 c =
     rw (
+      ← (c .before .before .before .are-given .ensures),
       (c .before .before .if1 .left),
       (c .before .if2 .taken),
       ← (c .add-to .ensures),
@@ -25,6 +26,7 @@ returns-3 : tie.Need-returns-3
 unfolding numberedStream
 returns-3 c =
     rw (
+      ← (c .before .before .before .before .are-given .ensures),
       (c .before .before .before .if1 .left),
       (c .before .before .if2 .left),
       ← (c .before .add-to2 .ensures),
@@ -35,6 +37,7 @@ pub numbered-stream-spec : {M : Type 1} → statement M
 numbered-stream-spec =
     tie.close
     (tie.spec
+    (λ c. search needs)
     returns
     (λ c. search needs)
     returns-2

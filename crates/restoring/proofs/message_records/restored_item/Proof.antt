@@ -8,16 +8,17 @@ returns : tie.Need-returns
 unfolding restoredItem
 returns c =
     rw (
-      ← (c .before .before .before .before .has-flag .ensures),
-      ← (c .before .before .before .has-flag2 .ensures),
+      ← (c .before .before .before .before .before .has-flag .ensures),
+      ← (c .before .before .before .before .has-flag2 .ensures),
+      ← (c .before .before .before .restored-numbers .ensures),
       ← (c .before .before .has-flag3 .ensures),
+      ← (c .before .restored-expiry .ensures),
     )
 
 pub restored-item-spec : {M : Type 1} → statement M
 restored-item-spec =
     tie.close
     (tie.spec
-    (λ c. search needs)
     (λ c. search needs)
     (λ c. search needs)
     (λ c. search needs)

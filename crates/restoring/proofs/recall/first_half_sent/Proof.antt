@@ -22,8 +22,8 @@ load-known-requires c κs = omega (arith, (c .before .before .pre))
 
 returns : tie.Need-returns Inv-loop μ-loop
 returns c =
-    let b = c .before .before in
-    half-here _ _ _ (b .before .before .before .loop .inv .1) (b .before .before .loop-test .taken) _ (b .before .load-known .ensures) _ (b .is-half-sent .ensures) (c .before .if1 .taken)
+    let b = c .before in
+    half-here _ _ _ (b .before .before .before .loop .inv .1) (b .before .before .loop-test .taken) _ (b .before .load-known .ensures) _ (b .is-half-sent .ensures) (c .if1 .taken)
 
 loop-again : tie.Need-loop-again Inv-loop μ-loop
 loop-again c =
@@ -42,7 +42,6 @@ first-half-sent-spec =
     loop-holds
     load-known-requires
     (λ c κs. search needs)
-    (λ c. search needs)
     returns
     (λ c. omega arith)
     (λ c. omega arith)

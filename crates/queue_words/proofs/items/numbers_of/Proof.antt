@@ -1,0 +1,28 @@
+-- `queue_words::items::numbers_of` meets its contract: each return is what its definition says, by what the calls ensure and the tests taken. Assumes nothing.
+use borrow.Author.Needs.{needs}
+use borrow.Author.Tests.{eq-eqb, ne-eqb}
+use Rattle.queue_words.proofs.items.numbers_of.Statement.{statement}
+use Rattle.queue_words.proofs.items.numbers_of.Tie as tie
+
+returns : tie.Need-returns
+returns c =
+    rw
+    (
+    eq-eqb _ _ (c .if1 .taken)
+    )
+
+returns-2 : tie.Need-returns-2
+returns-2 c =
+    rw
+    (
+    ne-eqb _ _ (c .if1 .left)
+    )
+
+pub numbers-of-spec : {M : Type 1} → statement M
+numbers-of-spec =
+    tie.close
+    (tie.spec
+    (λ c. search needs)
+    (λ c. search needs)
+    returns
+    returns-2)
