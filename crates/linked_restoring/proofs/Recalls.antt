@@ -102,11 +102,11 @@ module _ (us st : List ℕ) (g : Shape us st) where
 first-fits : (ws : List ℕ) (n i : ℕ) → FitsRemembered (firstHalfSent ws i n)
 unfolding firstHalfSent
 first-fits ws zero i = tt
-first-fits ws (suc n) i = go (halfSentAt ws (knownAt ws i))
+first-fits ws (suc n) i = go (halfSentAt ws (knownAt ws i)) (first-fits ws n (suc i))
   where
-    go : (b : Bool) → FitsRemembered (pick b (remembered.Stream (knownAt ws i .id)) (firstHalfSent ws (suc i) n))
-    go true = Laws.known-at-fits ws i .id-fits
-    go false = first-fits ws n (suc i)
+    go : (b : Bool) → FitsRemembered (firstHalfSent ws (suc i) n) → FitsRemembered (pick b (remembered.Stream (knownAt ws i .id)) (firstHalfSent ws (suc i) n))
+    go true f = Laws.known-at-fits ws i .id-fits
+    go false f = f
 
 -- ---- the scheduler's state with another remembered stream
 
