@@ -64,11 +64,11 @@ join-key true a c q e h = join-place a c q e h
 join-key false a c q e h = join-tsn a c q e h
 
 -- the next row of a message, as what is found
-pub at-part : (b : Bool) (ws : List ℕ) (h x : ℕ) → findRow ws (bit b) (following (fragmentAt ws h)) ≡ x → partAfter ws b h ≡ x
+at-part : (b : Bool) (ws : List ℕ) (h x : ℕ) → findRow ws (bit b) (following (fragmentAt ws h)) ≡ x → partAfter ws b h ≡ x
 unfolding partAfter
 at-part b ws h x e = e
 
-pub part-at : (b : Bool) (ws : List ℕ) (h x : ℕ) → partAfter ws b h ≡ x → findRow ws (bit b) (following (fragmentAt ws h)) ≡ x
+part-at : (b : Bool) (ws : List ℕ) (h x : ℕ) → partAfter ws b h ≡ x → findRow ws (bit b) (following (fragmentAt ws h)) ≡ x
 unfolding partAfter
 part-at b ws h x e = e
 
@@ -81,6 +81,21 @@ unfolding firstKey
 first-same ws ws′ k f [] h = refl
 first-same ws ws′ k f (x ∷ xs) h =
     ap₂ (λ (v : Fragment) (n : ℕ). pick (sameKey k v f) x n) (h x (stands-here x xs)) (first-same ws ws′ k f xs (λ y c. h y (let m = count-cons y x xs in omega arith)))
+
+-- a message's rows follow each other as before where what was found is found
+pub walk-by : (ws ws′ : List ℕ) (b : Bool) (held : List ℕ) → ((x : ℕ) → 0 < count x held → fragmentAt ws′ x ≡ fragmentAt ws x) → ((x : ℕ) → 0 < count x held → x < 4096)
+    → ((q : Fragment) (x : ℕ) → x < 4096 → findRow ws (bit b) q ≡ x → findRow ws′ (bit b) q ≡ x) → (h : ℕ) (ts : List ℕ) → ((x : ℕ) → 0 < count x (h ∷ ts) → 0 < count x held) → Walk ws b h ts
+    → Walk ws′ b h ts
+walk-by ws ws′ b held same row find h [] within l = ap (λ (v : Fragment). v .last) (same h (within h (stands-here h []))) ∙ l
+walk-by ws ws′ b held same row find h (x ∷ xs) within (l, (p, w)) =
+    let e : fragmentAt ws′ h ≡ fragmentAt ws h = same h (within h (stands-here h (x ∷ xs))) in
+    let c : 0 < count x held = within x (let m = count-cons x h (x ∷ xs) in let k = stands-here x xs in omega arith) in (
+      ap (λ (v : Fragment). v .last) e ∙ l,
+      (
+        at-part b ws′ h x (ap (λ (v : Fragment). findRow ws′ (bit b) (following v)) e ∙ find (following (fragmentAt ws h)) x (row x c) (part-at b ws h x p)),
+        walk-by ws ws′ b held same row find x xs (λ y k. within y (let m = count-cons y h (x ∷ xs) in omega arith)) w,
+      ),
+    )
 
 -- ------------------------------------------------------------------ a row more among rows with different keys
 
@@ -122,17 +137,7 @@ module _ (ws ws′ : List ℕ) (held : List ℕ) (i : ℕ) (f : Fragment) (same 
             ∙ first
 
     walk-more : (h : ℕ) (ts : List ℕ) → ((x : ℕ) → 0 < count x (h ∷ ts) → 0 < count x held) → Walk ws b h ts → Walk ws′ b h ts
-    walk-more h [] within l = ap (λ (v : Fragment). v .last) (same h (within h (stands-here h []))) ∙ l
-    walk-more h (x ∷ xs) within (l, (p, w)) = (
-      ap (λ (v : Fragment). v .last) (same h (within h (stands-here h (x ∷ xs)))) ∙ l,
-      (part, walk-more x xs (λ y c. within y (let m = count-cons y h (x ∷ xs) in omega arith)) w),
-    )
-      where
-        in-held : 0 < count x held
-        in-held = within x (let m = count-cons x h (x ∷ xs) in let k = stands-here x xs in omega arith)
-
-        part : partAfter ws′ b h ≡ x
-        part = at-part b ws′ h x (ap (λ (v : Fragment). findRow ws′ (bit b) (following v)) (same h (within h (stands-here h (x ∷ xs)))) ∙ find-more (following (fragmentAt ws h)) x (row x in-held) (part-at b ws h x p))
+    walk-more = walk-by ws ws′ b held same row find-more
 
 -- ------------------------------------------------------------------ good words
 

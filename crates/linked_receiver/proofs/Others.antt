@@ -1,7 +1,7 @@
 -- A change of the window or of the known streams leaves the rest of good words as it was. Assumes nothing.
 use mathlib.Core.Path.{_≡_, sym, ap, ap₂, _∙_, subst}
 use mathlib.Core.Bool.{Bool, true, false, not}
-use mathlib.Core.List.{List, [], _∷_, _++_, map}
+use mathlib.Core.List.{List, _∷_, _++_, map}
 use Prim.Native.Nat.{ℕ, _+_, _^_, _≤_, _<_}
 use native.Mathlib.Omega.{arith}
 use lib.Dec.{eqb}
@@ -19,7 +19,7 @@ use Rattle.receiver_words.specs.Link.{Flags, turnRows}
 use Rattle.receiver_words.specs.Chunks.{kindOf, chunkOf}
 use Rattle.receiver_words.specs.declared.fragments.Fragment.{Fragment}
 use Rattle.receiver_words.proofs.Rows.{stands-here}
-use Rattle.receiver_messages.specs.Keys.{interleavedOf, following}
+use Rattle.receiver_messages.specs.Keys.{interleavedOf}
 use Rattle.receiver_messages.specs.Walks.{isWhole}
 use Rattle.receiver_store.specs.Words.{payloadOf}
 use Rattle.receiver_store.proofs.Laws.{laid-same}
@@ -33,7 +33,7 @@ use Rattle.linked_receiver.proofs.Promotes.{lined-frame}
 use Rattle.linked_receiver.proofs.Frees.{Holds, held-rows, held-few, aged-same, free-same}
 use Rattle.linked_receiver.proofs.HandsOut.{parts-indexed}
 use Rattle.linked_receiver.proofs.Taken.{rows-one, map-same, good-holds}
-use Rattle.linked_receiver.proofs.Held.{at-part, part-at, first-same}
+use Rattle.linked_receiver.proofs.Held.{first-same, walk-by}
 
 -- nothing is changed but the window, the known streams, and words 2 and 3 of the header
 pub record Others (ws ws′ : List ℕ) : Type 0 where
@@ -44,22 +44,9 @@ pub record Others (ws ws′ : List ℕ) : Type 0 where
   pub fragment : (x : ℕ) → x < 4096 → fragmentAt ws′ x ≡ fragmentAt ws x
 
 -- what is found under a key, of the same rows
-pub find-same : (ws ws′ : List ℕ) (k : ℕ) (q : Fragment) (xs : List ℕ) → Indexed ws k xs → Indexed ws′ k xs → length xs ≤ 4096 → ((x : ℕ) → 0 < count x xs → fragmentAt ws′ x ≡ fragmentAt ws x)
+find-same : (ws ws′ : List ℕ) (k : ℕ) (q : Fragment) (xs : List ℕ) → Indexed ws k xs → Indexed ws′ k xs → length xs ≤ 4096 → ((x : ℕ) → 0 < count x xs → fragmentAt ws′ x ≡ fragmentAt ws x)
     → findRow ws′ k q ≡ findRow ws k q
 find-same ws ws′ k q xs ix ix′ few same = find-indexed ws′ k q xs ix′ few ∙ first-same ws ws′ k q xs same ∙ sym (find-indexed ws k q xs ix few)
-
--- a message's rows are found as before
-pub walk-same : (ws ws′ : List ℕ) (b : Bool) (held : List ℕ) → Indexed ws (bit b) held → Indexed ws′ (bit b) held → length held ≤ 4096
-    → ((x : ℕ) → 0 < count x held → fragmentAt ws′ x ≡ fragmentAt ws x) → (h : ℕ) (ts : List ℕ) → ((x : ℕ) → 0 < count x (h ∷ ts) → 0 < count x held) → Walk ws b h ts → Walk ws′ b h ts
-walk-same ws ws′ b held ix ix′ few same h [] within l = ap (λ (v : Fragment). v .last) (same h (within h (stands-here h []))) ∙ l
-walk-same ws ws′ b held ix ix′ few same h (x ∷ xs) within (l, (p, w)) =
-    let e : fragmentAt ws′ h ≡ fragmentAt ws h = same h (within h (stands-here h (x ∷ xs))) in (
-      ap (λ (v : Fragment). v .last) e ∙ l,
-      (
-        at-part b ws′ h x (ap (λ (v : Fragment). findRow ws′ (bit b) (following v)) e ∙ find-same ws ws′ (bit b) (following (fragmentAt ws h)) held ix ix′ few same ∙ part-at b ws h x p),
-        walk-same ws ws′ b held ix ix′ few same x xs (λ y c. within y (let m = count-cons y h (x ∷ xs) in omega arith)) w,
-      ),
-    )
 
 -- the rows with other TSNs ahead
 abbrev pub ahead-as : List ℕ → Ghost → Ghost
@@ -123,7 +110,9 @@ module _ (g : Ghost) (ws ws′ st ts : List ℕ) (d : Good g ws st) (s : Others 
     whole-held = d .whole-held;
     marked = λ x c. d .marked x c ∙ sym (ap bit (same-whole x (row x c)));
     walks = λ m c. subst (λ (v : Bool). Walk ws′ v m (g .tail m)) (sym others-kind)
-        (walk-same ws ws′ b (g .held) parts parts′ (held-few ws st b (g .held) (g .free) o) (λ x k. s .fragment x (row x k)) m (g .tail m) (λ x k. message-held m x c k) (d .walks m c));
+        (walk-by ws ws′ b (g .held) (λ x k. s .fragment x (row x k)) row
+        (λ q x l e. find-same ws ws′ (bit b) q (g .held) parts parts′ (held-few ws st b (g .held) (g .free) o) (λ y k. s .fragment y (row y k)) ∙ e)
+        m (g .tail m) (λ x k. message-held m x c k) (d .walks m c));
     lined = lined-frame ws ws′ 10 (g .ready) (head 10 (omega arith) (λ e. omega arith) (λ e. omega arith)) (head 11 (omega arith) (λ e. omega arith) (λ e. omega arith)) (λ x c hx. s .links x 7 hx (omega arith)) (d .lined);
     flags = fl;
     last-fits = lf;
