@@ -5,3 +5,5 @@ pub mod Runs
 pub mod Sender
 pub mod Chunks
 pub mod Request7
+pub mod Kept
+pub mod Safety

@@ -4,3 +4,4 @@ pub mod Run
 pub mod Meaning
 pub mod Sender
 pub mod Promise
+pub mod Safety
