@@ -41,7 +41,7 @@ static void changed(const char *what)
 static void keep(void)
 {
     memcpy(words_before, words, sizeof words);
-    memcpy(store_before, store, sizeof store);
+    memcpy(store_before, store, store_length);
     memcpy(out_before, out, sizeof out);
 }
 
@@ -50,7 +50,7 @@ static void unchanged(int refused)
 {
     if (memcmp(words_before, words, sizeof words))
         changed("the words");
-    if (memcmp(store_before, store, sizeof store))
+    if (memcmp(store_before, store, store_length))
         changed("the store");
     if (memcmp(out_before + !refused, out + !refused, sizeof out - (refused ? 0 : sizeof out[0])))
         changed("the out-array");
@@ -108,12 +108,12 @@ static void create(void)
     if (sscanf(line, "H %u %u %llu", &kind, &tsn, &length) != 3 || length > MAX_BUFFER)
         malformed();
     memset(store, 0, sizeof store);
+    store_length = (size_t)length;
     keep();
-    r = dsr_create(words, store, (size_t)length, (uint8_t)kind, tsn);
+    r = dsr_create(words, store, store_length, (uint8_t)kind, tsn);
     if (r)
         unchanged(1);
     receiver_there = r == 0;
-    store_length = (size_t)length;
     printf("H %u\n", r);
 }
 
