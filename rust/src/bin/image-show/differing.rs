@@ -34,7 +34,7 @@ fn by_key(records: &[Record], key: impl Fn(&Record) -> (u64, u64)) -> BTreeMap<(
     let mut found = BTreeMap::new();
     for record in records {
         let (a, b) = key(record);
-        let again = (0..).find(|n| !found.contains_key(&(a, b, *n))).expect("a count is free");
+        let again = (0..=records.len()).find(|n| !found.contains_key(&(a, b, *n))).expect("a count is free");
         found.insert((a, b, again), record);
     }
     found

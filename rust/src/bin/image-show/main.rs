@@ -1,5 +1,6 @@
 //! Shows a changeover image in words, tells where two images differ, and checks a changeover. For operators; `docs/CHANGEOVER.md` of the
 //! repository has the steps.
+#![warn(clippy::pedantic)]
 #![allow(clippy::cast_possible_truncation, reason = "usize has 64 bits (build.rs)")]
 
 mod differing;
