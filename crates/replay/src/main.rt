@@ -1,51 +1,37 @@
 // Runs a trace of calls, read from standard input, on the send queue, and writes the answers. Where the queue breaks what a
 // trace cannot show, or a line is malformed, a line of the answers begins with BROKEN.
-mod answers;
-mod changeover;
-mod given;
-mod image;
-mod input;
-mod lent;
-mod marks;
-mod output;
-mod packet;
-mod parse;
-mod payload;
-mod plan;
+mod lines;
 mod ranges;
-mod resets;
-mod settle;
-mod state;
-mod wire;
 
-use answers::answer;
-use given::parse_bytes;
-use input::BAD_LINE;
-use input::NO_LINE;
-use input::read_line;
-use marks::mark_bytes;
-use marks::mark_events;
-use output::flush;
-use output::put_broken;
-use parse::parse;
+use lines::answer;
 use ranges::has_handler;
 use ranges::is_call;
 use send_queue::QUEUE_WORDS;
-use state::BUFFER;
-use state::EVENT_BUFFER;
-use state::FRAGMENT;
-use state::IMAGE;
-use state::LINE;
-use state::LINE_BYTES;
-use state::PAYLOAD;
-use state::STATE;
-use state::STORE;
+use trace_answers::marks::EVENT_BUFFER;
+use trace_answers::marks::mark_bytes;
+use trace_answers::marks::mark_events;
+use trace_text::given::parse_bytes;
+use trace_text::input::BAD_LINE;
+use trace_text::input::NO_LINE;
+use trace_text::input::read_line;
+use trace_text::output::ANSWERS;
+use trace_text::output::count_line;
+use trace_text::output::flush;
+use trace_text::output::put_broken;
+use trace_text::parse::parse;
+use trace_text::state::BUFFER;
+use trace_text::state::FRAGMENT;
+use trace_text::state::IMAGE;
+use trace_text::state::LINE_BYTES;
+use trace_text::state::PAYLOAD;
+use trace_text::state::STATE;
+use trace_text::state::STORE;
 
 // Whether the next line is there and is a call. A malformed line is told.
 fn next_call(
     payload: &mut [u8; PAYLOAD],
     input: &mut [u8; BUFFER],
-    output: &mut [u8; BUFFER],
+    output: &mut [u64; ANSWERS],
     state: &mut [u64; STATE],
 ) -> bool {
     let mut line = [0u8; LINE_BYTES];
@@ -53,21 +39,14 @@ fn next_call(
     if n == NO_LINE {
         return false;
     }
-    count_line(state);
+    count_line(output);
     let good = is_line(&line, n, payload, state);
     if good {
         return true;
     }
-    put_broken(output, state, b"malformed");
+    put_broken(output, b"malformed");
     io::write_all(2, b"replay: a malformed line\n");
     false
-}
-
-fn count_line(state: &mut [u64; STATE]) {
-    let n = state[LINE];
-    if n < 18446744073709551615 {
-        state[LINE] = n + 1;
-    }
 }
 
 // The bytes of a line `R` or `A` go to the payload.
@@ -117,7 +96,7 @@ fn run(
     payload: &mut [u8; PAYLOAD],
     image: &mut [u8; IMAGE],
     input: &mut [u8; BUFFER],
-    output: &mut [u8; BUFFER],
+    output: &mut [u64; ANSWERS],
     state: &mut [u64; STATE],
 ) {
     let mut left = u64::MAX;
@@ -156,7 +135,7 @@ fn main() {
     let mut payload = [0u8; PAYLOAD];
     let mut image = [0u8; IMAGE];
     let mut input = [0u8; BUFFER];
-    let mut output = [0u8; BUFFER];
+    let mut output = [0u64; ANSWERS];
     let mut state = [0u64; STATE];
     mark_events(&mut events, EVENT_BUFFER);
     mark_fragment(&mut fragment);
@@ -173,5 +152,5 @@ fn main() {
         &mut output,
         &mut state,
     );
-    flush(&output, &mut state);
+    flush(&mut output);
 }

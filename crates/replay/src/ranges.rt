@@ -1,28 +1,26 @@
 // How many numbers each line has, and their ranges.
-use crate::plan::is_plan;
-use crate::state::COUNT;
-use crate::state::LETTER;
-use crate::state::MOST_PLACES;
-use crate::state::QUEUES;
-use crate::state::STARTED;
-use crate::state::STATE;
-use crate::state::low8;
+use request_lines::plan::is_plan;
+use trace_text::state::BITS16;
+use trace_text::state::COUNT;
+use trace_text::state::LETTER;
+use trace_text::state::MOST_PLACES;
+use trace_text::state::NEW_WITH_RULE;
+use trace_text::state::QUEUES;
+use trace_text::state::STARTED;
+use trace_text::state::STATE;
+use trace_text::state::low8;
 
 const ANY: u64 = 18446744073709551615;
 
 const FLAG: u64 = 1;
-
-pub const BITS16: u64 = 65535;
 
 const BITS32: u64 = 4294967295;
 
 // No line has so many numbers.
 const NO_CALL: u64 = 99;
 
-// The numbers of a line `n` without the rule of a restart, which it may leave out, and with it.
+// The numbers of a line `n` without the rule of a restart, which it may leave out.
 const NEW: u64 = 6;
-
-pub const NEW_WITH_RULE: u64 = 7;
 
 // Of a line `W`; no other of these lines has more.
 const MOST_NUMBERS: u64 = 13;
@@ -152,7 +150,7 @@ fn has_queue(state: &[u64; STATE], letter: u8) -> bool {
 }
 
 // A line of the stream reset handler wants its start.
-pub fn has_handler(state: &[u64; STATE], letter: u8) -> bool {
+pub(crate) fn has_handler(state: &[u64; STATE], letter: u8) -> bool {
     match letter {
         b'Q' | b'A' | b'Z' => state[STARTED] == 1,
         _ => true,

@@ -1,3 +1,0 @@
--- What the proofs of the loops use. Assumes nothing.
-pub mod Payloads
-pub mod Copies

@@ -1,3 +1,0 @@
--- What the payloads, the sums and the marks are. Assumes nothing.
-pub mod Payload
-pub mod Marks

@@ -1,0 +1,2 @@
+-- What the proofs of the loops use. Assumes nothing.
+pub mod Copies

@@ -1,0 +1,2 @@
+-- What the marks are. Assumes nothing.
+pub mod Marks

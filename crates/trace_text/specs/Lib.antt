@@ -1,0 +1,2 @@
+-- What the payloads and the sums are. Assumes nothing.
+pub mod Payload
