@@ -46,7 +46,7 @@ enum dsr_refusal {
     DSR_STORE_WRONG = 2,
     /* The buffer is shorter than the message. */
     DSR_BUFFER_SHORT = 10,
-    /* The words are not those of a receiver: somebody else wrote into them. */
+    /* The words are not those of a receiver: somebody else wrote into them. From creation on no call of these functions leads to it. */
     DSR_WORDS_BROKEN = 16,
     /* The bytes are not one chunk of the receiver's kind with payload and padding. */
     DSR_CHUNK_WRONG = 19,

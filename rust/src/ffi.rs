@@ -1,9 +1,9 @@
-//! The proved queue's C functions, each behind a safe function. All unsafe code of the crate is here.
+//! The C functions of the proved queue and receiver, each behind a safe function. All unsafe code of the crate is here.
 //!
 //! Why the calls are safe. The C functions ask for pointers that are valid for the lengths given, that do not overlap where one is written,
 //! and that are aligned. Here every pointer is made from a reference of a fixed or given length, which lives through the call; Rust's rules
 //! for `&mut` say that it overlaps nothing. The fixed lengths are those of the library's source (tests/header.rs compares them), and the linked
-//! library is of that source's layout (`SendQueue::new` asks it). Words and bytes have no forbidden values. The library reads and writes
+//! library is of that source's layout (`SendQueue::new` and `Receiver::new` ask it). Words and bytes have no forbidden values. The library reads and writes
 //! inside its buffers only (that is proved), keeps no pointer and has no state of its own. It never unwinds. With too little stack the process
 //! ends at the guard page: large frames touch their pages in order.
 
@@ -17,6 +17,8 @@ use crate::limits::MAX_PLANNED;
 use crate::limits::MAX_STREAMS;
 use crate::limits::OUT_WORDS;
 use crate::limits::QUEUE_WORDS;
+use crate::limits::RECEIVER_OUT_WORDS;
+use crate::limits::RECEIVER_WORDS;
 use crate::options::Options;
 use crate::packet::Packet;
 use std::mem::MaybeUninit;
@@ -35,6 +37,10 @@ pub(crate) type Priorities = [u16; MAX_PLANNED];
 pub(crate) type HandlerNumbers = [u32; HANDLER_NUMBERS];
 /// What goes with a chunk read: 0 its kind, 1 its TSN, 2 where its payload begins.
 pub(crate) type ChunkWords = [u64; CHUNK_WORDS];
+/// A receiver's state.
+pub(crate) type ReceiverWords = [u64; RECEIVER_WORDS];
+/// What a receiver's call tells: 0 its value, 1 to 4 a message's length, stream, order mark and protocol id.
+pub(crate) type ReceiverOut = [u64; RECEIVER_OUT_WORDS];
 
 mod c {
     unsafe extern "C" {
@@ -193,6 +199,30 @@ mod c {
             image: *const u8,
             image_length: usize,
             time: u64,
+        ) -> u8;
+        pub fn dsr_layout() -> u64;
+        pub fn dsr_create(
+            receiver: *mut u64,
+            store: *const u8,
+            store_length: usize,
+            i_data: u8,
+            starting_tsn: u32,
+        ) -> u8;
+        pub fn dsr_receive(
+            receiver: *mut u64,
+            store: *mut u8,
+            store_length: usize,
+            bytes: *const u8,
+            bytes_length: usize,
+            out: *mut u64,
+        ) -> u8;
+        pub fn dsr_fetch(
+            receiver: *mut u64,
+            store: *const u8,
+            store_length: usize,
+            buffer: *mut u8,
+            buffer_length: usize,
+            out: *mut u64,
         ) -> u8;
     }
 }
@@ -543,4 +573,45 @@ pub(crate) fn save(queue: &Words, store: &[u8], image: &mut [u8], out: &mut Out,
 pub(crate) fn restore(queue: &mut Words, store: &mut [u8], image: &[u8], time: u64) -> u8 {
     // SAFETY: all three are references, the lengths are their own; the image overlaps neither, since those are `&mut`.
     unsafe { c::dsq_restore(queue.as_mut_ptr(), store.as_mut_ptr(), store.len(), image.as_ptr(), image.len(), time) }
+}
+
+/// The receiver's layout.
+pub(crate) fn receiver_layout() -> u64 {
+    // SAFETY: it takes nothing and gives a number.
+    unsafe { c::dsr_layout() }
+}
+
+pub(crate) fn create_receiver(receiver: &mut ReceiverWords, store: &[u8], kind: ChunkKind, starting_tsn: Tsn) -> u8 {
+    // SAFETY: receiver and store are references, the store's length is its own.
+    unsafe { c::dsr_create(receiver.as_mut_ptr(), store.as_ptr(), store.len(), kind as u8, starting_tsn.0) }
+}
+
+#[inline]
+pub(crate) fn receive(receiver: &mut ReceiverWords, store: &mut [u8], bytes: &[u8], out: &mut ReceiverOut) -> u8 {
+    // SAFETY: all four are references, the lengths are their own; the bytes overlap nothing, since the others are `&mut`.
+    unsafe {
+        c::dsr_receive(
+            receiver.as_mut_ptr(),
+            store.as_mut_ptr(),
+            store.len(),
+            bytes.as_ptr(),
+            bytes.len(),
+            out.as_mut_ptr(),
+        )
+    }
+}
+
+#[inline]
+pub(crate) fn fetch(receiver: &mut ReceiverWords, store: &[u8], buffer: &mut [u8], out: &mut ReceiverOut) -> u8 {
+    // SAFETY: all four are references, the lengths are their own; the store is only read.
+    unsafe {
+        c::dsr_fetch(
+            receiver.as_mut_ptr(),
+            store.as_ptr(),
+            store.len(),
+            buffer.as_mut_ptr(),
+            buffer.len(),
+            out.as_mut_ptr(),
+        )
+    }
 }

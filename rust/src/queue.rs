@@ -46,7 +46,7 @@ pub struct SendQueue {
 
 /// A boxed array of zeros, made on the heap.
 #[allow(clippy::unnecessary_box_returns, reason = "an array of this length is not to pass over the stack")]
-fn zeros<const N: usize>() -> Box<[u64; N]> {
+pub(crate) fn zeros<const N: usize>() -> Box<[u64; N]> {
     vec![0; N].into_boxed_slice().try_into().expect("the length is the array's")
 }
 

@@ -29,8 +29,8 @@ pub enum Refusal {
     StoreFull = 8,
     /// The size asked for is outside 1 to 262,144.
     SizeWrong = 9,
-    /// The fragment buffer is shorter than the size asked for. (A [`SendQueue`](crate::SendQueue) takes the buffer's length for the size, so it
-    /// never gives this.)
+    /// The buffer is shorter than the message that a [`Receiver`](crate::Receiver) has ready. (Of a queue, the fragment buffer is shorter than the
+    /// size asked for; a [`SendQueue`](crate::SendQueue) takes the buffer's length for the size, so it never gives this.)
     BufferShort = 10,
     /// The image buffer is shorter than the image.
     ImageBufferShort = 11,
@@ -43,18 +43,24 @@ pub enum Refusal {
     PriorityOther = 14,
     /// The image passes 256 streams, 1,024 messages or the store.
     ImageLarge = 15,
-    /// The queue's words are not those of a queue. Proved never to happen to one that only its own calls have changed.
+    /// The words are not those of a queue, or of a receiver. Proved never to happen to one that only its own calls have changed.
     WordsBroken = 16,
     /// The payload to write into a chunk is empty or above 65,515 bytes.
     ChunkPayloadWrong = 17,
     /// The output is shorter than the padded chunk.
     ChunkOutputShort = 18,
-    /// The bytes read are not one DATA or I-DATA chunk with payload and padding.
+    /// The bytes read are not one DATA or I-DATA chunk with payload and padding, or not one of the receiver's kind.
     ChunkWrong = 19,
     /// The packet limit is outside 36 to 65,535.
     PacketLimitWrong = 20,
     /// The packet buffer is shorter than the packet limit.
     PacketBufferShort = 21,
+    /// The TSN is more than 1,024 past the last one received without a gap.
+    TsnFar = 22,
+    /// The payload is longer than the receiver's free store, or it would be the 4,097th held fragment or from the 257th stream.
+    ReceiverFull = 23,
+    /// A fragment at a TSN that is held differs in payload or a field read.
+    FragmentOther = 24,
     /// A reset request is wanted while one is underway.
     RequestUnderway = 25,
     /// The output is shorter than the reset request.
@@ -69,7 +75,7 @@ pub enum Refusal {
 }
 
 impl Refusal {
-    const ALL: [Self; 26] = [
+    const ALL: [Self; 29] = [
         Self::PayloadLimitWrong,
         Self::StoreWrong,
         Self::EventListShort,
@@ -91,6 +97,9 @@ impl Refusal {
         Self::ChunkWrong,
         Self::PacketLimitWrong,
         Self::PacketBufferShort,
+        Self::TsnFar,
+        Self::ReceiverFull,
+        Self::FragmentOther,
         Self::RequestUnderway,
         Self::RequestOutputShort,
         Self::ResponseWrong,
@@ -98,7 +107,7 @@ impl Refusal {
         Self::OrderImpossible,
     ];
 
-    /// Its number: 1 to 21, or 25 to 29.
+    /// Its number, 1 to 29.
     #[must_use]
     pub fn number(self) -> u8 {
         self as u8
@@ -131,7 +140,9 @@ impl fmt::Display for Refusal {
             Self::MessagesFull => "the message would be the 1,025th waiting",
             Self::StoreFull => "the payload is longer than the free bytes",
             Self::SizeWrong => "the size asked for is outside 1 to 262,144",
-            Self::BufferShort => "the fragment buffer is shorter than the size asked for",
+            Self::BufferShort => {
+                "the fragment buffer is shorter than the size asked for; of a receiver: the buffer is shorter than the message"
+            }
             Self::ImageBufferShort => "the image buffer is shorter than the image",
             Self::QueueUsed => "restoring finds a queue that knows a stream, or whose next message id is not 0",
             Self::ImageWrong => "the image breaks a rule",
@@ -139,12 +150,20 @@ impl fmt::Display for Refusal {
             Self::ImageLarge => {
                 "the image, with the streams that only messages name, passes 256 streams, 1,024 messages or the store"
             }
-            Self::WordsBroken => "the words are not those of a queue",
+            Self::WordsBroken => "the words are not those of a queue; of a receiver: the words are not those of a receiver",
             Self::ChunkPayloadWrong => "the payload to write into a chunk is empty or above 65,515 bytes",
             Self::ChunkOutputShort => "the output is shorter than the padded chunk",
-            Self::ChunkWrong => "the bytes read are not one DATA or I-DATA chunk with payload and padding",
+            Self::ChunkWrong => {
+                "the bytes read are not one DATA or I-DATA chunk with payload and padding; of a receiver: the bytes are not one \
+                 chunk of the receiver's kind with payload and padding"
+            }
             Self::PacketLimitWrong => "the packet limit is outside 36 to 65,535",
             Self::PacketBufferShort => "the packet buffer is shorter than the packet limit",
+            Self::TsnFar => "the TSN is more than 1,024 past the last one received without a gap",
+            Self::ReceiverFull => {
+                "the payload is longer than the free store, or it would be the 4,097th held fragment or from the 257th stream"
+            }
+            Self::FragmentOther => "a fragment at a TSN that is held differs in payload or a field read",
             Self::RequestUnderway => "a reset request is wanted while one is underway",
             Self::RequestOutputShort => "the output is shorter than the reset request",
             Self::ResponseWrong => "the bytes received are not one RE-CONFIG chunk with a response",

@@ -1,7 +1,8 @@
-//! The crate's view of the C functions is the header's: same functions, same parameters. No linker would notice a difference.
+//! The crate's view of the C functions is the headers': same functions, same parameters. No linker would notice a difference.
 
 use desqariy::Refusal;
 use std::collections::BTreeMap;
+use std::collections::BTreeSet;
 use std::fs;
 use std::path::Path;
 
@@ -61,10 +62,11 @@ fn of_header(header: &str) -> Functions {
     functions
 }
 
-fn of_crate(ffi: &str) -> Functions {
+/// The declarations of the crate whose names begin so.
+fn of_crate(ffi: &str, prefix: &str) -> Functions {
     let mut functions = Functions::new();
     for statement in ffi.split("pub fn ").skip(1) {
-        let Some((head, _)) = statement.split_once(';').filter(|_| statement.starts_with("dsq_")) else { continue };
+        let Some((head, _)) = statement.split_once(';').filter(|_| statement.starts_with(prefix)) else { continue };
         let one_line = head.split_whitespace().collect::<Vec<_>>().join(" ");
         let (name, rest) = one_line.split_once('(').unwrap();
         let (parameters, answer) = rest.split_once(") -> ").unwrap();
@@ -78,12 +80,14 @@ fn of_crate(ffi: &str) -> Functions {
 
 #[test]
 fn the_functions_are_the_header_s() {
-    let (header, ours) = (of_header(&text("../c/send_queue.h")), of_crate(&text("src/ffi.rs")));
-    assert!(header.len() > 20, "the header was not understood");
-    for (name, parameters) in &header {
-        assert_eq!(ours.get(name), Some(parameters), "{name}");
+    for (header, prefix, least) in [("../c/send_queue.h", "dsq_", 20), ("../c/receiver.h", "dsr_", 4)] {
+        let (header, ours) = (of_header(&text(header)), of_crate(&text("src/ffi.rs"), prefix));
+        assert!(header.len() >= least, "the header was not understood");
+        for (name, parameters) in &header {
+            assert_eq!(ours.get(name), Some(parameters), "{name}");
+        }
+        assert_eq!(ours.len(), header.len());
     }
-    assert_eq!(ours.len(), header.len());
 }
 
 /// A parameter of a proved function as C sees it: an array is a pointer, a slice a pointer and a length.
@@ -97,7 +101,7 @@ fn of_parameter(name: &str, kind: &str, list: &mut Vec<String>) {
     }
 }
 
-/// The files of both libraries that have functions for C.
+/// The files of the queue's two libraries that have functions for C.
 const SOURCES: [&str; 10] = [
     "packets_c/src/lib",
     "send_queue_c/src/images",
@@ -111,9 +115,12 @@ const SOURCES: [&str; 10] = [
     "send_queue_c/src/wire",
 ];
 
-fn of_source() -> Functions {
+/// Those of the receiver's.
+const RECEIVER_SOURCES: [&str; 2] = ["receiver_c/src/calls", "receiver_c/src/layout"];
+
+fn of_source(files: &[&str]) -> Functions {
     let mut functions = Functions::new();
-    for file in SOURCES {
+    for file in files {
         for part in text(&format!("../crates/{file}.rt")).split("pub extern \"C\" fn ").skip(1) {
             let (name, rest) = part.split_once('(').unwrap();
             let (parameters, rest) = rest.split_once(") -> ").unwrap();
@@ -131,7 +138,8 @@ fn of_source() -> Functions {
 
 #[test]
 fn the_functions_are_the_proved_ones() {
-    assert_eq!(of_header(&text("../c/send_queue.h")), of_source());
+    assert_eq!(of_header(&text("../c/send_queue.h")), of_source(&SOURCES));
+    assert_eq!(of_header(&text("../c/receiver.h")), of_source(&RECEIVER_SOURCES));
 }
 
 /// The number behind a name, as `NAME 20768`, `NAME = 3` or `NAME: usize = 20_768` gives it.
@@ -207,17 +215,56 @@ fn the_lengths_and_places_are_the_proved_ones() {
     }
 }
 
+#[test]
+fn the_receiver_s_lengths_and_places_are_the_proved_ones() {
+    let header = text("../c/receiver.h");
+    let limits = text("src/limits.rs");
+    let words = text("../crates/receiver_words/src/lib.rt");
+    let cells = text("../crates/receiver_words/src/cells.rt");
+    let places = text("../crates/receiver_c/src/numbers.rt");
+    let layout = text("../crates/receiver_c/src/layout.rt");
+    for (define, source, constant) in [
+        ("#define DSR_LAYOUT", &layout, "const LAYOUT: u64"),
+        ("#define DSR_LAYOUT", &limits, "const RECEIVER_LAYOUT: u64"),
+        ("#define DSR_RECEIVER_WORDS", &words, "const RECEIVER_WORDS: usize"),
+        ("#define DSR_RECEIVER_WORDS", &limits, "const RECEIVER_WORDS: usize"),
+        ("#define DSR_OUT_WORDS", &places, "const OUT_WORDS: usize"),
+        ("#define DSR_OUT_WORDS", &limits, "const RECEIVER_OUT_WORDS: usize"),
+        ("#define DSR_MAX_FRAGMENTS", &cells, "const NO_ROW: u64"),
+        ("#define DSR_MAX_FRAGMENTS", &limits, "const MAX_FRAGMENTS: usize"),
+        ("#define DSR_MAX_STORE", &limits, "const MAX_STORE: usize"),
+        ("#define DSR_MAX_STREAMS", &limits, "const MAX_STREAMS: usize"),
+        ("#define DSR_WINDOW", &limits, "const TSN_WINDOW: u32"),
+    ] {
+        assert_eq!(number(&header, define), number(source, constant), "{define}");
+    }
+    let list = without_comments(header.split_once("enum dsr_out {").unwrap().1.split_once("};").unwrap().0);
+    assert_eq!(list.split(',').count() as u64, number(&header, "#define DSR_OUT_WORDS"));
+    for entry in list.split(',') {
+        let (name, place) = entry.trim().split_once(" = ").unwrap();
+        let constant = format!("const {}: usize", name.trim_start_matches("DSR_OUT_"));
+        assert_eq!(place.parse(), Ok(number(&places, &constant)), "{name}");
+    }
+}
+
 /// The layout, and a sum over what the header declares. Whoever changes a declaration decides whether a host compiled before would be wrong
 /// with it. Then the layout moves, here and in the header, limits.rs and send_queue_c. What is only added has a new sum and no new layout.
 const LAYOUT: (u64, u32) = (4, 1_127_017_758);
+/// The same of the receiver's header and receiver_c.
+const RECEIVER_LAYOUT: (u64, u32) = (1, 510_326_001);
 
 #[test]
 fn the_layout_goes_with_what_the_header_declares() {
-    let header = text("../c/send_queue.h");
-    let declared = without_comments(&header);
-    let letters = declared.split_whitespace().flat_map(str::bytes);
-    let sum = letters.fold(17_u32, |s, b| s.wrapping_mul(31).wrapping_add(u32::from(b)));
-    assert_eq!((number(&header, "#define DSQ_LAYOUT"), sum), LAYOUT, "a declaration has changed: see `LAYOUT` here");
+    for (header, define, layout) in [
+        ("../c/send_queue.h", "#define DSQ_LAYOUT", LAYOUT),
+        ("../c/receiver.h", "#define DSR_LAYOUT", RECEIVER_LAYOUT),
+    ] {
+        let header = text(header);
+        let declared = without_comments(&header);
+        let letters = declared.split_whitespace().flat_map(str::bytes);
+        let sum = letters.fold(17_u32, |s, b| s.wrapping_mul(31).wrapping_add(u32::from(b)));
+        assert_eq!((number(&header, define), sum), layout, "a declaration has changed: see `LAYOUT` here");
+    }
 }
 
 #[test]
@@ -248,41 +295,51 @@ fn the_version_is_the_same_everywhere() {
 /// `DSQ_STORE_FULL` is `StoreFull`.
 fn camel(name: &str) -> String {
     let part = |p: &str| format!("{}{}", &p[..1], p[1..].to_lowercase());
-    name.trim_start_matches("DSQ_").split('_').map(part).collect()
+    name.split('_').skip(1).map(part).collect()
 }
 
-/// The header's list of refusals.
+/// A header's list of refusals.
 fn listed(header: &str) -> &str {
-    header.split_once("enum dsq_refusal {").unwrap().1.split_once("};").unwrap().0
+    header.split_once("_refusal {").unwrap().1.split_once("};").unwrap().0
 }
 
+const HEADERS: [&str; 2] = ["../c/send_queue.h", "../c/receiver.h"];
+
 #[test]
-fn the_refusals_are_the_header_s() {
-    let header = without_comments(&text("../c/send_queue.h"));
-    let mut numbers = Vec::new();
-    for entry in listed(&header).split(',') {
-        let (name, given) = entry.trim().split_once(" = ").unwrap();
-        let number: u8 = given.parse().unwrap();
-        match Refusal::from_number(number) {
-            None => assert_eq!((number, name), (0, "DSQ_ACCEPTED")),
-            Some(refusal) => assert_eq!(format!("{refusal:?}"), camel(name)),
+fn the_refusals_are_the_headers() {
+    let mut numbers = BTreeSet::new();
+    for header in HEADERS {
+        let mut last = None;
+        for entry in listed(&without_comments(&text(header))).split(',') {
+            let (name, given) = entry.trim().split_once(" = ").unwrap();
+            let number: u8 = given.parse().unwrap();
+            match Refusal::from_number(number) {
+                None => assert_eq!((number, camel(name).as_str()), (0, "Accepted")),
+                Some(refusal) => assert_eq!(format!("{refusal:?}"), camel(name)),
+            }
+            assert!(last < Some(number), "they are in the order of their numbers");
+            last = Some(number);
+            numbers.insert(number);
         }
-        numbers.push(number);
     }
-    let known: Vec<u8> = (0..=u8::MAX).filter(|n| *n == 0 || Refusal::from_number(*n).is_some()).collect();
-    assert_eq!(numbers, known, "the header has every refusal, in the order of their numbers");
+    let known: BTreeSet<u8> = (0..=u8::MAX).filter(|n| *n == 0 || Refusal::from_number(*n).is_some()).collect();
+    assert_eq!(numbers, known, "the headers have every refusal");
 }
 
-/// What a refusal says is said above its number in the header.
+/// What a refusal says is said above its number in each header that has it. Where the two say different things it says both.
 #[test]
-fn the_refusals_say_what_the_header_says() {
-    let header = text("../c/send_queue.h").replace("\n     * ", " ");
-    let mut compared = 0;
-    for entry in listed(&header).split("/* ").skip(1) {
-        let number = entry.split_once(" = ").unwrap().1.split([',', '\n']).next().unwrap();
-        let said = Refusal::from_number(number.parse().unwrap()).unwrap().to_string();
-        assert!(entry.replacen(&said[..1].to_uppercase(), &said[..1], 1).contains(&said), "{said}");
-        compared += 1;
+fn the_refusals_say_what_the_headers_say() {
+    let mut compared = BTreeSet::new();
+    for (header, place) in HEADERS.into_iter().zip([0, 1]) {
+        let header = text(header).replace("\n     * ", " ");
+        for entry in listed(&header).split("/* ").skip(1) {
+            let number: u8 = entry.split_once(" = ").unwrap().1.split([',', '\n']).next().unwrap().parse().unwrap();
+            let both = Refusal::from_number(number).unwrap().to_string();
+            let parts: Vec<&str> = both.split("; of a receiver: ").collect();
+            let said = parts.get(place).unwrap_or(&parts[0]);
+            assert!(entry.replacen(&said[..1].to_uppercase(), &said[..1], 1).contains(said), "{said}");
+            compared.insert(number);
+        }
     }
-    assert_eq!(compared, (0..=u8::MAX).filter(|n| Refusal::from_number(*n).is_some()).count());
+    assert_eq!(compared.len(), (0..=u8::MAX).filter(|n| Refusal::from_number(*n).is_some()).count());
 }
