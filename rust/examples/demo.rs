@@ -3,7 +3,8 @@
 //! First the heads get their first packets in a wanted order, a closed head whose half-sent profile runs out of time is ready at once, a
 //! queue without interleaving is carried to a second host in the middle of a profile, and a head restarts in the middle of one. Then comes the job: the heads' backlogs run low and
 //! are topped up, a head's job is closed in the middle of a profile and its stream reset by a request that the head answers, and half-way the queue is carried to a second host as an image. The
-//! fragments go over the wire in packets, each filled by one call, and the heads read the chunks in them. At the end every profile is compared byte for byte with what was queued.
+//! fragments go over the wire in packets, each filled by one call. On the wire packets overtake each other and some arrive more than once; at its other end is the receiving head, which makes profiles of their chunks again.
+//! At the end every profile is compared byte for byte with what was queued.
 
 use desqariy::*;
 use std::collections::BTreeMap;
@@ -18,6 +19,10 @@ const PORT: u16 = 5_000;
 const TAG: u32 = 0x0102_0304;
 const COMMON_HEADER: usize = 12;
 const MARK: usize = 3_000;
+/// So many packets are underway before one arrives.
+const UNDERWAY: usize = 8;
+/// No profile is longer.
+const LONGEST: usize = 7_500;
 /// So many packets are shown.
 const SHOWN: u64 = 10;
 const CLOSED: StreamId = StreamId(5);
@@ -37,72 +42,107 @@ fn number(stream: u16, place: u64) -> u64 {
     u64::from(stream) * 100 + place
 }
 
-/// The other end: reads chunks and puts their fragments together again.
-#[derive(Default)]
-struct Receiver {
-    next: Tsn,
-    /// How often the reset request underway has come.
-    asked: u32,
-    open: BTreeMap<(StreamKey, u32), (Fsn, Vec<u8>)>,
+/// The chunks of a packet: behind the common header, with checksum 0, one after the other up to its end.
+fn chunks_of(packet: &[u8]) -> Outcome<Vec<&[u8]>> {
+    let (header, mut rest) = packet.split_at_checked(COMMON_HEADER).ok_or("no packet")?;
+    if header != [&PORT.to_be_bytes()[..], &PORT.to_be_bytes(), &TAG.to_be_bytes(), &[0; 4]].concat() {
+        return Err("another common header".into());
+    }
+    let mut chunks = Vec::new();
+    while !rest.is_empty() {
+        let length = usize::from(u16::from_be_bytes([rest[2], rest[3]]));
+        let (chunk, behind) = rest.split_at_checked(length.next_multiple_of(4)).ok_or("a chunk is cut")?;
+        chunks.push(chunk);
+        rest = behind;
+    }
+    Ok(chunks)
+}
+
+/// The other end: the proved receiver, and what came out of it.
+struct Heads {
+    receiver: Receiver,
+    accepted: usize,
+    /// Of the accepted those that came after one with a later TSN.
+    late: usize,
+    newest: Tsn,
+    repeats: usize,
     whole: Vec<(StreamId, Vec<u8>)>,
 }
 
-impl Receiver {
-    /// Reads a packet: the common header, with checksum 0, and chunk by chunk up to its end. The heads that they are for.
-    fn unpack(&mut self, packet: &[u8]) -> Outcome<Vec<StreamId>> {
-        let (header, mut rest) = packet.split_at_checked(COMMON_HEADER).ok_or("no packet")?;
-        if header != [&PORT.to_be_bytes()[..], &PORT.to_be_bytes(), &TAG.to_be_bytes(), &[0; 4]].concat() {
-            return Err("another common header".into());
-        }
-        let mut heads = Vec::new();
-        while !rest.is_empty() {
-            let length = usize::from(u16::from_be_bytes([rest[2], rest[3]]));
-            let (chunk, behind) = rest.split_at_checked(length.next_multiple_of(4)).ok_or("a chunk is cut")?;
-            heads.push(self.read(chunk)?);
-            rest = behind;
-        }
-        Ok(heads)
+impl Heads {
+    fn new(kind: ChunkKind, first: Tsn) -> Outcome<Self> {
+        let receiver = Receiver::new(kind, first, MAX_STORE)?;
+        Ok(Self { receiver, accepted: 0, late: 0, newest: first, repeats: 0, whole: Vec::new() })
     }
 
-    fn read(&mut self, bytes: &[u8]) -> Outcome<StreamId> {
-        let chunk = read_chunk(bytes)?;
-        if chunk.tsn != self.next {
-            return Err(format!("chunk {} comes where {} should", chunk.tsn, self.next).into());
+    /// Receives a chunk and fetches what it makes ready.
+    fn take(&mut self, chunk: &[u8]) -> Outcome<()> {
+        let tsn = read_chunk(chunk)?.tsn;
+        match self.receiver.receive(chunk)? {
+            Received::Accepted => {
+                self.accepted += 1;
+                self.late += usize::from(tsn.0 < self.newest.0);
+                self.newest = Tsn(self.newest.0.max(tsn.0));
+            }
+            Received::Repeat => self.repeats += 1,
         }
-        self.next = chunk.tsn.add_to(1);
-        self.take(&chunk.fragment)?;
-        Ok(chunk.fragment.data.stream_key.id())
-    }
-
-    /// Answers a reset request (RFC 6525): first that it is at it (6), when it is asked again that it has reset the streams (1).
-    fn answer(&mut self, request: &[u8]) -> Outcome<[u8; 16]> {
-        let (head, ids) = request.split_at_checked(20).ok_or("no reset request")?;
-        let last = u32::from_be_bytes([head[16], head[17], head[18], head[19]]);
-        if head[..6] != [130, 0, 0, 22, 0, 13] || Tsn(last).add_to(1) != self.next || ids != [0, CLOSED.0 as u8, 0, 0] {
-            return Err("another reset request than for the closed head".into());
-        }
-        self.asked += 1;
-        let mut response = [130, 0, 0, 16, 0, 16, 0, 12, 0, 0, 0, 0, 0, 0, 0, if self.asked == 1 { 6 } else { 1 }];
-        response[8..12].copy_from_slice(&head[8..12]);
-        Ok(response)
-    }
-
-    fn take(&mut self, d: &DataToSend<&[u8]>) -> Outcome<()> {
-        let key = (d.data.stream_key, d.data.mid.0);
-        if d.data.is_beginning && self.open.insert(key, (d.data.fsn, Vec::new())).is_some() {
-            return Err(format!("head {}: message {} begins twice", key.0.id(), key.1).into());
-        }
-        let (next, bytes) = self.open.get_mut(&key).ok_or("a fragment without a beginning")?;
-        if *next != d.data.fsn {
-            return Err(format!("head {}: fragment {} comes where {next} should", key.0.id(), d.data.fsn).into());
-        }
-        *next = next.add_to(1);
-        bytes.extend_from_slice(d.data.payload);
-        if d.data.is_end {
-            let (_, bytes) = self.open.remove(&key).expect("it was just there");
-            self.whole.push((key.0.id(), bytes));
+        let mut buffer = [0; LONGEST];
+        while let Some(Delivery { stream_key, payload, .. }) = self.receiver.fetch(&mut buffer)? {
+            self.whole.push((stream_key.id(), payload.to_vec()));
         }
         Ok(())
+    }
+}
+
+/// The link to the heads. Packets overtake each other on it, and some arrive more than once.
+struct Link {
+    underway: Vec<Vec<u8>>,
+    draw: usize,
+    heads: Heads,
+}
+
+impl Link {
+    fn new(first: Tsn) -> Outcome<Self> {
+        Ok(Self { underway: Vec::new(), draw: 0, heads: Heads::new(ChunkKind::IData, first)? })
+    }
+
+    /// Takes a packet. When more than a few are underway one of them arrives, of every third a copy that stays underway.
+    fn send(&mut self, packet: &[u8]) -> Outcome<()> {
+        self.underway.push(packet.to_vec());
+        if self.underway.len() <= UNDERWAY {
+            return Ok(());
+        }
+        self.draw += 1;
+        let place = self.draw * 5 % self.underway.len();
+        let packet =
+            if self.draw.is_multiple_of(3) { self.underway[place].clone() } else { self.underway.remove(place) };
+        self.arrive(&packet)
+    }
+
+    fn arrive(&mut self, packet: &[u8]) -> Outcome<()> {
+        chunks_of(packet)?.into_iter().try_for_each(|chunk| self.heads.take(chunk))
+    }
+
+    /// All that is underway arrives, what was sent last first.
+    fn settle(&mut self) -> Outcome<()> {
+        while let Some(packet) = self.underway.pop() {
+            self.arrive(&packet)?;
+        }
+        Ok(())
+    }
+
+    /// The other end answers a reset request (RFC 6525): that it is at it (6) while packets up to the request's last TSN are underway, else
+    /// that it has reset the streams (1).
+    fn answer(&self, request: &[u8], next: Tsn) -> Outcome<[u8; 16]> {
+        let (head, ids) = request.split_at_checked(20).ok_or("no reset request")?;
+        let last = u32::from_be_bytes([head[16], head[17], head[18], head[19]]);
+        if head[..6] != [130, 0, 0, 22, 0, 13] || Tsn(last).add_to(1) != next || ids != [0, CLOSED.0 as u8, 0, 0] {
+            return Err("another reset request than for the closed head".into());
+        }
+        let result = if self.underway.is_empty() { 1 } else { 6 };
+        let mut response = [130, 0, 0, 16, 0, 16, 0, 12, 0, 0, 0, 0, 0, 0, 0, result];
+        response[8..12].copy_from_slice(&head[8..12]);
+        Ok(response)
     }
 }
 
@@ -110,7 +150,7 @@ impl Receiver {
 struct Feeder {
     queue: SendQueue,
     resets: StreamResetHandler,
-    link: Receiver,
+    link: Link,
     now: SocketTime,
     packets: u64,
     fragments: usize,
@@ -145,16 +185,11 @@ impl Feeder {
             };
             let filled = self.queue.fill_packet(self.now, &mut buffer, &wanted)?;
             if let Some(Filled { bytes, chunks }) = filled {
-                let heads = self.link.unpack(&buffer[..bytes])?;
                 self.tsn = self.tsn.add_to(chunks as u32);
                 self.packets += 1;
                 self.fragments += chunks;
-                if heads.len() != chunks {
-                    return Err("the packet has another number of chunks".into());
-                }
-                if self.packets <= SHOWN {
-                    println!("  packet {}: {bytes} bytes, I-DATA chunks for the heads {heads:?}", self.packets);
-                }
+                self.show(&buffer[..bytes], chunks)?;
+                self.link.send(&buffer[..bytes])?;
             }
             self.tell()?;
             if filled.is_none() {
@@ -164,7 +199,22 @@ impl Feeder {
         Ok(())
     }
 
-    /// Asks the other end to reset the closed head's stream, and takes its responses: it is at it, then it has done so.
+    /// Shows the packet, if it is one of the first.
+    fn show(&self, packet: &[u8], chunks: usize) -> Outcome<()> {
+        let heads = chunks_of(packet)?
+            .into_iter()
+            .map(|chunk| Ok(read_chunk(chunk)?.fragment.data.stream_key.id()))
+            .collect::<Outcome<Vec<_>>>()?;
+        if heads.len() != chunks {
+            return Err("the packet has another number of chunks".into());
+        }
+        if self.packets <= SHOWN {
+            println!("  packet {}: {} bytes, I-DATA chunks for the heads {heads:?}", self.packets, packet.len());
+        }
+        Ok(())
+    }
+
+    /// Asks the other end to reset the closed head's stream, and takes its responses: it is at it, then, when all has arrived, it has done so.
     fn close(&mut self) -> Outcome<()> {
         let mut output = [0; MAX_RESET_REQUEST];
         let last = Tsn(self.tsn.0.wrapping_sub(1));
@@ -172,12 +222,13 @@ impl Feeder {
             self.resets.make_stream_reset_request(&mut self.queue, &mut output, 0, last)?.ok_or("no head is ready")?;
         println!("  it is sent; a reset request of {n} bytes goes out");
         for wanted in [ResponseOutcome::StillWaiting, ResponseOutcome::Committed] {
-            let response = self.link.answer(&output[..n])?;
+            let response = self.link.answer(&output[..n], self.tsn)?;
             let outcome = self.resets.handle_response(&mut self.queue, &response)?;
             println!("  the head's response, {} bytes: {outcome:?}", response.len());
             if outcome != wanted {
                 return Err("the head answered otherwise".into());
             }
+            self.link.settle()?;
         }
         Ok(())
     }
@@ -273,26 +324,37 @@ fn closing_expires() -> Outcome<()> {
     Ok(())
 }
 
+/// A fragment as a DATA chunk with the TSN of its place.
+fn as_chunk(place: usize, d: &DataToSend<&[u8]>) -> Outcome<Vec<u8>> {
+    let mut chunk = vec![0; PACKET + 20];
+    let written = write_chunk(&mut chunk, ChunkKind::Data, Tsn(place as u32), &d.data)?;
+    chunk.truncate(written);
+    Ok(chunk)
+}
+
 /// Without interleaving a changeover in the middle of a profile: the second host sends its rest before it begins another one.
 fn mid_profile() -> Outcome<()> {
     let (begun, other, now) = (StreamId(5), StreamId(3), SocketTime::zero());
     let mut first = SendQueue::new(PACKET, &options())?;
-    let mut link = Receiver::default();
+    let mut heads = Heads::new(ChunkKind::Data, Tsn(0))?;
     first.add(now, Message::new(begun, PpId(53), &profile(501)), &SendOptions::default())?;
-    link.take(&first.produce(now, PACKET)?.ok_or("nothing was sent")?)?;
+    let mut chunks = vec![as_chunk(0, &first.produce(now, PACKET)?.ok_or("nothing was sent")?)?];
     first.add(now, Message::new(other, PpId(53), &profile(301)), &SendOptions::default())?;
     let mut second = SendQueue::new(PACKET, &options())?;
     second.restore(now, &first.save(now)?)?;
     let mut seen = Vec::new();
     while let Some(d) = second.produce(now, PACKET)? {
-        link.take(&d)?;
+        chunks.push(as_chunk(chunks.len(), &d)?);
         seen.push(d.data.stream_key.id());
     }
+    // A DATA message is a run of TSNs: it arrives only if nothing came between, in whatever order its chunks come.
+    chunks.iter().rev().try_for_each(|chunk| heads.take(chunk))?;
     println!(
         "changeover in mid-profile: head {begun} has begun, head {other} waits; the second host's packets go to the heads {seen:?}"
     );
     seen.dedup();
-    if seen != [begun, other] || link.whole != [(begun, profile(501)), (other, profile(301))] {
+    heads.whole.sort();
+    if seen != [begun, other] || heads.whole != [(other, profile(301)), (begun, profile(501))] {
         return Err("the begun profile was interrupted".into());
     }
     Ok(())
@@ -332,7 +394,7 @@ fn main() -> Outcome<()> {
     let mut feeder = Feeder {
         queue: new_queue()?,
         resets: StreamResetHandler::new(u32::MAX),
-        link: Receiver::default(),
+        link: Link::new(Tsn(0))?,
         now: SocketTime::zero(),
         packets: 0,
         fragments: 0,
@@ -386,9 +448,13 @@ fn main() -> Outcome<()> {
     feeder.queue = second;
     feeder.resets = StreamResetHandler::new(0);
     feeder.now = clock;
-    // Head 5 counts from 0 again; a new job for it.
-    feeder.add(new, None)?;
     feeder.send(usize::MAX)?;
+    feeder.link.settle()?;
+    // Head 5 counts from 0 again: a new job for it, to a new receiver, which counts from 0 too.
+    feeder.link.heads.receiver = Receiver::new(ChunkKind::IData, feeder.tsn, MAX_STORE)?;
+    println!("head {CLOSED}: a new job, profile {new}, {} bytes; a new receiver", feeder.add(new, None)?);
+    feeder.send(usize::MAX)?;
+    feeder.link.settle()?;
     println!("second host: nothing waits; {} packets in all, with {} chunks", feeder.packets, feeder.fragments);
 
     check(&feeder)
@@ -396,7 +462,15 @@ fn main() -> Outcome<()> {
 
 /// Every profile came whole, to its head and in order, but for the dropped ones.
 fn check(feeder: &Feeder) -> Outcome<()> {
-    if !feeder.queue.is_empty() || !feeder.link.open.is_empty() || !feeder.next.is_empty() {
+    let heads = &feeder.link.heads;
+    println!(
+        "the heads: {} chunks accepted, {} of them overtaken; {} that came again",
+        heads.accepted, heads.late, heads.repeats
+    );
+    if heads.accepted != feeder.fragments || heads.late == 0 || heads.repeats == 0 {
+        return Err("the link was to lose no chunk, to bring some late and some again".into());
+    }
+    if !feeder.queue.is_empty() || !feeder.next.is_empty() {
         return Err("something was left over".into());
     }
     let mut dropped = feeder.dropped.clone();
@@ -406,7 +480,7 @@ fn check(feeder: &Feeder) -> Outcome<()> {
     }
     for stream in STREAMS {
         let mut want = feeder.queued.iter().filter(|id| **id / 100 == u64::from(stream) && !dropped.contains(id));
-        for (_, bytes) in feeder.link.whole.iter().filter(|(to, _)| to.0 == stream) {
+        for (_, bytes) in heads.whole.iter().filter(|(to, _)| to.0 == stream) {
             let id = want.next().ok_or_else(|| format!("head {stream}: a profile too many"))?;
             if *bytes != profile(*id) {
                 return Err(format!("profile {id} arrived changed").into());
@@ -416,7 +490,7 @@ fn check(feeder: &Feeder) -> Outcome<()> {
             return Err(format!("profile {id} did not arrive").into());
         }
     }
-    println!("{} profiles compared byte for byte; dropped: {dropped:?}", feeder.link.whole.len());
+    println!("{} profiles compared byte for byte; dropped: {dropped:?}", heads.whole.len());
     println!("every other profile arrived whole");
     Ok(())
 }
