@@ -196,3 +196,22 @@ Delivers =
     → AllAccepted (run (map (as-call (chunk-of k start (sent-by cs (new-queue o))) store) moves) (new-receiver k store start))
     → (Fetch.fetch store 0 (after (map (as-call (chunk-of k start (sent-by cs (new-queue o))) store) moves) (new-receiver k store start))) .answer ≡ none-ready
     → Arrived (queued-by cs (new-queue o)) (came-out (run (map (as-call (chunk-of k start (sent-by cs (new-queue o))) store) moves) (new-receiver k store start)))
+
+-- What holds at any time, before all has arrived: every message that came out was queued, none came out twice, and those ordered in a stream came in queueing order.
+pub record ArrivedSoFar (ms : List queue.Message) (out : List Message) : Type 0 where
+  pub order : List ℕ
+  pub are : out ≡ map (λ (m : ℕ). as-received (getD ms m no-message)) order
+  pub only : (m : ℕ) → 0 < count m order → m < length ms
+  pub at-most-once : (m : ℕ) → count m order ≤ 1
+  pub in-order : (s : ℕ) → InOrder ms s order 0
+
+-- The promise at any time: whichever of the fragments have arrived.
+abbrev pub DeliversSafely : Type 0
+DeliversSafely =
+    (k : Kind) (start store : ℕ) (o : Options) (cs : List calls.Call) (moves : List Move)
+    → Created o → AllTyped cs → Undisturbed k cs (new-queue o)
+    → waiting ((calls.after cs (new-queue o)) .streams) ≡ 0
+    → length (sent-by cs (new-queue o)) < 2 ^ 31
+    → OnlySent (length (sent-by cs (new-queue o))) (arrivals moves)
+    → AllAccepted (run (map (as-call (chunk-of k start (sent-by cs (new-queue o))) store) moves) (new-receiver k store start))
+    → ArrivedSoFar (queued-by cs (new-queue o)) (came-out (run (map (as-call (chunk-of k start (sent-by cs (new-queue o))) store) moves) (new-receiver k store start)))
