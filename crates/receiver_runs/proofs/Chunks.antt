@@ -139,7 +139,7 @@ module _ (b : Bool) (start len : ℕ) (fs : List Fragment) (fit : AllFit fs) whe
   tsn-fits i = omega arith
 
   -- The bytes written of the fragment with index i are read as its chunk.
-  arrives : (i : ℕ) (out : List ℕ) → i < length (map pieceOf fs) → Told (writeOf b start (map pieceOf fs) i out .answer) → chunkRead (written (writeOf b start (map pieceOf fs) i out)) ≡ some (chunk-of (kindOf b) start fs i)
+  pub arrives : (i : ℕ) (out : List ℕ) → i < length (map pieceOf fs) → Told (writeOf b start (map pieceOf fs) i out .answer) → chunkRead (written (writeOf b start (map pieceOf fs) i out)) ≡ some (chunk-of (kindOf b) start fs i)
   arrives i out h t =
       let g : Fragment = getD fs i no-fragment in
       let e : getD (map pieceOf fs) i (pieceOf no-fragment) ≡ pieceOf g = piece-at fs i in

@@ -7,3 +7,4 @@ pub mod Chunks
 pub mod Request7
 pub mod Kept
 pub mod Safety
+pub mod SafeSent

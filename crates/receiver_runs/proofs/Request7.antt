@@ -155,7 +155,7 @@ module _ (b : Bool) (a : Arguments) (q : State) (cs : List queue.Call) (h : Send
   small : length (q .store) < 2 ^ 64
   small = store-small (newState a q) (new-link a q (h .creates) .good)
 
-  typed : demands.AllTyped (callsOf (length (q .store)) cs)
+  pub typed : demands.AllTyped (callsOf (length (q .store)) cs)
   typed = typed-calls (length (q .store)) cs small (h .typed)
 
   pub sent-is : sentBy a q cs ≡ map pieceOf (sent-by (callsOf size cs) Q)
@@ -167,10 +167,10 @@ module _ (b : Bool) (a : Arguments) (q : State) (cs : List queue.Call) (h : Send
   pub all-fit : AllFit (sent-by (callsOf size cs) Q)
   all-fit = sent-fit size cs Q (new-link a q (h .creates) .good .well) typed
 
-  few : length (sent-by (callsOf size cs) Q) < 2 ^ 31
+  pub few : length (sent-by (callsOf size cs) Q) < 2 ^ 31
   few = let e : length (sentBy a q cs) ≡ length (sent-by (callsOf size cs) Q) = ap length sent-is ∙ length-pieces (sent-by (callsOf size cs) Q) in let l = h .few in omega arith
 
-  whole : waiting ((queue-run.after (callsOf size cs) Q) .streams) ≡ 0
+  pub whole : waiting ((queue-run.after (callsOf size cs) Q) .streams) ≡ 0
   whole = ap (λ (x : Queue). waiting (x .streams)) (sym (linked .next-is)) ∙ h .whole
 
   promised : (start len : ℕ) → Promised (kindOf b) start len (sent-by (callsOf size cs) Q) (queued-by (callsOf size cs) Q)
