@@ -22,15 +22,16 @@ fn a_queue_can_go_to_another_thread() {
     fn check<T: Send + Sync + 'static>() {}
     check::<SendQueue>();
     check::<StreamResetHandler>();
+    check::<Receiver>();
     check::<Refusal>();
 }
 
 #[test]
 fn refusals_have_their_numbers_and_a_text() {
-    for n in [0, 22, 24, 30, 255] {
+    for n in [0, 30, 255] {
         assert_eq!(Refusal::from_number(n), None);
     }
-    for n in (1..=21).chain(25..=29) {
+    for n in 1..=29 {
         let refusal = Refusal::from_number(n).unwrap();
         assert_eq!(refusal.number(), n);
         let error: &dyn std::error::Error = &refusal;
