@@ -1,47 +1,41 @@
 // Tries the send queue on bad input, by a script from standard input: calls that document 01 says are refused, and calls on words
 // that no queue has. Each labelled line of the script writes one: what was tried, the answer's number, 0 for accepted, and for a
 // refusal whether all is unchanged. What breaks document 01 begins with BROKEN.
-mod answers;
 mod calls;
-mod lent;
-mod parse;
-mod random;
-mod settle;
-mod state;
 
-use answers::clear_totals;
-use answers::note;
-use answers::put_line;
 use calls::answer_of;
 use calls::call;
-use parse::line_end;
-use parse::parse;
-use random::prepare;
+use input_trials::answers::clear_totals;
+use input_trials::answers::note;
+use input_trials::answers::put_line;
+use input_trials::parse::line_end;
+use input_trials::parse::parse;
+use input_trials::random::prepare;
+use input_trials::settle::mark_events;
+use input_trials::settle::mark_fragment;
+use input_trials::settle::settle;
+use input_trials::state::CREATED;
+use input_trials::state::EVENT_BUFFER;
+use input_trials::state::FILL_CALLS;
+use input_trials::state::FILLING;
+use input_trials::state::FRAGMENT;
+use input_trials::state::LETTER;
+use input_trials::state::MESSAGE_ID;
+use input_trials::state::MESSAGE_STEP;
+use input_trials::state::SCRIPT;
+use input_trials::state::SEED;
+use input_trials::state::STATE;
+use input_trials::state::STORE;
+use input_trials::state::STORE_BYTES;
+use input_trials::state::STREAM;
+use input_trials::state::STREAM_STEP;
+use input_trials::state::TIMES;
+use input_trials::state::TURN;
+use input_trials::state::bit;
+use input_trials::state::plus;
+use input_trials::state::set_usual;
+use input_trials::state::wide;
 use send_queue::QUEUE_WORDS;
-use settle::mark_events;
-use settle::mark_fragment;
-use settle::settle;
-use state::CREATED;
-use state::EVENT_BUFFER;
-use state::FILL_CALLS;
-use state::FILLING;
-use state::FRAGMENT;
-use state::LETTER;
-use state::MESSAGE_ID;
-use state::MESSAGE_STEP;
-use state::SCRIPT;
-use state::SEED;
-use state::STATE;
-use state::STORE;
-use state::STORE_BYTES;
-use state::STREAM;
-use state::STREAM_STEP;
-use state::TIMES;
-use state::TURN;
-use state::bit;
-use state::plus;
-use state::set_usual;
-use state::wide;
 
 fn run_call(
     queue: &mut [u64; QUEUE_WORDS],
