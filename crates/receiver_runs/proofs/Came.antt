@@ -1,10 +1,9 @@
 -- The model's receivers that calls lead to; no call on them is refused with 16. Assumes nothing.
-use mathlib.Core.Path.{_≡_, refl, sym, ap, _∙_, subst}
+use mathlib.Core.Path.{_≡_, refl, ap, _∙_, subst}
 use mathlib.Core.Bool.{Bool, true, false, not}
 use mathlib.Core.List.{List, [], _∷_, _++_}
 use mathlib.Core.Option.{Option, none, some}
-use Prim.Native.Nat.{ℕ, suc, _<_, _^_}
-use native.Mathlib.Omega.{arith}
+use Prim.Native.Nat.{ℕ, suc}
 use lib.Dec.{eqb, ltb}
 use lib.ListN.{length}
 use Rattle.queue_model.specs.Logic.{if_then_else_}
@@ -17,7 +16,6 @@ use Rattle.receiver_model.specs.Receive.{Passed, pass, settle, accept, repeats,
 use Rattle.receiver_model.specs.Fetch as fetching
 use Rattle.receiver_model.specs.Fetch.{as-message, with-ready, fetch-from}
 use Rattle.receiver_model.specs.Run.{Call, receive, fetch, step, after}
-use Rattle.receiver_model.proofs.Lists.{Value, yes-is, no-is, value}
 use Rattle.receiver_model.proofs.AnyCalls.{Change, stays, accepts, takes, change-receive, change-fetch}
 use Rattle.receiver_model.proofs.Bounds.{Bounded, always-bounded}
 use Rattle.receiver_model.proofs.Window.{Window, TypedTsn, TypedTsns, always-window}

@@ -1,27 +1,25 @@
 -- A chunk that was written, read again, is the model's chunk. Assumes nothing.
 use mathlib.Core.Path.{_≡_, refl, sym, ap, ap₂, _∙_, subst}
-use mathlib.Core.Logic.{_⊎_, inl, inr}
+use mathlib.Core.Logic.{inl, inr}
 use mathlib.Core.Bool.{Bool, true, false}
 use mathlib.Core.List.{List, [], _∷_, _++_, map}
-use mathlib.Core.Option.{Option, none, some}
+use mathlib.Core.Option.{Option, some}
 use Prim.Native.Nat.{ℕ, zero, suc, _+_, _%_, _^_, _≤_, _<_}
 use native.Mathlib.Omega.{arith}
 use borrow.Author.Tests.{ltb-true, ltb-false}
 use lib.Dec.{ltb}
 use lib.ListN.{length, take, drop, getD}
 use lib.Seq.{take-append-seam}
-use Rattle.types.specs.Keys.{key-of, key-id, key-unordered}
 use Rattle.types.specs.declared.StreamId.{StreamId}
 use Rattle.queue_model.specs.Logic.{if_then_else_}
 use Rattle.queue_model.specs.Types.{Fragment}
 use Rattle.queue_model.specs.Chunks.{padded}
 use Rattle.queue_sending.specs.declared.data.DataToSend.{DataToSend}
-use Rattle.chunks.specs.declared.chunk.Chunk as read
 use Rattle.chunks.specs.declared.chunk.ChunkKind.{ChunkKind}
 use Rattle.chunks.specs.declared.chunk.ChunkWritten.the-variants as answer
 use Rattle.chunks.specs.Layout.{headerSize, chunkBytes}
 use Rattle.chunks.specs.Carried.{carried}
-use Rattle.chunks.specs.Reading.{chunk, payloadOf}
+use Rattle.chunks.specs.Reading.{chunk}
 use Rattle.chunks.specs.Writing.{Outcome, outcome, writeChunk}
 use Rattle.chunks.specs.Promise.{ReadsBack}
 use Rattle.chunks.proofs.Marks.{unordered-of}

@@ -3,21 +3,20 @@ use mathlib.Core.Path.{_≡_, refl, sym, ap, _∙_, subst}
 use mathlib.Core.Bool.{Bool, true, false, not}
 use mathlib.Core.List.{List, [], _∷_, map}
 use mathlib.Core.Option.{Option, none, some}
-use Prim.Native.Nat.{ℕ, _<_}
-use native.Mathlib.Omega.{arith}
+use Prim.Native.Nat.{ℕ}
 use borrow.Author.Tests.{eqb-true}
 use lib.Dec.{eqb, ltb}
 use lib.ListN.{length}
 use Rattle.queue_model.specs.Logic.{if_then_else_}
 use Rattle.queue_model.specs.Refusals.{first-refusal, _when_}
-use Rattle.receiver_model.specs.Types.{Chunk, Assembled, Receiver, Message, Answer, refused, accepted, repeated, none-ready, fetched, Step, reply}
+use Rattle.receiver_model.specs.Types.{Chunk, Assembled, Receiver, refused, accepted, repeated, fetched, Step, reply}
 use Rattle.receiver_model.specs.Receive as model
 use Rattle.receiver_model.specs.Receive.{repeats, differs, same-kind, accept, refused-or, receive-chunk, receive-new, early-checks, late-checks}
 use Rattle.receiver_model.specs.Fetch as fetching
 use Rattle.receiver_model.specs.Fetch.{as-message, with-ready, fetch-from}
 use Rattle.receiver_model.specs.Run.{Call, receive, fetch, step, run, from-answer, came-out}
 use Rattle.receiver_model.specs.Claim.{Move, arrive, take, Accepted, AllAccepted, arrivals, as-call, OnlySent}
-use Rattle.receiver_model.proofs.Lists.{Value, yes-is, no-is, value, none≢some}
+use Rattle.receiver_model.proofs.Lists.{none≢some}
 use Rattle.receiver_runs.specs.Safety.{OneOf}
 use Rattle.receiver_runs.proofs.Came.{store-kept}
 

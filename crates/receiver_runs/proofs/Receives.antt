@@ -1,16 +1,13 @@
 -- Receiving bytes is the model's step. Assumes nothing.
 use mathlib.Core.Path.{_≡_, refl, sym, ap, _∙_, subst}
-use mathlib.Core.Bool.{Bool, true, false, not}
-use mathlib.Core.List.{List, [], _∷_}
+use mathlib.Core.Bool.{Bool, true, false}
+use mathlib.Core.List.{List}
 use mathlib.Core.Option.{Option, none, some}
-use Prim.Native.Nat.{ℕ, _≤_, _<_, _^_}
-use native.Mathlib.Omega.{arith}
+use Prim.Native.Nat.{ℕ}
 use borrow.Author.Tests.{eq-eqb, ne-eqb}
-use lib.Dec.{T, eqb}
+use lib.Dec.{T}
 use lib.ListN.{length}
 use lib.Pow.{areBytes}
-use Rattle.queue_words.specs.Flags.{pick}
-use Rattle.queue_model.specs.Logic.{if_then_else_}
 use Rattle.queue_model.specs.Refusals.{first-refusal}
 use Rattle.queue_sending.specs.declared.data.Data.{Data}
 use Rattle.chunks.specs.declared.chunk.Chunk as read
@@ -27,7 +24,7 @@ use Rattle.chunks.proofs.Back.{chunk-or-19, laid-read}
 use Rattle.receiver_model.specs.Types.{Chunk, Receiver, refused, Step, reply}
 use Rattle.receiver_model.specs.Receive.{same-kind, refused-or}
 use Rattle.receiver_model.specs.Receive as model
-use Rattle.receiver_model.specs.Run.{Call, receive}
+use Rattle.receiver_model.specs.Run.{receive}
 use Rattle.receiver_model.proofs.Lists.{Value, yes-is, no-is, value}
 use Rattle.receiver_model.proofs.AnyCalls.{Settled}
 use Rattle.receiver_model.proofs.Bounds.{Bounded}

@@ -1,20 +1,19 @@
 -- Request 7/13 on the code. Assumes nothing.
-use mathlib.Core.Path.{_≡_, refl, sym, ap, ap₂, _∙_, subst}
-use mathlib.Core.Bool.{Bool, true, false, not}
+use mathlib.Core.Path.{_≡_, sym, ap, _∙_, subst}
+use mathlib.Core.Bool.{Bool, not}
 use mathlib.Core.List.{List, [], _∷_, map}
 use mathlib.Core.Option.{Option, none, some}
 use Prim.Native.Nat.{ℕ, _<_, _^_}
 use native.Mathlib.Omega.{arith}
 use lib.Dec.{eqb, ltb}
 use lib.ListN.{length}
-use Rattle.queue_model.specs.Logic.{if_then_else_}
 use Rattle.queue_model.specs.Types as plain
 use Rattle.queue_model.specs.Types.{Queue, Fragment}
-use Rattle.queue_model.specs.Streams.{new-queue, waiting}
+use Rattle.queue_model.specs.Streams.{waiting}
 use Rattle.queue_model.specs.Refusals.{first-refusal, _when_}
 use Rattle.queue_model.specs.Demands as demands
 use Rattle.queue_model.specs.Run as queue-run
-use Rattle.receiver_model.specs.Types.{Kind, Assembled, Receiver, Message, Answer, refused, none-ready, fetched, Step, reply}
+use Rattle.receiver_model.specs.Types.{Kind, Assembled, Receiver, Message, Answer, none-ready, fetched, reply}
 use Rattle.receiver_model.specs.Receive.{refused-or, new-receiver}
 use Rattle.receiver_model.specs.Fetch as fetching
 use Rattle.receiver_model.specs.Fetch.{as-message, with-ready, fetch-from}
@@ -22,7 +21,6 @@ use Rattle.receiver_model.specs.Run as run
 use Rattle.receiver_model.specs.Run.{came-out}
 use Rattle.receiver_model.specs.Claim.{Move, arrivals, as-call, AllAccepted, OnlySent, AllArrive}
 use Rattle.receiver_model.specs.Sender.{chunk-of, sent-by, queued-by, Undisturbed, Arrived}
-use Rattle.receiver_model.proofs.Lists.{Value, yes-is, no-is, value}
 use Rattle.receiver_model.proofs.Delivery.{delivers}
 use Rattle.receiver_words.specs.Chunks.{kindOf}
 use Rattle.receiver_fragments.specs.declared.answers.Fetched.{Fetched}
@@ -33,14 +31,13 @@ use Rattle.linked_receiver.proofs.Fetches.{fetch-represents}
 use Rattle.queue_packets.proofs.Fit.{AllFit}
 use Rattle.queue_runs.specs.Calls as queue
 use Rattle.queue_runs.specs.Run.{State}
-use Rattle.queue_runs.specs.Run as queue-runs
 use Rattle.queue_runs.specs.Meaning.{queueOf, callsOf}
 use Rattle.queue_runs.specs.Creation.{Arguments, optionsWith, newState}
 use Rattle.queue_runs.proofs.Steps.{store-small}
 use Rattle.queue_runs.proofs.Runs as queue-link
 use Rattle.queue_runs.proofs.News.{new-link}
 use Rattle.receiver_runs.specs.Calls as calls
-use Rattle.receiver_runs.specs.Calls.{own, fetch, Shown}
+use Rattle.receiver_runs.specs.Calls.{own, fetch}
 use Rattle.receiver_runs.specs.Run as runs
 use Rattle.receiver_runs.specs.Run.{newReceiver, Creates}
 use Rattle.receiver_runs.specs.Meaning.{callOf, answersOf}

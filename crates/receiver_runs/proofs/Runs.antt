@@ -1,16 +1,15 @@
 -- Every list of calls is the model's. Assumes nothing.
 use mathlib.Core.Path.{_≡_, refl, sym, ap, ap₂, _∙_, subst}
 use mathlib.Core.Bool.{Bool, true, false}
-use mathlib.Core.List.{List, [], _∷_, map}
+use mathlib.Core.List.{List, [], _∷_}
 use mathlib.Core.Option.{Option, none, some}
 use Prim.Native.Nat.{ℕ}
 use native.Mathlib.Omega.{arith}
-use lib.Dec.{eqb}
 use lib.ListN.{length}
 use Rattle.queue_model.specs.Logic.{if_then_else_, outside}
 use Rattle.queue_model.specs.Refusals.{first-refusal}
 use Rattle.receiver_model.specs.Types as model
-use Rattle.receiver_model.specs.Types.{Receiver, reply}
+use Rattle.receiver_model.specs.Types.{Receiver}
 use Rattle.receiver_model.specs.Receive.{create-refusal, new-receiver}
 use Rattle.receiver_model.specs.Run as run
 use Rattle.receiver_words.specs.Chunks.{kindOf}
@@ -19,16 +18,14 @@ use Rattle.receiver_fragments.specs.declared.answers.Fetched.the-variants as fe
 use Rattle.receiver_fragments.specs.Creating as creating
 use Rattle.receiver_fragments.specs.Receiving as receiving
 use Rattle.receiver_fragments.specs.Fetching as fetching
-use Rattle.receiver_calls.specs.Receiving as calls
 use Rattle.linked_receiver.specs.Promise.{Represents}
-use Rattle.linked_receiver.specs.Fetches.{Fetches}
 use Rattle.linked_receiver.proofs.Creates.{creates}
 use Rattle.linked_receiver.proofs.Fetches.{fetch-represents, fetch-other}
-use Rattle.queue_runs.specs.Run.{State, state}
-use Rattle.receiver_runs.specs.Calls.{Lent, own, other, Call, receive, fetch, Typed, AllTyped, Answer, received, fetched, Shown}
+use Rattle.queue_runs.specs.Run.{State}
+use Rattle.receiver_runs.specs.Calls.{own, other, Call, receive, fetch, Typed, AllTyped, Answer, received, fetched}
 use Rattle.receiver_runs.specs.Run as runs
 use Rattle.receiver_runs.specs.Run.{newReceiver, Creates}
-use Rattle.receiver_runs.specs.Meaning.{chunkRead, callOf, callsOf, answerIn, answersOf, sixteen, NoSixteen, Follows, Linked}
+use Rattle.receiver_runs.specs.Meaning.{chunkRead, callOf, callsOf, answerIn, answersOf, sixteen, NoSixteen, Linked}
 use Rattle.receiver_runs.proofs.Came.{Came, came-new, came-step, store-kept, NotSixteen, step-not}
 use Rattle.receiver_runs.proofs.Receives.{store-length, typed-read, receive-other, receive-law}
 

@@ -1,8 +1,8 @@
 -- Request 7/13 at any time, from a send queue's calls. Assumes nothing.
-use mathlib.Core.Path.{_≡_, refl, sym, ap, _∙_, subst}
+use mathlib.Core.Path.{_≡_, sym, _∙_, subst}
 use mathlib.Core.Bool.{Bool}
 use mathlib.Core.List.{List, [], _∷_, map}
-use mathlib.Core.Option.{Option, none, some}
+use mathlib.Core.Option.{some}
 use Prim.Native.Nat.{ℕ, _<_, _^_}
 use lib.ListN.{length}
 use Rattle.queue_model.specs.Types as plain
@@ -25,8 +25,8 @@ use Rattle.queue_runs.specs.Creation.{Arguments, optionsWith, newState}
 use Rattle.queue_runs.proofs.News.{new-link}
 use Rattle.receiver_runs.specs.Run.{Creates}
 use Rattle.receiver_runs.specs.Sender.{Piece}
-use Rattle.receiver_runs.specs.Promise.{pieceOf, sentBy, queuedBy, Sends, Feed, arrive, take-out, AllFed, callsFor, fedShown, cameOut}
-use Rattle.receiver_runs.specs.Safety.{OneOf, AllCarrySent, SafeSent}
+use Rattle.receiver_runs.specs.Promise.{pieceOf, queuedBy, Sends, Feed, arrive, take-out, AllFed, callsFor, fedShown, cameOut}
+use Rattle.receiver_runs.specs.Safety.{AllCarrySent, SafeSent}
 use Rattle.receiver_runs.proofs.Chunks.{length-pieces, arrives, typed-feeds}
 use Rattle.receiver_runs.proofs.Request7.{sent-is, queued-is, all-fit, typed, whole, few}
 use Rattle.receiver_runs.proofs.Safety.{out-kept, out-same}

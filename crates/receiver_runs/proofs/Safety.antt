@@ -1,11 +1,11 @@
 -- Request 7/13 at any time, on the code. Assumes nothing.
 use mathlib.Core.Path.{_≡_, refl, sym, ap, _∙_, subst}
 use mathlib.Core.Bool.{Bool}
-use mathlib.Core.List.{List, [], _∷_, map}
+use mathlib.Core.List.{List, [], _∷_}
 use mathlib.Core.Option.{Option, none, some}
 use Prim.Native.Nat.{ℕ}
 use lib.ListN.{length}
-use Rattle.receiver_model.specs.Types.{Kind, Chunk, Receiver, Message}
+use Rattle.receiver_model.specs.Types.{Kind, Chunk}
 use Rattle.receiver_model.specs.Receive.{new-receiver}
 use Rattle.receiver_model.specs.Run as run
 use Rattle.receiver_model.specs.Run.{came-out}
@@ -20,7 +20,7 @@ use Rattle.receiver_runs.specs.Run.{newReceiver, Creates}
 use Rattle.receiver_runs.specs.Meaning.{chunkRead, lentLength, callOf, callsOf}
 use Rattle.receiver_runs.specs.Promise.{cameOut}
 use Rattle.receiver_runs.specs.Safety.{OneOf, CarriesSent, AllCarrySent, Safe}
-use Rattle.receiver_runs.proofs.Runs.{Ran, run-link, new-stands}
+use Rattle.receiver_runs.proofs.Runs.{run-link, new-stands}
 use Rattle.receiver_runs.proofs.Kept as model
 use Rattle.receiver_runs.proofs.Kept.{Kept, kept}
 

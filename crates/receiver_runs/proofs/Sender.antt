@@ -1,13 +1,10 @@
 -- What a send queue's calls queue and send is what the model's do. Assumes nothing.
 use mathlib.Core.Path.{_≡_, refl, sym, ap, ap₂, _∙_, subst}
-use mathlib.Core.Bool.{Bool, true, false}
 use mathlib.Core.List.{List, [], _∷_, _++_, map}
-use mathlib.Core.Option.{Option, none, some}
 use Prim.Native.Nat.{ℕ, _<_, _^_}
 use native.Mathlib.Omega.{arith}
-use lib.ListN.{length, take, drop}
+use lib.ListN.{length, drop}
 use lib.Seq.{take-append-seam}
-use Rattle.queue_words.specs.Flags.{pick}
 use Rattle.queue_model.specs.Types as plain
 use Rattle.queue_model.specs.Types.{Queue, Fragment, Outcome}
 use Rattle.queue_model.specs.Answers.{fragment-in, fragments-in}
@@ -16,17 +13,16 @@ use Rattle.queue_model.specs.Demands as demands
 use Rattle.queue_model.proofs.Invariant.Well.{Well}
 use Rattle.queue_model.proofs.Invariant.Sixteen.{fine-step}
 use Rattle.queue_streams.specs.Events.{placesIn}
-use Rattle.queue_sending.specs.declared.data.DataToSend.{DataToSend}
 use Rattle.queue_messages.specs.declared.message.Message.{Message}
 use Rattle.linked_adding.specs.Message.{messageOf}
 use Rattle.linked_sending.specs.Meaning.{dataOf, producedOf, bufferOf}
 use Rattle.receiver_model.specs.Sender.{shown, if-done, taken-in, sent-by, queued-by}
-use Rattle.queue_runs.specs.Calls.{Call, add, produce, fill, discard, close, ready-ids, commit, rollback, reset, set-threshold, set-priority, set-interleaving, restore, ask-priority, ask-amount, ask-threshold, ask-total, ask-empty, ask-has-data, ask-streams-ready, ask-ready-count, ask-readiness, callOf, Typed, sent, Shown}
+use Rattle.queue_runs.specs.Calls.{Call, add, produce, fill, discard, close, ready-ids, commit, rollback, reset, set-threshold, set-priority, set-interleaving, restore, ask-priority, ask-amount, ask-threshold, ask-total, ask-empty, ask-has-data, ask-streams-ready, ask-ready-count, ask-readiness, callOf, sent}
 use Rattle.queue_runs.specs.Meaning.{AllTyped, callsOf, shownOf, allShownOf}
 use Rattle.queue_runs.proofs.Steps.{typed-call}
 use Rattle.queue_runs.proofs.Forms.{Quiet, quiet-refused, quiet-done, Form, form-of}
 use Rattle.queue_runs.proofs.Fragments.{data-shown}
-use Rattle.queue_packets.proofs.Fit.{Fits, MaybeFits, AllFit, one-fits}
+use Rattle.queue_packets.proofs.Fit.{MaybeFits, AllFit, one-fits}
 use Rattle.receiver_runs.specs.Sender.{Piece, pieceIn, piecesIn, messageIn, messagesIn}
 use Rattle.receiver_runs.specs.Promise.{pieceOf}
 

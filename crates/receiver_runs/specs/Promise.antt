@@ -6,7 +6,6 @@ use mathlib.Core.List.{List, [], _∷_, map}
 use lib.ListN.{length, take, getD}
 use Rattle.queue_model.specs.Types as plain
 use Rattle.queue_model.specs.Streams.{waiting}
-use Rattle.chunks.specs.declared.chunk.ChunkKind.{ChunkKind}
 use Rattle.chunks.specs.declared.chunk.ChunkWritten.{ChunkWritten}
 use Rattle.chunks.specs.declared.chunk.ChunkWritten.the-variants as write
 use Rattle.chunks.specs.Writing.{Outcome, writeChunk}

@@ -5,7 +5,6 @@ use mathlib.Core.List.{List, [], _∷_, _++_}
 use lib.ListN.{take}
 use Rattle.queue_words.specs.Flags.{pick}
 use Rattle.queue_model.specs.Types as plain
-use Rattle.queue_streams.specs.declared.answers.Call as answer
 use Rattle.queue_streams.specs.declared.answers.Call.the-variants as call
 use Rattle.queue_sending.specs.declared.data.DataToSend.{DataToSend}
 use Rattle.queue_sending.specs.declared.data.Produced.{Produced}
