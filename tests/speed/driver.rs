@@ -4,6 +4,7 @@
 //!
 //! Both queues get the same calls: messages from a caller's buffer, fragments to a caller's buffer. The original's add is timed with a copy of
 //! the payload into a buffer of its own, its produce with a copy of the fragment into the caller's.
+//! The receiving head stands beside a plain reassembly, written for the purpose.
 
 #![allow(dead_code, unused_imports)]
 
@@ -16,6 +17,8 @@ mod expired;
 mod images;
 mod packets;
 mod planning;
+mod reassembly;
+mod receiving;
 mod resets;
 mod sending;
 mod sides;
@@ -36,6 +39,7 @@ fn main() {
     wire::chunks();
     packets::packets();
     resets::resets();
+    receiving::receiving_and_fetching();
     expired::passing();
     depth::depth();
     steady::steady();
