@@ -39,7 +39,7 @@ fn room(size: usize) -> usize {
 
 fn writing(kind: ChunkKind, name: &str, size: usize) {
     let payloads = vec![7; size * CHUNKS];
-    let fragments: Vec<Data> = payloads.chunks_exact(size).map(data).collect();
+    let fragments: Vec<Data<&[u8]>> = payloads.chunks_exact(size).map(data).collect();
     let mut packets = vec![0; room(size) * CHUNKS];
     let mut copies = packets.clone();
     let [written] = best(
