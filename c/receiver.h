@@ -3,7 +3,10 @@
  * memset. It allocates nothing and keeps nothing: all of a receiver is in the words and the store that the host lends to each call.
  *
  * The functions are proved: on any words, any store and any bytes they return, they read and write inside what is lent to them only, and
- * a refused call changes nothing, in no array. What a host must keep, since no proof of theirs can see it:
+ * a refused call changes nothing, in no array. And where all fragments of a new send queue, fewer than 2^31 of them, are written as chunks
+ * with consecutive TSNs from the starting TSN on, and every message was sent whole, without a drop, reset, closing or restoring (for DATA
+ * without interleaving), then, received in any order with repeats and none refused, each message is fetched exactly once, and the ordered
+ * ones of a stream come in the order in which they were added. What a host must keep, since no proof of theirs can see it:
  *
  *   - Every pointer is valid for as many elements as the array or the length beside it says, and aligned for its type. None is null,
  *     not even one to no bytes.
@@ -13,7 +16,9 @@
  *     as the last one left them. The words hold no pointer: between two calls words and store may be moved or copied.
  *
  * The library and this header belong together: a host asks once whether dsr_layout() is DSR_LAYOUT.
- * A flag that is passed in is 0 for no and anything else for yes; one that is told is 0 or 1. */
+ * A flag that is passed in is 0 for no and anything else for yes; one that is told is 0 or 1.
+ *
+ * A receiver knows no resets of streams: where its sender counts from 0 again, a new receiver is needed. */
 #ifndef DSR_RECEIVER_H
 #define DSR_RECEIVER_H
 
@@ -79,13 +84,14 @@ uint64_t dsr_layout(void);
 uint8_t dsr_create(uint64_t receiver[DSR_RECEIVER_WORDS], const uint8_t *store, size_t store_length, uint8_t i_data, uint32_t starting_tsn);
 
 /* Takes the chunk that the bytes are, with its padding, and nothing behind it. Tells VALUE: 1 where it is accepted, 0 for a repeat, which
- * changes nothing. (2, 19, 24, repeats, 22, 23; 16) */
+ * changes nothing. A chunk that is refused with 22 or 23 may be received again later, when a gap was closed or a message was fetched.
+ * (2, 19, 24, repeats, 22, 23; 16) */
 uint8_t dsr_receive(uint64_t receiver[DSR_RECEIVER_WORDS], uint8_t *store, size_t store_length, const uint8_t *bytes, size_t bytes_length,
                     uint64_t out[DSR_OUT_WORDS]);
 
 /* Copies the message that is ready first to the buffer's start and frees it; the rest of the buffer stays. Unordered messages are ready
  * when complete, ordered ones when also next in their stream. Tells VALUE, 1, and LENGTH, STREAM_ID, UNORDERED and PPID; VALUE alone, 0,
- * where none is ready. (2, 10; 16) */
+ * where none is ready. No message is longer than the store. (2, 10; 16) */
 uint8_t dsr_fetch(uint64_t receiver[DSR_RECEIVER_WORDS], const uint8_t *store, size_t store_length, uint8_t *buffer, size_t buffer_length,
                   uint64_t out[DSR_OUT_WORDS]);
 
