@@ -5,7 +5,8 @@
  *
  * It ends when so many calls were on damaged words; those on the words of a receiver come on top. Each answer must be one of those that the
  * header lists behind the function, 16 on damaged words alone, and what is told must be in its range; at every refusal, every repeat and
- * every fetch that finds none, words, store, buffer and out-array are compared with what they were before the call. */
+ * every fetch that finds none, store, buffer, out-array and the words that a receiver with few rows uses are compared with what they were
+ * before the call, at one in 16 all words. */
 #include "receiver.h"
 
 #include <stdio.h>
