@@ -189,7 +189,7 @@ unfolding put get
 halves = set-interleaving true ∷ put 7 40 0 none ∷ get 0 10 ∷ put 5 20 0 none ∷ get 0 10 ∷ put 3 10 0 none ∷ []
 
 pub facts : List Row
-unfolding shows fires fires-at thrice put get begun ended noted ready-with strictly image-after other-image half halves after-message cost save queue
+unfolding shows fires fires-at thrice put get begun ended noted ready-with strictly image-after other-image half halves after-message cost save queue two weights four
 facts =
     -- "a remaining half-sent one makes the stream pending"; "When a pending stream's message ends or is discarded, it is paused."
     (shows (put 5 1500 0 none ∷ get 0 1000 ∷ close 2305 5 ∷ ready-ids ∷ get 0 1000 ∷ ready-ids ∷ []) gives (begun 5 ++ ended 5 ++ (5 ∷ [])))
@@ -248,9 +248,11 @@ facts =
     ∷ (shows (put 5 10 0 none ∷ get 0 6 ∷ close 2305 5 ∷ ask-ready-count ∷ get 0 4 ∷ ask-ready-count ∷ []) gives (5 ∷ 6 ∷ 1 ∷ 0 ∷ 0 ∷ 0 ∷ 0 ∷ 0 ∷ 5 ∷ 4 ∷ 0 ∷ 1 ∷ 0 ∷ 0 ∷ 1 ∷ 1 ∷ []))
     ∷ (shows (put 5 10 0 none ∷ put 3 20 0 none ∷ set-threshold 2305 5 4 ∷ ask-amount 5 ∷ ask-total ∷ ask-threshold 5 ∷ ask-threshold 3 ∷ ask-priority 3 ∷ []) gives (10 ∷ 30 ∷ 4 ∷ 0 ∷ 256 ∷ []))
     -- "Readiness is 2 if handover with waiting data is off and the total is above 0, else 0."
-    ∷ ((ready-with [] ∷ ready-with (put 5 1 0 none ∷ []) ∷ ready-with (put 5 10 0 none ∷ []) ∷ []) gives (0 ∷ 2 ∷ 2 ∷ []))
+    ∷ ((ready-with [] ∷ ready-with (put 5 1 0 none ∷ []) ∷ ready-with (put 5 10 0 none ∷ []) ∷ ready-with (put 5 10 0 none ∷ get 0 10 ∷ []) ∷ []) gives (0 ∷ 2 ∷ 2 ∷ 0 ∷ []))
     -- "Cost without interleaving is 1".
     ∷ ((cost round-robin 7 ∷ []) gives (1 ∷ []))
+    -- "A weight is read [..] at [..] interleaving switch": switched off again, streams with weights are sent by turns.
+    ∷ (shows (weights ++ (set-interleaving false ∷ four)) gives (begun 3 ++ ended 3 ++ begun 5 ++ ended 5))
     -- "ordered and unordered counting separately in each stream; only ordered ones get an SSN": each counter grows from what it was.
     ∷ (after-message false 5 7 9 gives (6 ∷ 7 ∷ 10 ∷ []))
     ∷ (after-message true 5 7 9 gives (5 ∷ 8 ∷ 9 ∷ []))
