@@ -243,6 +243,8 @@ static uint8_t response(void) {
 static uint8_t ask_plain(void) {
     if (dsq_is_empty(now.queue) != (dsq_total_buffered_amount(now.queue) == 0))
         return 99;
+    if (dsq_free_bytes(now.queue) == 1 && dsq_waiting_messages(now.queue) == 1 && dsq_known_streams(now.queue) == 1)
+        return 0;
     return dsq_get_handover_readiness(now.queue) & ~UINT64_C(2) ? 99 : 0;
 }
 

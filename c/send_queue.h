@@ -419,6 +419,18 @@ uint64_t dsq_total_buffered_amount(const uint64_t queue[DSQ_QUEUE_WORDS]);
 DSQ_MUST_USE
 uint8_t dsq_is_empty(const uint64_t queue[DSQ_QUEUE_WORDS]);
 
+/* the bytes of the store that are free: a longer payload gets DSQ_STORE_FULL (a message occupies its full length until its last fragment); */
+DSQ_MUST_USE
+uint64_t dsq_free_bytes(const uint64_t queue[DSQ_QUEUE_WORDS]);
+
+/* the messages that wait: of 1,024 the next one gets DSQ_MESSAGES_FULL; */
+DSQ_MUST_USE
+uint64_t dsq_waiting_messages(const uint64_t queue[DSQ_QUEUE_WORDS]);
+
+/* the streams that are known: of 256 the next one gets DSQ_STREAMS_FULL; */
+DSQ_MUST_USE
+uint64_t dsq_known_streams(const uint64_t queue[DSQ_QUEUE_WORDS]);
+
 /* 2 if handover with waiting data is off and the total is above 0, else 0. */
 DSQ_MUST_USE
 uint64_t dsq_get_handover_readiness(const uint64_t queue[DSQ_QUEUE_WORDS]);

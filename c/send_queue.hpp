@@ -235,6 +235,9 @@ class SendQueue {
         return static_cast<std::size_t>(asked([&](std::uint64_t *told) { return ::dsq_count_streams_ready_to_reset(queue(), told); }));
     }
     std::uint64_t total_buffered_amount() const { return ::dsq_total_buffered_amount(queue()); }
+    std::uint64_t free_bytes() const { return ::dsq_free_bytes(queue()); }
+    std::uint64_t waiting_messages() const { return ::dsq_waiting_messages(queue()); }
+    std::uint64_t known_streams() const { return ::dsq_known_streams(queue()); }
     bool is_empty() const { return ::dsq_is_empty(queue()) != 0; }
     std::uint64_t get_handover_readiness() const { return ::dsq_get_handover_readiness(queue()); }
 

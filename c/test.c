@@ -366,6 +366,12 @@ static void put_trailer(struct draft *d, uint32_t next_message_id, uint16_t defa
 
 /* ---------------------------------------------------------------- the main path, with all calls */
 
+/* what there is room for: free bytes, waiting messages, known streams */
+static int room(const struct host *h, uint64_t bytes, uint64_t messages, uint64_t streams)
+{
+    return dsq_free_bytes(h->queue) == bytes && dsq_waiting_messages(h->queue) == messages && dsq_known_streams(h->queue) == streams;
+}
+
 static void main_path(void)
 {
     struct host *h = lend(SMALL_STORE, BUFFER, DSQ_MAX_IMAGE(SMALL_STORE));
@@ -377,6 +383,7 @@ static void main_path(void)
     CHECK(create(h, 1000, 256, 20, 30, 0) == DSQ_ACCEPTED);
     CHECK(dsq_is_empty(h->queue) == 1);
     CHECK(dsq_total_buffered_amount(h->queue) == 0);
+    CHECK(room(h, SMALL_STORE, 0, 0));
     CHECK(dsq_get_handover_readiness(h->queue) == DSQ_READY);
     CHECK(has_data(h) == 0);
     CHECK(has_ready(h) == 0);
@@ -389,12 +396,14 @@ static void main_path(void)
     CHECK(priority(h, 5) == 512 && priority(h, 6) == 256);
     CHECK(set_threshold(h, 5, 700) == DSQ_ACCEPTED && h->out[DSQ_OUT_EVENTS] == 0);
     CHECK(threshold(h, 5) == 700 && threshold(h, 6) == 20);
+    CHECK(room(h, SMALL_STORE, 0, 1));
 
     /* a message with all its options, and one behind it */
     CHECK(dsq_add(h->queue, h->store, h->store_length, payload, 1500, 7, 5, 51, 255, 1, 2000000, 2, 3, 99) == DSQ_ACCEPTED);
     CHECK(plain(h, 5, 30) == DSQ_ACCEPTED);
     CHECK(amount(h, 5) == 1530 && amount(h, 6) == 0);
     CHECK(dsq_total_buffered_amount(h->queue) == 1530);
+    CHECK(room(h, SMALL_STORE - 1530, 2, 1));
     CHECK(dsq_is_empty(h->queue) == 0);
     CHECK(dsq_get_handover_readiness(h->queue) == DSQ_SEND_QUEUE_NOT_EMPTY);
     CHECK(has_data(h) == 1);
@@ -412,11 +421,14 @@ static void main_path(void)
     CHECK(h->out[DSQ_OUT_MAX_RETRANSMISSIONS] == 3);
     CHECK(h->out[DSQ_OUT_EXPIRES] == 1 && h->out[DSQ_OUT_EXPIRES_AT] == 7 + 2000000 + 1000000);
     CHECK(h->out[DSQ_OUT_LIFECYCLE_ID] == 0);
+    /* a half-sent message occupies its full length */
+    CHECK(room(h, SMALL_STORE - 1530, 2, 1));
     /* its last */
     CHECK(sends(h, 1000, 5, 500, 1000, 0, 1));
     CHECK(counts(h, 0, 0, 1));
     CHECK(h->out[DSQ_OUT_EVENTS] == 1 && event(h, 0, DSQ_EVENT_TOTAL_LOW, 0, 30));
     CHECK(h->out[DSQ_OUT_LIFECYCLE_ID] == 99);
+    CHECK(room(h, SMALL_STORE - 30, 1, 1));
     /* the message behind it */
     CHECK(sends(h, 1000, 5, 30, 0, 1, 1));
     CHECK(h->out[DSQ_OUT_MESSAGE_ID] == 1 && h->out[DSQ_OUT_UNORDERED] == 0 && counts(h, 0, 0, 0));

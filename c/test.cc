@@ -67,7 +67,10 @@ static void sending()
     m.lifetime = 5000000;
     m.max_retransmissions = 3;
     m.lifecycle_id = 9;
+    CHECK(queue.waiting_messages() == 0 && queue.known_streams() == 0);
+    const auto before = queue.free_bytes();
     CHECK(queue.add(1, m));
+    CHECK(queue.free_bytes() == before - 1300 && queue.waiting_messages() == 1 && queue.known_streams() == 1);
     CHECK(queue.total_buffered_amount() == 1300 && queue.buffered_amount(1) == 1300 && queue.get_handover_readiness() == 2);
     auto first = queue.produce(2, buffer);
     CHECK(first && *first && (*first)->payload.size() == 1200 && (*first)->first && !(*first)->last && (*first)->lifecycle_id == 0);

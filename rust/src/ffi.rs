@@ -182,6 +182,9 @@ mod c {
         pub fn dsq_count_streams_ready_to_reset(queue: *const u64, out: *mut u64) -> u8;
         pub fn dsq_total_buffered_amount(queue: *const u64) -> u64;
         pub fn dsq_is_empty(queue: *const u64) -> u8;
+        pub fn dsq_free_bytes(queue: *const u64) -> u64;
+        pub fn dsq_waiting_messages(queue: *const u64) -> u64;
+        pub fn dsq_known_streams(queue: *const u64) -> u64;
         pub fn dsq_get_handover_readiness(queue: *const u64) -> u64;
         pub fn dsq_save(
             queue: *const u64,
@@ -548,6 +551,21 @@ pub(crate) fn total_buffered_amount(queue: &Words) -> u64 {
 pub(crate) fn is_empty(queue: &Words) -> bool {
     // SAFETY: queue is a reference; a question reads it only.
     unsafe { c::dsq_is_empty(queue.as_ptr()) != 0 }
+}
+
+pub(crate) fn free_bytes(queue: &Words) -> u64 {
+    // SAFETY: queue is a reference; a question reads it only.
+    unsafe { c::dsq_free_bytes(queue.as_ptr()) }
+}
+
+pub(crate) fn waiting_messages(queue: &Words) -> u64 {
+    // SAFETY: queue is a reference; a question reads it only.
+    unsafe { c::dsq_waiting_messages(queue.as_ptr()) }
+}
+
+pub(crate) fn known_streams(queue: &Words) -> u64 {
+    // SAFETY: queue is a reference; a question reads it only.
+    unsafe { c::dsq_known_streams(queue.as_ptr()) }
 }
 
 pub(crate) fn get_handover_readiness(queue: &Words) -> u64 {

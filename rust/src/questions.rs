@@ -28,6 +28,25 @@ impl SendQueue {
         ffi::total_buffered_amount(&self.words) as usize
     }
 
+    /// The bytes of the store that are free: a longer payload gets [`Refusal::StoreFull`](crate::Refusal::StoreFull). A message occupies its full length
+    /// until its last fragment is handed out or it is dropped.
+    #[must_use]
+    pub fn free_bytes(&self) -> usize {
+        ffi::free_bytes(&self.words) as usize
+    }
+
+    /// The messages that wait, 1,024 at most.
+    #[must_use]
+    pub fn waiting_messages(&self) -> usize {
+        ffi::waiting_messages(&self.words) as usize
+    }
+
+    /// The streams that are known, 256 at most. A stream stays known after it was closed and reset.
+    #[must_use]
+    pub fn known_streams(&self) -> usize {
+        ffi::known_streams(&self.words) as usize
+    }
+
     /// Whether no byte is to be sent.
     #[must_use]
     pub fn is_empty(&self) -> bool {

@@ -95,6 +95,28 @@ fn a_refused_fragment_leaves_the_buffer_and_has_no_events() {
     assert_eq!(q.produce(NOW, MAX_PAYLOAD), Ok(None));
 }
 
+/// A feeder sees 6, 7 and 8 coming: a message occupies its full length until its last fragment, a setting makes its stream known.
+#[test]
+fn what_there_is_room_for() {
+    let options = Options { max_send_buffer_size: 1_000, ..Default::default() };
+    let mut q = SendQueue::new(1_000, &options).unwrap();
+    let all = 1_000;
+    assert_eq!((q.free_bytes(), q.waiting_messages(), q.known_streams()), (all, 0, 0));
+    q.set_priority(StreamId(3), 7).unwrap();
+    assert_eq!((q.free_bytes(), q.waiting_messages(), q.known_streams()), (all, 0, 1));
+    q.add(NOW, message(1, b"12345"), &SendOptions::default()).unwrap();
+    let room = (all - 5, 1, 2);
+    assert_eq!((q.free_bytes(), q.waiting_messages(), q.known_streams()), room);
+    q.produce(NOW, 3).unwrap().unwrap();
+    assert_eq!((q.free_bytes(), q.waiting_messages(), q.known_streams()), room, "half-sent");
+    q.produce(NOW, 2).unwrap().unwrap();
+    assert_eq!((q.free_bytes(), q.waiting_messages(), q.known_streams()), (all, 0, 2));
+    let too_long = vec![0; all + 1];
+    assert_eq!(q.add(NOW, message(1, &too_long), &SendOptions::default()), Err(Refusal::StoreFull));
+    assert_eq!(q.add(NOW, message(1, &too_long[1..]), &SendOptions::default()), Ok(()));
+    assert_eq!(q.free_bytes(), 0);
+}
+
 #[test]
 fn events_are_those_of_the_last_call() {
     let mut q = queue();

@@ -3,10 +3,11 @@ use mathlib.Core.Path.{_≡_, refl, sym, ap, _∙_, subst}
 use mathlib.Core.Bool.{Bool, true, false, not, _&&_, _||_}
 use mathlib.Core.List.{List, [], _∷_}
 use mathlib.Core.Option.{Option}
-use Prim.Native.Nat.{ℕ, zero, suc, _+_, _≤_, _<_}
+use Prim.Native.Nat.{ℕ, zero, suc, _+_, _-_, _≤_, _<_}
 use native.Mathlib.Omega.{arith}
 use borrow.Author.Tests.{le-ltb}
 use lib.Dec.{ltb, eqb}
+use lib.ListN.{length}
 use Rattle.queue_words.specs.Find.{findStream}
 use Rattle.queue_words.specs.Flags.{pick}
 use Rattle.queue_words.specs.Header.{optionsAt, totalsAt}
@@ -21,13 +22,14 @@ use Rattle.queue_model.specs.Calls
 use Rattle.queue_model.specs.Reset.{is-paused}
 use Rattle.queue_model.specs.Run as run
 use Rattle.queue_model.specs.Scheduler.{peek}
-use Rattle.queue_model.specs.Streams.{stream-at}
+use Rattle.queue_model.specs.Questions.{Room, free-store, waiting-messages, known-streams}
+use Rattle.queue_model.specs.Streams.{stream-at, waiting, occupied, free-bytes}
 use Rattle.stream_scheduler.specs.Link.{modelScheduler, Chooses, row-chosen, none-chosen}
 use Rattle.stream_scheduler.specs.Words.{peekWords}
 use Rattle.stream_scheduler.specs.declared.Peeked.{Peeked}
 use Rattle.stream_scheduler.proofs.Handing.{peek-link}
 use Rattle.queue_streams.specs.Known.{newStream}
-use Rattle.queue_questions.specs.Questions.{lookedAt, streamOrNew, asked, priorityOf, amountOf, thresholdOf, totalOf, emptyOf, waits, dataOf, readyAmong, readyOf, readinessOf}
+use Rattle.queue_questions.specs.Questions.{lookedAt, streamOrNew, asked, priorityOf, amountOf, thresholdOf, totalOf, emptyOf, waits, dataOf, readyAmong, readyOf, readinessOf, roomOf}
 use Rattle.queue_streams.specs.Answers.{numberNumber, numberValue, flagNumber, flagValue}
 use Rattle.queue_streams.specs.declared.answers.Flag.{Flag}
 use Rattle.queue_streams.specs.declared.answers.Flag.the-variants as flag
@@ -39,9 +41,11 @@ use Rattle.queue_state.specs.Good.{Good}
 use Rattle.queue_state.specs.Promise.{shown, numberOf}
 use Rattle.queue_state.proofs.Frames.{row-below}
 use Rattle.queue_state.proofs.Numbers.{number-number, number-value}
+use Rattle.queue_state.proofs.Sums.{waiting-is, occupied-is}
+use Rattle.queue_state.proofs.Tabs.{tab-length}
 use Rattle.queue_state.proofs.Looks.{Lookup, known-at, new-at, lookup, stream-found, stream-new}
 use Rattle.queue_state.proofs.Singles.{model-options, model-total, model-streams, model-schedules}
-use Rattle.linked_streams.specs.Questions.{flagOf, AskedNumber, AskedFlag, PriorityMeets, AmountMeets, ThresholdMeets, TotalMeets, EmptyMeets, DataMeets, ReadyMeets, ReadinessMeets}
+use Rattle.linked_streams.specs.Questions.{flagOf, AskedNumber, AskedFlag, PriorityMeets, AmountMeets, ThresholdMeets, TotalMeets, EmptyMeets, DataMeets, ReadyMeets, ReadinessMeets, RoomMeets}
 use Rattle.linked_streams.proofs.Numbers.{flag-number, flag-value}
 
 -- ------------------------------------------------------------------ one number of a stream
@@ -211,6 +215,21 @@ readiness-asked ws st =
     ∙ ap (λ (o : Options). two (not (o .handover-with-data) && ltb 0 (totalsAt ws .total))) eo
     ∙ ap (λ (n : ℕ). two (not ((model ws st) .options .handover-with-data) && ltb 0 n)) et
 
+-- ------------------------------------------------------------------ what there is room for
+
+known-is : (ws st : List ℕ) → length (streamsIn ws st) ≡ totalsAt ws .known
+unfolding streamsIn
+known-is ws st = tab-length (streamIn ws st) (totalsAt ws .known)
+
+pub room-asked : (k : Room) (ws st : List ℕ) → Good ws st → roomOf k ws ≡ Calls.room-of k (model ws st)
+unfolding roomOf Calls.room-of free-bytes
+room-asked free-store ws st g =
+    let eo : optionsOf (optionsAt ws) ≡ (model ws st) .options = sym (model-options ws st) in
+    let eu : totalsAt ws .used ≡ occupied ((model ws st) .streams) = sym (ap occupied (model-streams ws st) ∙ occupied-is ws st (g .shape)) in
+    ap (λ (o : Options). o .store-length - totalsAt ws .used) eo ∙ ap (λ (n : ℕ). (model ws st) .options .store-length - n) eu
+room-asked waiting-messages ws st g = sym (ap waiting (model-streams ws st) ∙ waiting-is ws st (g .shape))
+room-asked known-streams ws st g = sym (ap (λ (ss : List Stream). length ss) (model-streams ws st) ∙ known-is ws st)
+
 -- ------------------------------------------------------------------ both promises
 
 module _ (ws : List ℕ) where
@@ -253,3 +272,6 @@ module _ (ws : List ℕ) where
 
   pub readiness-meets : (r : ℕ) → r ≡ readinessOf ws → ReadinessMeets ws r
   readiness-meets r e = record { words = e; model = λ st g. e ∙ readiness-asked ws st }
+
+  pub room-meets : (k : Room) (r : ℕ) → r ≡ roomOf k ws → RoomMeets k ws r
+  room-meets k r e = record { words = e; model = λ st g. e ∙ room-asked k ws st g }

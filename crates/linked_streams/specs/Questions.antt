@@ -5,9 +5,10 @@ use mathlib.Core.Bool.{Bool, false}
 use mathlib.Core.List.{List}
 use Rattle.queue_model.specs.Types.{Answer, refused, done, number, flag, ids, fragment, nothing-waits, filled}
 use Rattle.queue_model.specs.Answers.{answer-number, answer-value, answer-flag}
+use Rattle.queue_model.specs.Questions.{Room}
 use Rattle.queue_model.specs.Calls
 use Rattle.queue_model.specs.Run as run
-use Rattle.queue_questions.specs.Questions.{priorityOf, amountOf, thresholdOf, totalOf, emptyOf, dataOf, readyOf, readinessOf}
+use Rattle.queue_questions.specs.Questions.{priorityOf, amountOf, thresholdOf, totalOf, emptyOf, dataOf, readyOf, readinessOf, roomOf}
 use Rattle.queue_streams.specs.Answers.{numberNumber, numberValue, flagNumber, flagValue}
 use Rattle.queue_streams.specs.declared.answers.Flag.{Flag}
 use Rattle.queue_streams.specs.declared.answers.Flag.the-variants as flag-answer
@@ -75,3 +76,7 @@ ReadyMeets ws r = AskedFlag run.ask-streams-ready ws r (readyOf ws)
 -- "Readiness is 2 if handover with waiting data is off and the total is above 0, else 0."
 abbrev pub ReadinessMeets : List ℕ → ℕ → Type 0
 ReadinessMeets ws r = Asked ws r (readinessOf ws) (λ st. Calls.readiness (model ws st))
+
+-- How much there is of what may run out: free bytes, waiting messages, known streams.
+abbrev pub RoomMeets : Room → List ℕ → ℕ → Type 0
+RoomMeets k ws r = Asked ws r (roomOf k ws) (λ st. Calls.room-of k (model ws st))

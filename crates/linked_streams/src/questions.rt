@@ -1,5 +1,6 @@
 // The questions: "the calls that only ask".
-ghost use Rattle.linked_streams.specs.Questions.{PriorityMeets, AmountMeets, ThresholdMeets, TotalMeets, EmptyMeets, DataMeets, ReadyMeets, ReadinessMeets};
+ghost use Rattle.queue_model.specs.Questions.{free-store, waiting-messages, known-streams};
+ghost use Rattle.linked_streams.specs.Questions.{PriorityMeets, AmountMeets, ThresholdMeets, TotalMeets, EmptyMeets, DataMeets, ReadyMeets, ReadinessMeets, RoomMeets};
 use queue_streams::Flag;
 use queue_streams::Number;
 use queue_words::QUEUE_WORDS;
@@ -57,4 +58,25 @@ pub fn get_handover_readiness(queue: &[u64; QUEUE_WORDS]) -> u64
     ensures { λ r. ⌜ ReadinessMeets (now (queue .entry)) r ⌝ }
 {
     queue_questions::get_handover_readiness(queue)
+}
+
+// How many bytes of the store are free.
+pub fn free_bytes(queue: &[u64; QUEUE_WORDS]) -> u64
+    ensures { λ r. ⌜ RoomMeets free-store (now (queue .entry)) r ⌝ }
+{
+    queue_questions::free_bytes(queue)
+}
+
+// How many messages wait.
+pub fn waiting_messages(queue: &[u64; QUEUE_WORDS]) -> u64
+    ensures { λ r. ⌜ RoomMeets waiting-messages (now (queue .entry)) r ⌝ }
+{
+    queue_questions::waiting_messages(queue)
+}
+
+// How many streams are known.
+pub fn known_streams(queue: &[u64; QUEUE_WORDS]) -> u64
+    ensures { λ r. ⌜ RoomMeets known-streams (now (queue .entry)) r ⌝ }
+{
+    queue_questions::known_streams(queue)
 }

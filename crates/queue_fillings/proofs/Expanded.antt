@@ -18,7 +18,7 @@ use Rattle.queue_streams.specs.Events.{placesIn}
 use Rattle.packets.specs.declared.packet.Packet.{Packet}
 use Rattle.packets.specs.Filling.{packetOf}
 use Rattle.linked_packets.specs.Meaning.{filledOf}
-use Rattle.queue_runs.specs.Calls.{Call, add, produce, fill, discard, close, ready-ids, commit, rollback, reset, set-threshold, set-priority, set-interleaving, restore, ask-priority, ask-amount, ask-threshold, ask-total, ask-empty, ask-has-data, ask-streams-ready, ask-ready-count, ask-readiness, callOf, Typed, NotFilling, Shown, filled}
+use Rattle.queue_runs.specs.Calls.{Call, add, produce, fill, discard, close, ready-ids, commit, rollback, reset, set-threshold, set-priority, set-interleaving, restore, ask-priority, ask-amount, ask-threshold, ask-total, ask-empty, ask-has-data, ask-streams-ready, ask-ready-count, ask-readiness, ask-room, callOf, Typed, NotFilling, Shown, filled}
 use Rattle.queue_runs.specs.Run as runs
 use Rattle.queue_runs.specs.Run.{State, step}
 use Rattle.queue_runs.specs.Meaning.{queueOf, Good, AllTyped, callsOf}
@@ -170,6 +170,7 @@ kind-of ask-has-data s = alone (λ u v w x e. let z : _≡_ {A = ℕ} 0 1 = cc i
 kind-of ask-streams-ready s = alone (λ u v w x e. let z : _≡_ {A = ℕ} 0 1 = cc in omega arith) refl
 kind-of ask-ready-count s = alone (λ u v w x e. let z : _≡_ {A = ℕ} 0 1 = cc in omega arith) refl
 kind-of ask-readiness s = alone (λ u v w x e. let z : _≡_ {A = ℕ} 0 1 = cc in omega arith) refl
+kind-of (ask-room r) s = alone (λ u v w x e. let z : _≡_ {A = ℕ} 0 1 = cc in omega arith) refl
 
 stands-one : (c : Call) (s : State) → Good s → Typed c → NotFilling c → instead c s ≡ c ∷ [] → Stands c s
 stands-one c s g t n e = record {

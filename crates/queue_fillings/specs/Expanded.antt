@@ -9,7 +9,7 @@ use Rattle.queue_model.specs.Fill.{common-header-length, filling}
 use Rattle.queue_model.specs.Packets.{Asks}
 use Rattle.queue_streams.specs.Events.{placesIn}
 use Rattle.packets.specs.declared.packet.Packet.{Packet}
-use Rattle.queue_runs.specs.Calls.{Call, add, produce, fill, discard, close, ready-ids, commit, rollback, reset, set-threshold, set-priority, set-interleaving, restore, ask-priority, ask-amount, ask-threshold, ask-total, ask-empty, ask-has-data, ask-streams-ready, ask-ready-count, ask-readiness, Typed, NotFilling, Shown}
+use Rattle.queue_runs.specs.Calls.{Call, add, produce, fill, discard, close, ready-ids, commit, rollback, reset, set-threshold, set-priority, set-interleaving, restore, ask-priority, ask-amount, ask-threshold, ask-total, ask-empty, ask-has-data, ask-streams-ready, ask-ready-count, ask-readiness, ask-room, Typed, NotFilling, Shown}
 use Rattle.queue_runs.specs.Run.{State, step, run, after}
 use Rattle.queue_runs.specs.Meaning.{queueOf, AllTyped}
 use Rattle.queue_runs.specs.Refusals.{refusal}
@@ -49,6 +49,7 @@ instead ask-has-data s = ask-has-data ∷ []
 instead ask-streams-ready s = ask-streams-ready ∷ []
 instead ask-ready-count s = ask-ready-count ∷ []
 instead ask-readiness s = ask-readiness ∷ []
+instead (ask-room r) s = (ask-room r) ∷ []
 
 -- "The size asked for is [..]. Filling ends when that size is 0 or less or nothing is waiting": of a filling that is not refused, on every queue that creation and calls lead to.
 unfoldable pub Request5-sizes : Type 0

@@ -19,7 +19,7 @@ use Rattle.queue_model.specs.Reset.{put-back}
 use Rattle.queue_model.specs.Questions.{amount-of}
 use Rattle.queue_model.specs.Image.{MessageRecord, Handover}
 use Rattle.queue_model.specs.Reader.{read-image}
-use Rattle.queue_model.specs.Run.{Call, add, produce, fill, discard, close, ready-ids, commit, rollback, reset, set-threshold, set-priority, set-interleaving, restore, ask-priority, ask-amount, ask-threshold, ask-total, ask-empty, ask-has-data, ask-streams-ready, ask-ready-count, ask-readiness, step, after}
+use Rattle.queue_model.specs.Run.{Call, add, produce, fill, discard, close, ready-ids, commit, rollback, reset, set-threshold, set-priority, set-interleaving, restore, ask-priority, ask-amount, ask-threshold, ask-total, ask-empty, ask-has-data, ask-streams-ready, ask-ready-count, ask-readiness, ask-room, step, after}
 use Rattle.queue_model.specs.Demands.{Created, AllTyped}
 use Rattle.queue_model.specs.Calls
 
@@ -133,6 +133,7 @@ account k ask-has-data q = no-bytes
 account k ask-streams-ready q = no-bytes
 account k ask-ready-count q = no-bytes
 account k ask-readiness q = no-bytes
+account k (ask-room r) q = no-bytes
 
 -- The same of a list of calls.
 unfoldable pub accounts : ℕ → List Call → Queue → Account

@@ -18,7 +18,7 @@ use Rattle.queue_model.specs.Reset.{whole-head}
 use Rattle.queue_model.specs.Image.{StreamRecord, MessageRecord, Handover}
 use Rattle.queue_model.specs.Reader.{read-image}
 use Rattle.queue_model.specs.Restore.{restored-item}
-use Rattle.queue_model.specs.Run.{Call, add, produce, fill, discard, close, ready-ids, commit, rollback, reset, set-threshold, set-priority, set-interleaving, restore, ask-priority, ask-amount, ask-threshold, ask-total, ask-empty, ask-has-data, ask-streams-ready, ask-ready-count, ask-readiness, after}
+use Rattle.queue_model.specs.Run.{Call, add, produce, fill, discard, close, ready-ids, commit, rollback, reset, set-threshold, set-priority, set-interleaving, restore, ask-priority, ask-amount, ask-threshold, ask-total, ask-empty, ask-has-data, ask-streams-ready, ask-ready-count, ask-readiness, ask-room, after}
 use Rattle.queue_model.specs.History.{Piece, Entry, asks-at, history}
 
 -- ------------------------------------------------------------------ the ledger of a stream
@@ -187,6 +187,7 @@ entered strict k ask-has-data ps ss l = l
 entered strict k ask-streams-ready ps ss l = l
 entered strict k ask-ready-count ps ss l = l
 entered strict k ask-readiness ps ss l = l
+entered strict k (ask-room r) ps ss l = l
 
 -- A refused call enters nothing.
 unfoldable pub enter : Bool → ℕ → Entry → Ledger → Ledger
@@ -268,6 +269,7 @@ arrives k ask-has-data b = b
 arrives k ask-streams-ready b = b
 arrives k ask-ready-count b = b
 arrives k ask-readiness b = b
+arrives k (ask-room r) b = b
 
 -- After a history: from the calls, and from whether they were refused, alone.
 unfoldable pub arrivals : ℕ → List Entry → Arrivals → Arrivals

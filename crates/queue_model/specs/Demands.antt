@@ -13,7 +13,7 @@ use Rattle.queue_model.specs.Streams.{has-items, new-queue}
 use Rattle.queue_model.specs.Refusals.{max-time, create-refusal}
 use Rattle.queue_model.specs.Image.{write-image}
 use Rattle.queue_model.specs.RustHandover.{HandoverState, handover-state, restore-from-state, begun-stream, restore-remembering}
-use Rattle.queue_model.specs.Run.{Call, add, produce, fill, discard, close, ready-ids, commit, rollback, reset, set-threshold, set-priority, set-interleaving, restore, ask-priority, ask-amount, ask-threshold, ask-total, ask-empty, ask-has-data, ask-streams-ready, ask-ready-count, ask-readiness, step, run}
+use Rattle.queue_model.specs.Run.{Call, add, produce, fill, discard, close, ready-ids, commit, rollback, reset, set-threshold, set-priority, set-interleaving, restore, ask-priority, ask-amount, ask-threshold, ask-total, ask-empty, ask-has-data, ask-streams-ready, ask-ready-count, ask-readiness, ask-room, step, run}
 use Rattle.queue_model.specs.Restore
 
 -- ------------------------------------------------------------------ calls whose numbers have their widths
@@ -57,6 +57,7 @@ Typed ask-has-data = Unit {0}
 Typed ask-streams-ready = Unit {0}
 Typed ask-ready-count = Unit {0}
 Typed ask-readiness = Unit {0}
+Typed (ask-room r) = Unit {0}
 
 abbrev pub AllTyped : List Call → Type 0
 AllTyped [] = Unit {0}

@@ -13,7 +13,8 @@ use Rattle.queue_model.specs.Produce.{give-numbers}
 use Rattle.queue_model.specs.Questions.{readiness}
 use Rattle.queue_model.specs.Image.{bit, ms-left-at, write-image, save}
 use Rattle.queue_model.specs.Answers.{saving-number}
-use Rattle.queue_model.specs.Run.{Call, add, produce, discard, close, ready-ids, commit, rollback, reset, set-threshold, set-priority, set-interleaving, restore, ask-priority, ask-amount, ask-threshold, ask-total, ask-empty, ask-has-data, ask-streams-ready, ask-ready-count, run, after}
+use Rattle.queue_model.specs.Run.{Call, add, produce, discard, close, ready-ids, commit, rollback, reset, set-threshold, set-priority, set-interleaving, restore, ask-priority, ask-amount, ask-threshold, ask-total, ask-empty, ask-has-data, ask-streams-ready, ask-ready-count, ask-room, run, after}
+use Rattle.queue_model.specs.Questions.{free-store, waiting-messages, known-streams}
 
 -- A queue with payload limit 1,000 and stream thresholds 0; the default priority, the total's threshold, handover with waiting data and the strict rule of a restart as given.
 created : ℕ → ℕ → Bool → Bool → Queue
@@ -247,6 +248,9 @@ facts =
     ∷ (shows (ask-ready-count ∷ close 2305 5 ∷ close 2305 3 ∷ ask-ready-count ∷ ask-ready-count ∷ ready-ids ∷ ask-ready-count ∷ []) gives (0 ∷ 2 ∷ 2 ∷ 3 ∷ 5 ∷ 0 ∷ []))
     ∷ (shows (put 5 10 0 none ∷ get 0 6 ∷ close 2305 5 ∷ ask-ready-count ∷ get 0 4 ∷ ask-ready-count ∷ []) gives (5 ∷ 6 ∷ 1 ∷ 0 ∷ 0 ∷ 0 ∷ 0 ∷ 0 ∷ 5 ∷ 4 ∷ 0 ∷ 1 ∷ 0 ∷ 0 ∷ 1 ∷ 1 ∷ []))
     ∷ (shows (put 5 10 0 none ∷ put 3 20 0 none ∷ set-threshold 2305 5 4 ∷ ask-amount 5 ∷ ask-total ∷ ask-threshold 5 ∷ ask-threshold 3 ∷ ask-priority 3 ∷ []) gives (10 ∷ 30 ∷ 4 ∷ 0 ∷ 256 ∷ []))
+    -- What there is room for: a half-sent message occupies its full length, a setting makes its stream known; after the last fragment the bytes are free and nothing waits.
+    ∷ (shows (put 5 10 0 none ∷ set-priority 3 7 ∷ get 0 6 ∷ ask-room free-store ∷ ask-room waiting-messages ∷ ask-room known-streams ∷ get 0 4 ∷ ask-room free-store ∷ ask-room waiting-messages ∷ ask-room known-streams ∷ [])
+    gives (5 ∷ 6 ∷ 1 ∷ 0 ∷ 0 ∷ 0 ∷ 0 ∷ 99990 ∷ 1 ∷ 2 ∷ 5 ∷ 4 ∷ 0 ∷ 1 ∷ 0 ∷ 0 ∷ 1 ∷ 100000 ∷ 0 ∷ 2 ∷ []))
     -- "Readiness is 2 if handover with waiting data is off and the total is above 0, else 0."
     ∷ ((ready-with [] ∷ ready-with (put 5 1 0 none ∷ []) ∷ ready-with (put 5 10 0 none ∷ []) ∷ ready-with (put 5 10 0 none ∷ get 0 10 ∷ []) ∷ []) gives (0 ∷ 2 ∷ 2 ∷ 0 ∷ []))
     -- "Cost without interleaving is 1".

@@ -12,7 +12,7 @@ use Rattle.queue_model.specs.Answers.{is-refused, fragments-in}
 use Rattle.queue_model.specs.Passing.{passing}
 use Rattle.queue_model.specs.Fill.{filling}
 use Rattle.queue_model.specs.Packets.{separate-calls}
-use Rattle.queue_model.specs.Run.{Call, add, produce, fill, discard, close, ready-ids, commit, rollback, reset, set-threshold, set-priority, set-interleaving, restore, ask-priority, ask-amount, ask-threshold, ask-total, ask-empty, ask-has-data, ask-streams-ready, ask-ready-count, ask-readiness, step}
+use Rattle.queue_model.specs.Run.{Call, add, produce, fill, discard, close, ready-ids, commit, rollback, reset, set-threshold, set-priority, set-interleaving, restore, ask-priority, ask-amount, ask-threshold, ask-total, ask-empty, ask-has-data, ask-streams-ready, ask-ready-count, ask-readiness, ask-room, step}
 
 -- ------------------------------------------------------------------ an entry
 
@@ -63,6 +63,7 @@ asks-at ask-has-data = none
 asks-at ask-streams-ready = none
 asks-at ask-ready-count = none
 asks-at ask-readiness = none
+asks-at (ask-room r) = none
 
 -- The scheduler's choice.
 unfoldable pub choice : Option Active → List ℕ
@@ -114,6 +115,7 @@ made-of ask-has-data q = []
 made-of ask-streams-ready q = []
 made-of ask-ready-count q = []
 made-of ask-readiness q = []
+made-of (ask-room r) q = []
 
 -- A call, and behind it those that it is made of.
 unfoldable pub history : List Call → Queue → List Entry

@@ -14,7 +14,7 @@ use Rattle.queue_model.specs.Streams.{find-stream, new-queue}
 use Rattle.queue_model.specs.Image.{MessageRecord, Handover}
 use Rattle.queue_model.specs.Reader.{read-image}
 use Rattle.queue_model.specs.Restore.{half-sent-first}
-use Rattle.queue_model.specs.Run.{Call, add, produce, fill, discard, close, ready-ids, commit, rollback, reset, set-threshold, set-priority, set-interleaving, restore, ask-priority, ask-amount, ask-threshold, ask-total, ask-empty, ask-has-data, ask-streams-ready, ask-ready-count, ask-readiness, step}
+use Rattle.queue_model.specs.Run.{Call, add, produce, fill, discard, close, ready-ids, commit, rollback, reset, set-threshold, set-priority, set-interleaving, restore, ask-priority, ask-amount, ask-threshold, ask-total, ask-empty, ask-has-data, ask-streams-ready, ask-ready-count, ask-readiness, ask-room, step}
 use Rattle.queue_model.specs.Demands.{Typed, Created}
 
 -- The half-sent messages of an image.
@@ -53,6 +53,7 @@ Uninterleaved F P ask-has-data q = Unit {0}
 Uninterleaved F P ask-streams-ready q = Unit {0}
 Uninterleaved F P ask-ready-count q = Unit {0}
 Uninterleaved F P ask-readiness q = Unit {0}
+Uninterleaved F P (ask-room r) q = Unit {0}
 
 -- It restores no image with more than one half-sent message.
 abbrev pub Uninterrupted : Call → Queue → Type 0

@@ -7,7 +7,7 @@ use Rattle.queue_model.specs.Logic.{if_then_else_, is-some, any}
 use Rattle.queue_model.specs.Table.{find}
 use Rattle.queue_model.specs.Types.{Queue}
 use Rattle.queue_model.specs.Scheduler.{peek}
-use Rattle.queue_model.specs.Streams.{stream-at}
+use Rattle.queue_model.specs.Streams.{stream-at, waiting, free-bytes}
 use Rattle.queue_model.specs.Reset.{is-paused, paused-ids}
 
 -- "A call of its own answers the priority last set or restored, the default where there is none, and changes nothing." (Rust: get_priority)
@@ -47,3 +47,14 @@ ready-count q = length (paused-ids (q .streams))
 -- "Readiness is 2 if handover with waiting data is off and the total is above 0, else 0." (Rust: get_handover_readiness)
 unfoldable pub readiness : Queue → ℕ
 readiness q = if not (q .options .handover-with-data) && ltb 0 (q .total) then 2 else 0
+
+-- What may run out: "free bytes count together, however scattered"; "256 known streams; 1,024 waiting messages".
+pub data Room : Type 0 where
+  free-store waiting-messages known-streams : Room
+
+-- How much of it there is: the free bytes, what waits, what is known (questions beyond the Rust's, by which a feeder sees 6, 7 and 8 coming).
+unfoldable pub room-of : Room → Queue → ℕ
+unfolding free-bytes
+room-of free-store q = free-bytes q
+room-of waiting-messages q = waiting (q .streams)
+room-of known-streams q = length (q .streams)

@@ -3,6 +3,7 @@ use Prim.Native.Nat.{ℕ}
 use mathlib.Core.Bool.{Bool}
 use mathlib.Core.List.{List, [], _∷_}
 use Rattle.queue_model.specs.Types.{Queue, Message, Packet, number, flag, Outcome, Step, reply}
+use Rattle.queue_model.specs.Questions.{Room}
 use Rattle.queue_model.specs.Calls
 use Rattle.queue_model.specs.Restore
 
@@ -20,10 +21,11 @@ pub data Call : Type 0 where
   restore : (store now : ℕ) (image : List ℕ) → Call
   ask-priority ask-amount ask-threshold : (stream : ℕ) → Call
   ask-total ask-empty ask-has-data ask-streams-ready ask-ready-count ask-readiness : Call
+  ask-room : Room → Call
 
 -- One call.
 unfoldable pub step : Call → Queue → Step
-unfolding Calls.add Calls.produce Calls.fill Calls.discard Calls.close Calls.ready-ids Calls.commit Calls.rollback Calls.reset Calls.set-threshold Calls.set-priority Calls.set-interleaving Restore.restore Calls.priority-of Calls.amount-of Calls.threshold-of Calls.is-empty Calls.has-data Calls.streams-ready Calls.ready-count Calls.readiness
+unfolding Calls.add Calls.produce Calls.fill Calls.discard Calls.close Calls.ready-ids Calls.commit Calls.rollback Calls.reset Calls.set-threshold Calls.set-priority Calls.set-interleaving Restore.restore Calls.priority-of Calls.amount-of Calls.threshold-of Calls.is-empty Calls.has-data Calls.streams-ready Calls.ready-count Calls.readiness Calls.room-of
 step (add store now m) q = Calls.add store now m q
 step (produce store places buffer now size) q = Calls.produce store places buffer now size q
 step (fill store places buffer now p) q = Calls.fill store places buffer now p q
@@ -46,6 +48,7 @@ step ask-has-data q = reply (flag (Calls.has-data q)) [] q
 step ask-streams-ready q = reply (flag (Calls.streams-ready q)) [] q
 step ask-ready-count q = reply (number (Calls.ready-count q)) [] q
 step ask-readiness q = reply (number (Calls.readiness q)) [] q
+step (ask-room r) q = reply (number (Calls.room-of r q)) [] q
 
 -- What a list of calls shows, call by call.
 unfoldable pub run : List Call → Queue → List Outcome

@@ -7,6 +7,7 @@ use native.Mathlib.Nat.{sub-zero}
 use native.Mathlib.Numerals.{add-one}
 use native.Mathlib.Omega.{arith}
 use borrow.Author.Tests.{lt-ltb, le-ltb}
+use Rattle.queue_model.specs.Questions.{free-store}
 use Rattle.queue_words.specs.Find.{findStream}
 use Rattle.queue_words.specs.Header.{optionsAt, totalsAt}
 use Rattle.queue_words.specs.Known.{knownAt, knownCount}
@@ -21,7 +22,7 @@ use Rattle.stream_scheduler.specs.Words.{peekWords}
 use Rattle.stream_scheduler.specs.declared.Peeked.{Peeked}
 use Rattle.stream_scheduler.specs.declared.Peeked.the-variants as peeked
 use Rattle.queue_streams.specs.Known.{newStream}
-use Rattle.queue_questions.specs.Questions.{streamOrNew, priorityOf, amountOf, thresholdOf, dataOf, readyAmong, readyOf, readinessOf}
+use Rattle.queue_questions.specs.Questions.{streamOrNew, priorityOf, amountOf, thresholdOf, dataOf, readyAmong, readyOf, readinessOf, roomOf}
 use Rattle.queue_streams.specs.declared.answers.Call.the-variants.{Refused}
 use Rattle.queue_streams.specs.declared.answers.Flag.the-variants as flag
 use Rattle.queue_streams.specs.declared.answers.Number.the-variants as number
@@ -140,3 +141,17 @@ module _ (ws : List ℕ) (o : Options) (eo : o ≡ optionsAt ws) where
     pub readiness-none : t .total ≤ 0 → 0 ≡ readinessOf ws
     unfolding readinessOf
     readiness-none g = rw (← eo, h, ← et, le-ltb _ _ g)
+
+-- ------------------------------------------------------------------ the free bytes
+
+module _ (ws : List ℕ) (o : Options) (eo : o ≡ optionsAt ws) (t : Totals) (et : t ≡ totalsAt ws) where
+  pub none-free : o .«store_length» < t .used → 0 ≡ roomOf free-store ws
+  unfolding roomOf
+  none-free h = sym (monus (o .«store_length») (t .used) h) ∙ ap (λ (x : Options). x .«store_length» - t .used) eo ∙ ap (λ (x : Totals). optionsAt ws .«store_length» - x .used) et
+    where
+      monus : (a b : ℕ) → a < b → a - b ≡ 0
+      monus a b l = omega arith
+
+  pub some-free : o .«store_length» - t .used ≡ roomOf free-store ws
+  unfolding roomOf
+  some-free = ap (λ (x : Options). x .«store_length» - t .used) eo ∙ ap (λ (x : Totals). optionsAt ws .«store_length» - x .used) et

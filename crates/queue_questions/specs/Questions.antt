@@ -1,8 +1,9 @@
 -- "The questions are the calls that only ask", on the words. Assumes nothing.
-use Prim.Native.Nat.{ℕ, zero, suc}
+use Prim.Native.Nat.{ℕ, zero, suc, _-_}
 use mathlib.Core.Bool.{Bool, true, false}
 use mathlib.Core.List.{List}
 use lib.Dec.{ltb, eqb}
+use Rattle.queue_model.specs.Questions.{Room, free-store, waiting-messages, known-streams}
 use Rattle.queue_words.specs.Flags.{pick}
 use Rattle.queue_words.specs.Find.{findStream}
 use Rattle.queue_words.specs.Header.{optionsAt, totalsAt}
@@ -77,3 +78,9 @@ readyOf ws = pick (ltb 256 (knownCount ws)) (flag.Refused 16) (readyAmong ws 0 (
 -- "Readiness is 2 if handover with waiting data is off and the total is above 0, else 0."
 unfoldable pub readinessOf : List ℕ → ℕ
 readinessOf ws = pick ((optionsAt ws) .«handover_with_data») 0 (pick (ltb 0 ((totalsAt ws) .total)) 2 0)
+
+-- How much there is of what may run out: "free bytes count together", of a store that is used up none; "1,024 waiting messages"; "256 known streams".
+unfoldable pub roomOf : Room → List ℕ → ℕ
+roomOf free-store ws = optionsAt ws .«store_length» - totalsAt ws .used
+roomOf waiting-messages ws = totalsAt ws .waiting
+roomOf known-streams ws = totalsAt ws .known

@@ -1,7 +1,8 @@
 // The questions: "the calls that only ask".
 ghost use mathlib.Core.Path.{_≡_};
 ghost use Prim.Native.Nat.{_≤_};
-ghost use Rattle.queue_questions.specs.Questions.{priorityOf, amountOf, thresholdOf, totalOf, emptyOf, dataOf, readyOf, readinessOf, streamOrNew, readyAmong};
+ghost use Rattle.queue_model.specs.Questions.{free-store, waiting-messages, known-streams};
+ghost use Rattle.queue_questions.specs.Questions.{priorityOf, amountOf, thresholdOf, totalOf, emptyOf, dataOf, readyOf, readinessOf, streamOrNew, readyAmong, roomOf};
 use queue_streams::Flag;
 use queue_streams::Number;
 use queue_streams::new_stream;
@@ -143,4 +144,32 @@ pub fn get_handover_readiness(queue: &[u64; QUEUE_WORDS]) -> u64
         return 2;
     }
     0
+}
+
+// How many bytes of the store are free: a longer payload gets 8.
+pub fn free_bytes(queue: &[u64; QUEUE_WORDS]) -> u64
+    ensures { λ r. ⌜ r ≡ roomOf free-store (now (queue .entry)) ⌝ }
+{
+    let o = load_options(queue);
+    let t = load_totals(queue);
+    if t.used > o.store_length {
+        return 0;
+    }
+    o.store_length - t.used
+}
+
+// How many messages wait: of 1,024 none may be added.
+pub fn waiting_messages(queue: &[u64; QUEUE_WORDS]) -> u64
+    ensures { λ r. ⌜ r ≡ roomOf waiting-messages (now (queue .entry)) ⌝ }
+{
+    let t = load_totals(queue);
+    t.waiting
+}
+
+// How many streams are known: of 256 none becomes known.
+pub fn known_streams(queue: &[u64; QUEUE_WORDS]) -> u64
+    ensures { λ r. ⌜ r ≡ roomOf known-streams (now (queue .entry)) ⌝ }
+{
+    let t = load_totals(queue);
+    t.known
 }

@@ -36,7 +36,7 @@ use Rattle.queue_questions.specs.Questions.{amountOf}
 use Rattle.queue_state.specs.Promise.{numberOf}
 use Rattle.queue_state.specs.Promise as promise
 use Rattle.linked_streams.proofs.Asks.{amount-asked, total-asked}
-use Rattle.queue_runs.specs.Calls.{Call, add, produce, fill, discard, close, ready-ids, commit, rollback, reset, set-threshold, set-priority, set-interleaving, restore, ask-priority, ask-amount, ask-threshold, ask-total, ask-empty, ask-has-data, ask-streams-ready, ask-ready-count, ask-readiness, callOf, Typed, Shown, called, sent, filled}
+use Rattle.queue_runs.specs.Calls.{Call, add, produce, fill, discard, close, ready-ids, commit, rollback, reset, set-threshold, set-priority, set-interleaving, restore, ask-priority, ask-amount, ask-threshold, ask-total, ask-empty, ask-has-data, ask-streams-ready, ask-ready-count, ask-readiness, ask-room, callOf, Typed, Shown, called, sent, filled}
 use Rattle.queue_runs.specs.Run.{State, step, after}
 use Rattle.queue_runs.specs.Meaning.{queueOf, Good, AllTyped, callsOf}
 use Rattle.queue_runs.specs.Creation.{optionsWith, newState}
@@ -200,6 +200,7 @@ account-link k ask-has-data s g t = refl
 account-link k ask-streams-ready s g t = refl
 account-link k ask-ready-count s g t = refl
 account-link k ask-readiness s g t = refl
+account-link k (ask-room r) s g t = refl
 
 accounts-link : (k : ℕ) (cs : List Call) (s : State) → Good s → AllTyped cs → accounts k cs s ≡ model.accounts k (callsOf (length (s .store)) cs) (queueOf s)
 unfolding accounts model.accounts

@@ -23,7 +23,7 @@ use Rattle.queue_sending.specs.declared.data.Produced.the-variants as produced
 use Rattle.packets.specs.declared.packet.Packet.{Packet}
 use Rattle.linked_restarts.specs.Ids.{readyOf}
 use Rattle.linked_sending.specs.Meaning.{producedOf, bufferOf}
-use Rattle.queue_runs.specs.Calls.{Call, add, produce, fill, discard, close, ready-ids, commit, rollback, reset, set-threshold, set-priority, set-interleaving, restore, ask-priority, ask-amount, ask-threshold, ask-total, ask-empty, ask-has-data, ask-streams-ready, ask-ready-count, ask-readiness, callOf, Typed, Shown, readied}
+use Rattle.queue_runs.specs.Calls.{Call, add, produce, fill, discard, close, ready-ids, commit, rollback, reset, set-threshold, set-priority, set-interleaving, restore, ask-priority, ask-amount, ask-threshold, ask-total, ask-empty, ask-has-data, ask-streams-ready, ask-ready-count, ask-readiness, ask-room, callOf, Typed, Shown, readied}
 use Rattle.queue_runs.specs.Run as runs
 use Rattle.queue_runs.specs.Run.{State, step}
 use Rattle.queue_runs.specs.Meaning.{queueOf, AllTyped, shownOf}
@@ -86,6 +86,7 @@ kind k ask-has-data = plain-kind (λ len. refl) (λ o. refl)
 kind k ask-streams-ready = plain-kind (λ len. refl) (λ o. refl)
 kind k ask-ready-count = plain-kind (λ len. refl) (λ o. refl)
 kind k ask-readiness = plain-kind (λ len. refl) (λ o. refl)
+kind k (ask-room r) = plain-kind (λ len. refl) (λ o. refl)
 
 -- A fragment of another stream, or none.
 no-part : (k : ℕ) (a : plain.Answer) (n : ℕ) (bs : List ℕ) → ((f : Fragment) → a ≡ plain.fragment f → f .stream-id ≡ k → ⊥) → partSent k (producedOf a n) (bufferOf a bs) ≡ []

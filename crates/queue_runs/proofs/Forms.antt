@@ -84,6 +84,7 @@ Form run.ask-has-data o = Flag o
 Form run.ask-streams-ready o = Flag o
 Form run.ask-ready-count o = Number o
 Form run.ask-readiness o = Number o
+Form (run.ask-room r) o = Number o
 
 -- ------------------------------------------------------------------ checks
 
@@ -220,3 +221,4 @@ form-of run.ask-has-data q = flag-told _
 form-of run.ask-streams-ready q = flag-told _
 form-of run.ask-ready-count q = number-told _
 form-of run.ask-readiness q = number-told _
+form-of (run.ask-room r) q = number-told _

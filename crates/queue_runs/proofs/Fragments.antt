@@ -8,7 +8,7 @@ use Rattle.queue_model.specs.Types.{Fragment, Outcome}
 use Rattle.queue_model.specs.Answers.{fragments-in}
 use Rattle.queue_sending.specs.declared.data.DataToSend.{DataToSend}
 use Rattle.linked_sending.specs.Meaning.{dataOf, producedOf}
-use Rattle.queue_runs.specs.Calls.{Call, add, produce, fill, discard, close, ready-ids, commit, rollback, reset, set-threshold, set-priority, set-interleaving, restore, ask-priority, ask-amount, ask-threshold, ask-total, ask-empty, ask-has-data, ask-streams-ready, ask-ready-count, ask-readiness, callOf, Typed, Shown}
+use Rattle.queue_runs.specs.Calls.{Call, add, produce, fill, discard, close, ready-ids, commit, rollback, reset, set-threshold, set-priority, set-interleaving, restore, ask-priority, ask-amount, ask-threshold, ask-total, ask-empty, ask-has-data, ask-streams-ready, ask-ready-count, ask-readiness, ask-room, callOf, Typed, Shown}
 use Rattle.queue_runs.specs.Run.{State, step}
 use Rattle.queue_runs.specs.Meaning.{queueOf, Good, shownOf}
 use Rattle.queue_runs.specs.Fragments.{dataSent, dataIn}
@@ -73,6 +73,7 @@ data-shown len ask-has-data o f = none-shown (fragments-in (o .answer)) (flag-no
 data-shown len ask-streams-ready o f = none-shown (fragments-in (o .answer)) (flag-none o f)
 data-shown len ask-ready-count o f = none-shown (fragments-in (o .answer)) (number-none o f)
 data-shown len ask-readiness o f = none-shown (fragments-in (o .answer)) (number-none o f)
+data-shown len (ask-room r) o f = none-shown (fragments-in (o .answer)) (number-none o f)
 
 pub data-append : (fs gs : List Fragment) → map dataOf (fs ++ gs) ≡ map dataOf fs ++ map dataOf gs
 data-append [] gs = refl

@@ -76,6 +76,7 @@ refusal-shown len calls.ask-has-data o f = flag-refusal o f
 refusal-shown len calls.ask-streams-ready o f = flag-refusal o f
 refusal-shown len calls.ask-ready-count o f = number-refusal o f
 refusal-shown len calls.ask-readiness o f = count-refusal o f
+refusal-shown len (calls.ask-room r) o f = count-refusal o f
 
 -- ------------------------------------------------------------------ the fragment
 

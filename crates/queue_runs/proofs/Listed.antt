@@ -62,7 +62,7 @@ use Rattle.queue_sending.specs.declared.data.Produced.the-variants as produced
 use Rattle.image_rules.specs.Code.{rulesKept, amountsFit, imageCode}
 use Rattle.image_rules.specs.Trailers.{trailerIn}
 use Rattle.handover.specs.Restore as restoring
-use Rattle.queue_runs.specs.Calls.{add, produce, fill, discard, close, ready-ids, commit, rollback, reset, set-threshold, set-priority, set-interleaving, restore, ask-priority, ask-amount, ask-threshold, ask-total, ask-empty, ask-has-data, ask-streams-ready, ask-ready-count, ask-readiness}
+use Rattle.queue_runs.specs.Calls.{add, produce, fill, discard, close, ready-ids, commit, rollback, reset, set-threshold, set-priority, set-interleaving, restore, ask-priority, ask-amount, ask-threshold, ask-total, ask-empty, ask-has-data, ask-streams-ready, ask-ready-count, ask-readiness, ask-room}
 use Rattle.queue_runs.specs.Run.{step}
 use Rattle.queue_runs.specs.Refusals.{callRefused, sentRefused, fillRefused, numberRefused, flagRefused}
 use Rattle.queue_streams.specs.Answers.{callNumber, numberNumber, flagNumber}
@@ -688,3 +688,4 @@ refusals-listed ask-has-data s e = data-asked (s .words) e
 refusals-listed ask-streams-ready s e = streams-listed (s .words) e
 refusals-listed ask-ready-count s e = count-listed (s .words) e
 refusals-listed ask-readiness s e = not-refused e
+refusals-listed (ask-room r) s e = not-refused e

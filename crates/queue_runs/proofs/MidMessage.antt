@@ -28,7 +28,7 @@ use Rattle.queue_state.proofs.Singles.{model-schedules}
 use Rattle.linked_sending.specs.Meaning.{dataOf}
 use Rattle.queue_words.specs.declared.header.Remembered.{Remembered}
 use Rattle.queue_words.specs.declared.header.Remembered.the-variants as recalled
-use Rattle.queue_runs.specs.Calls.{Call, add, produce, fill, discard, close, ready-ids, commit, rollback, reset, set-threshold, set-priority, set-interleaving, restore, ask-priority, ask-amount, ask-threshold, ask-total, ask-empty, ask-has-data, ask-streams-ready, ask-ready-count, ask-readiness, callOf, Typed, Shown, called, sent}
+use Rattle.queue_runs.specs.Calls.{Call, add, produce, fill, discard, close, ready-ids, commit, rollback, reset, set-threshold, set-priority, set-interleaving, restore, ask-priority, ask-amount, ask-threshold, ask-total, ask-empty, ask-has-data, ask-streams-ready, ask-ready-count, ask-readiness, ask-room, callOf, Typed, Shown, called, sent}
 use Rattle.queue_runs.specs.Run.{State, step}
 use Rattle.queue_runs.specs.Meaning.{queueOf, Good, sentOf}
 use Rattle.queue_runs.specs.Creation.{Arguments, optionsWith, newState}
@@ -76,6 +76,7 @@ uninterleaved F P ask-has-data s g t u = u
 uninterleaved F P ask-streams-ready s g t u = u
 uninterleaved F P ask-ready-count s g t u = u
 uninterleaved F P ask-readiness s g t u = u
+uninterleaved F P (ask-room r) s g t u = u
 
 never-stands : {a : Arguments} {len : ℕ} {s : State} → NeverInterleaved a len s → Stands (optionsWith a len) len s
 never-stands {a} {len} (at-first {before = b} c e) =

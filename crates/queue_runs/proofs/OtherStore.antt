@@ -13,7 +13,7 @@ use Rattle.queue_sending.specs.Produce.{produceCode, produceNext}
 use Rattle.packets.specs.declared.packet.Packet.{Packet}
 use Rattle.packets.specs.Filling.{fillCode, filledNumber, fillPacket}
 use Rattle.handover.specs.Restore as restoring
-use Rattle.queue_runs.specs.Calls.{add, produce, fill, discard, close, ready-ids, commit, rollback, reset, set-threshold, set-priority, set-interleaving, restore, ask-priority, ask-amount, ask-threshold, ask-total, ask-empty, ask-has-data, ask-streams-ready, ask-ready-count, ask-readiness}
+use Rattle.queue_runs.specs.Calls.{add, produce, fill, discard, close, ready-ids, commit, rollback, reset, set-threshold, set-priority, set-interleaving, restore, ask-priority, ask-amount, ask-threshold, ask-total, ask-empty, ask-has-data, ask-streams-ready, ask-ready-count, ask-readiness, ask-room}
 use Rattle.queue_runs.specs.Run.{step}
 use Rattle.queue_streams.specs.Answers.{callNumber}
 use Rattle.queue_sending.specs.Data.{producedNumber}
@@ -67,3 +67,4 @@ other-store ask-has-data s e h = not-refused e
 other-store ask-streams-ready s e h = not-refused e
 other-store ask-ready-count s e h = not-refused e
 other-store ask-readiness s e h = not-refused e
+other-store (ask-room r) s e h = not-refused e

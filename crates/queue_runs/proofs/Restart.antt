@@ -19,7 +19,7 @@ use Rattle.queue_model.proofs.Restart as theorem
 use Rattle.queue_streams.specs.declared.answers.Call.the-variants as call
 use Rattle.queue_sending.specs.declared.data.DataToSend.{DataToSend}
 use Rattle.linked_sending.specs.Meaning.{dataOf}
-use Rattle.queue_runs.specs.Calls.{Call, add, produce, fill, discard, close, ready-ids, commit, rollback, reset, set-threshold, set-priority, set-interleaving, restore, ask-priority, ask-amount, ask-threshold, ask-total, ask-empty, ask-has-data, ask-streams-ready, ask-ready-count, ask-readiness, callOf, Typed, Shown, called}
+use Rattle.queue_runs.specs.Calls.{Call, add, produce, fill, discard, close, ready-ids, commit, rollback, reset, set-threshold, set-priority, set-interleaving, restore, ask-priority, ask-amount, ask-threshold, ask-total, ask-empty, ask-has-data, ask-streams-ready, ask-ready-count, ask-readiness, ask-room, callOf, Typed, Shown, called}
 use Rattle.queue_runs.specs.Run as runs
 use Rattle.queue_runs.specs.Run.{State, step}
 use Rattle.queue_runs.specs.Meaning.{queueOf, Good, AllTyped, callsOf, quietOf}
@@ -88,6 +88,7 @@ not-restored ask-has-data s g t n = (λ x y z e d. let u : _≡_ {A = ℕ} 0 1 =
 not-restored ask-streams-ready s g t n = (λ x y z e d. let u : _≡_ {A = ℕ} 0 1 = cc in omega arith, λ a b c d k e. let u : _≡_ {A = ℕ} 0 1 = cc in omega arith)
 not-restored ask-ready-count s g t n = (λ x y z e d. let u : _≡_ {A = ℕ} 0 1 = cc in omega arith, λ a b c d k e. let u : _≡_ {A = ℕ} 0 1 = cc in omega arith)
 not-restored ask-readiness s g t n = (λ x y z e d. let u : _≡_ {A = ℕ} 0 1 = cc in omega arith, λ a b c d k e. let u : _≡_ {A = ℕ} 0 1 = cc in omega arith)
+not-restored (ask-room r) s g t n = (λ x y z e d. let u : _≡_ {A = ℕ} 0 1 = cc in omega arith, λ a b c d k e. let u : _≡_ {A = ℕ} 0 1 = cc in omega arith)
 
 none-restored : (cs : List Call) (s : State) → Good s → AllTyped cs → NoneRestored cs s → model.NoneRestored (callsOf (length (s .store)) cs) (queueOf s)
 none-restored [] s g t n = tt

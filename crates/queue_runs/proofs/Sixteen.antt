@@ -105,6 +105,7 @@ shown-not calls.ask-has-data o e = flag-not (o .answer) e
 shown-not calls.ask-streams-ready o e = flag-not (o .answer) e
 shown-not calls.ask-ready-count o e = number-not (o .answer) e
 shown-not calls.ask-readiness o e = refl
+shown-not (calls.ask-room r) o e = refl
 
 -- ------------------------------------------------------------------ lists of calls
 

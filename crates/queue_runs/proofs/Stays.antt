@@ -44,7 +44,7 @@ use Rattle.queue_sending.specs.declared.data.Produced.{Produced}
 use Rattle.queue_sending.specs.declared.data.Produced.the-variants as produced
 use Rattle.queue_sending.proofs.Passes.{produce-refused}
 use Rattle.handover.specs.Restore as restoring
-use Rattle.queue_runs.specs.Calls.{add, produce, fill, discard, close, ready-ids, commit, rollback, reset, set-threshold, set-priority, set-interleaving, restore, ask-priority, ask-amount, ask-threshold, ask-total, ask-empty, ask-has-data, ask-streams-ready, ask-ready-count, ask-readiness}
+use Rattle.queue_runs.specs.Calls.{add, produce, fill, discard, close, ready-ids, commit, rollback, reset, set-threshold, set-priority, set-interleaving, restore, ask-priority, ask-amount, ask-threshold, ask-total, ask-empty, ask-has-data, ask-streams-ready, ask-ready-count, ask-readiness, ask-room}
 use Rattle.queue_runs.specs.Run.{State, state, step}
 use Rattle.queue_runs.specs.Refusals.{callRefused, sentRefused, fillRefused, RefusedUnchanged}
 
@@ -255,3 +255,4 @@ refused-unchanged ask-has-data s e = record { queue = refl; events = refl; buffe
 refused-unchanged ask-streams-ready s e = record { queue = refl; events = refl; buffer = refl }
 refused-unchanged ask-ready-count s e = record { queue = refl; events = refl; buffer = refl }
 refused-unchanged ask-readiness s e = record { queue = refl; events = refl; buffer = refl }
+refused-unchanged (ask-room r) s e = record { queue = refl; events = refl; buffer = refl }

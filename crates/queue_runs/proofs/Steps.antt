@@ -18,7 +18,7 @@ use Rattle.queue_messages.specs.Add as adding
 use Rattle.queue_state.specs.Promise.{Does, Reports}
 use Rattle.queue_state.proofs.Singles.{model-options}
 use Rattle.linked_streams.proofs.Sets.{priority-link, threshold-link}
-use Rattle.linked_streams.proofs.Asks.{priority-asked, amount-asked, threshold-asked, total-asked, empty-asked, data-asked, ready-asked, readiness-asked}
+use Rattle.linked_streams.proofs.Asks.{priority-asked, amount-asked, threshold-asked, total-asked, empty-asked, data-asked, ready-asked, readiness-asked, room-asked}
 use Rattle.linked_adding.proofs.Adds.{add-link}
 use Rattle.linked_dropping.proofs.Discards.{discard-link}
 use Rattle.linked_dropping.proofs.Closes.{close-link}
@@ -34,7 +34,7 @@ use Rattle.linked_packets.specs.Meaning.{Fills}
 use Rattle.linked_packets.proofs.Fills.{fill-link}
 use Rattle.handover.specs.Restore as restoring
 use Rattle.linked_restoring.proofs.Restores.{restore-link}
-use Rattle.queue_runs.specs.Calls.{Call, add, produce, fill, discard, close, ready-ids, commit, rollback, reset, set-threshold, set-priority, set-interleaving, restore, ask-priority, ask-amount, ask-threshold, ask-total, ask-empty, ask-has-data, ask-streams-ready, ask-ready-count, ask-readiness, callOf, Typed, shown, called, sent, filled, readied, number, flag, count, truth}
+use Rattle.queue_runs.specs.Calls.{Call, add, produce, fill, discard, close, ready-ids, commit, rollback, reset, set-threshold, set-priority, set-interleaving, restore, ask-priority, ask-amount, ask-threshold, ask-total, ask-empty, ask-has-data, ask-streams-ready, ask-ready-count, ask-readiness, ask-room, callOf, Typed, shown, called, sent, filled, readied, number, flag, count, truth}
 use Rattle.queue_runs.specs.Run.{State, Step, step, quiet, loud, sends, fills, stores}
 use Rattle.queue_runs.specs.Meaning.{queueOf, Good, quietOf, loudOf, shownOf}
 
@@ -71,6 +71,7 @@ typed-call len ask-has-data h t = t
 typed-call len ask-streams-ready h t = t
 typed-call len ask-ready-count h t = t
 typed-call len ask-readiness h t = t
+typed-call len (ask-room r) h t = t
 
 -- The model's step of a call on a state.
 abbrev pub meant : Call → State → plain.Step
@@ -143,6 +144,7 @@ step-told ask-has-data s g t = record { good = g; next-is = unfold run.step in r
 step-told ask-streams-ready s g t = record { good = g; next-is = unfold run.step in refl; shows-are = ap (λ a. shown (flag a) [] []) (ready-asked (s .words) (s .store) g) }
 step-told ask-ready-count s g t = record { good = g; next-is = unfold run.step in refl; shows-are = ap (λ a. shown (number a) [] []) (count-link (s .words) (s .store) g) }
 step-told ask-readiness s g t = record { good = g; next-is = unfold run.step in refl; shows-are = unfold run.step in ap (λ a. shown (count a) [] []) (readiness-asked (s .words) (s .store)) }
+step-told (ask-room r) s g t = record { good = g; next-is = unfold run.step in refl; shows-are = unfold run.step in ap (λ a. shown (count a) [] []) (room-asked r (s .words) (s .store) g) }
 
 pub step-link : (c : Call) (s : State) → Good s → Typed c → Stepped c s
 step-link c s g t = stepped-of c s g t (step-told c s g t)

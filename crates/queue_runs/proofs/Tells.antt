@@ -239,6 +239,7 @@ Long calls.ask-has-data = Unit {0}
 Long calls.ask-streams-ready = Unit {0}
 Long calls.ask-ready-count = Unit {0}
 Long calls.ask-readiness = Unit {0}
+Long (calls.ask-room r) = Unit {0}
 
 -- What two queues' calls show is the same only where the model's calls show the same.
 pub shows-tell : (len : ℕ) (c : Call) (o p : Outcome) → Long c → length (o .events) ≤ 2305 → Form (callOf len c) o → Form (callOf len c) p → shownOf c o ≡ shownOf c p → o ≡ p
@@ -264,3 +265,4 @@ shows-tell len calls.ask-has-data o p h f a b e = let x = answers e in let z : f
 shows-tell len calls.ask-streams-ready o p h f a b e = let x = answers e in let z : flagOf (o .answer) ≡ flagOf (p .answer) = cc in flag-tell o p a b z
 shows-tell len calls.ask-ready-count o p h f a b e = let x = answers e in let z : promise.numberOf (o .answer) ≡ promise.numberOf (p .answer) = cc in number-tell o p a b z
 shows-tell len calls.ask-readiness o p h f a b e = let x = answers e in let z : countOf (o .answer) ≡ countOf (p .answer) = cc in count-tell o p a b z
+shows-tell len (calls.ask-room r) o p h f a b e = let x = answers e in let z : countOf (o .answer) ≡ countOf (p .answer) = cc in count-tell o p a b z

@@ -3,6 +3,7 @@ use mathlib.Core.Path.{_≡_, refl, sym, ap, _∙_}
 use mathlib.Core.Bool.{Bool, true, false}
 use mathlib.Core.List.{List, []}
 use Prim.Native.Nat.{ℕ}
+use Rattle.queue_model.specs.Questions.{Room}
 use Rattle.queue_streams.specs.Settings.{Called, CalledWith}
 use Rattle.queue_streams.specs.declared.answers.Call as answer
 use Rattle.queue_streams.specs.declared.answers.Flag.{Flag}
@@ -24,7 +25,7 @@ use Rattle.packets.specs.declared.packet.PacketFilled.{PacketFilled}
 use Rattle.linked_packets.specs.Meaning.{FillMeets}
 use Rattle.linked_streams.specs.Questions as asked
 use Rattle.linked_streams.specs.Settings.{SetPriorityMeets, SetThresholdMeets}
-use Rattle.queue_runs.specs.Calls.{add, produce, fill, discard, close, ready-ids, commit, rollback, reset, set-threshold, set-priority, set-interleaving, restore, ask-priority, ask-amount, ask-threshold, ask-total, ask-empty, ask-has-data, ask-streams-ready, ask-ready-count, ask-readiness, shown, called, sent, filled, readied, number, flag, count, truth}
+use Rattle.queue_runs.specs.Calls.{add, produce, fill, discard, close, ready-ids, commit, rollback, reset, set-threshold, set-priority, set-interleaving, restore, ask-priority, ask-amount, ask-threshold, ask-total, ask-empty, ask-has-data, ask-streams-ready, ask-ready-count, ask-readiness, ask-room, shown, called, sent, filled, readied, number, flag, count, truth}
 use Rattle.queue_runs.specs.Run.{state, stepped, step, stores, sends, fills, loud, quiet, readies}
 
 module _ (ws st : List ℕ) where
@@ -123,3 +124,7 @@ module _ (ws st : List ℕ) where
   pub asked-readiness-tied : (r : ℕ) → asked.ReadinessMeets ws r → step ask-readiness (state ws st) ≡ stepped (shown (count r) [] []) (state ws st)
   unfolding step
   asked-readiness-tied r h = ap (λ x. stepped (shown (count x) [] []) (state ws st)) (sym (h .words))
+
+  pub asked-room-tied : (k : Room) (r : ℕ) → asked.RoomMeets k ws r → step (ask-room k) (state ws st) ≡ stepped (shown (count r) [] []) (state ws st)
+  unfolding step
+  asked-room-tied k r h = ap (λ x. stepped (shown (count x) [] []) (state ws st)) (sym (h .words))

@@ -325,3 +325,4 @@ translate len run.ask-has-data t = same len calls.ask-has-data run.ask-has-data 
 translate len run.ask-streams-ready t = same len calls.ask-streams-ready run.ask-streams-ready t tt refl
 translate len run.ask-ready-count t = same len calls.ask-ready-count run.ask-ready-count t tt refl
 translate len run.ask-readiness t = same len calls.ask-readiness run.ask-readiness t tt refl
+translate len (run.ask-room r) t = same len (calls.ask-room r) (run.ask-room r) t tt refl

@@ -18,7 +18,7 @@ use Rattle.queue_streams.specs.declared.answers.Number.{Number}
 use Rattle.queue_streams.specs.declared.answers.Number.the-variants as number-answer
 use Rattle.queue_sending.specs.declared.data.Produced.{Produced}
 use Rattle.queue_sending.specs.declared.data.Produced.the-variants as produced
-use Rattle.queue_runs.specs.Calls.{Call, add, produce, fill, discard, close, ready-ids, commit, rollback, reset, set-threshold, set-priority, set-interleaving, restore, ask-priority, ask-amount, ask-threshold, ask-total, ask-empty, ask-has-data, ask-streams-ready, ask-ready-count, ask-readiness, Answer, called, sent, filled, readied, number, flag, count, truth}
+use Rattle.queue_runs.specs.Calls.{Call, add, produce, fill, discard, close, ready-ids, commit, rollback, reset, set-threshold, set-priority, set-interleaving, restore, ask-priority, ask-amount, ask-threshold, ask-total, ask-empty, ask-has-data, ask-streams-ready, ask-ready-count, ask-readiness, ask-room, Answer, called, sent, filled, readied, number, flag, count, truth}
 use Rattle.queue_runs.specs.Run.{State, step, after}
 use Rattle.queue_runs.specs.Meaning.{AllTyped, queueOf}
 use Rattle.queue_runs.specs.Refusals.{refusal}
@@ -75,6 +75,7 @@ account k ask-has-data s = no-bytes
 account k ask-streams-ready s = no-bytes
 account k ask-ready-count s = no-bytes
 account k ask-readiness s = no-bytes
+account k (ask-room r) s = no-bytes
 
 -- The same of a list of calls.
 unfoldable pub accounts : ℕ → List Call → State → Account

@@ -6,6 +6,7 @@ use mathlib.Core.List.{List, [], _∷_}
 use lib.Dec.{T, ltb}
 use lib.ListN.{length}
 use lib.Pow.{areBytes}
+use Rattle.queue_model.specs.Questions.{Room}
 use Rattle.queue_model.specs.Run as run
 use Rattle.queue_model.specs.Demands.{MessageTyped, PacketTyped}
 use Rattle.queue_streams.specs.Events.{placesIn}
@@ -34,6 +35,7 @@ pub data Call : Type 0 where
   restore : (time : ℕ) (image : List ℕ) → Call
   ask-priority ask-amount ask-threshold : (id : ℕ) → Call
   ask-total ask-empty ask-has-data ask-streams-ready ask-ready-count ask-readiness : Call
+  ask-room : Room → Call
 
 -- The model's call, on a queue whose store has this length.
 abbrev pub callOf : ℕ → Call → run.Call
@@ -59,6 +61,7 @@ callOf len ask-has-data = run.ask-has-data
 callOf len ask-streams-ready = run.ask-streams-ready
 callOf len ask-ready-count = run.ask-ready-count
 callOf len ask-readiness = run.ask-readiness
+callOf len (ask-room r) = run.ask-room r
 
 -- A lent list of words or of bytes: shorter than 2^64, each of its width.
 abbrev pub areWords : List ℕ → Bool
@@ -95,6 +98,7 @@ Typed ask-has-data = Unit {0}
 Typed ask-streams-ready = Unit {0}
 Typed ask-ready-count = Unit {0}
 Typed ask-readiness = Unit {0}
+Typed (ask-room r) = Unit {0}
 
 -- What a call answers.
 pub data Answer : Type 0 where

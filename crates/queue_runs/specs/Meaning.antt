@@ -15,7 +15,7 @@ use Rattle.linked_streams.specs.Questions.{flagOf}
 use Rattle.linked_restarts.specs.Ids.{readyOf}
 use Rattle.linked_sending.specs.Meaning.{producedOf, bufferOf}
 use Rattle.linked_packets.specs.Meaning.{filledOf}
-use Rattle.queue_runs.specs.Calls.{Call, add, produce, fill, discard, close, ready-ids, commit, rollback, reset, set-threshold, set-priority, set-interleaving, restore, ask-priority, ask-amount, ask-threshold, ask-total, ask-empty, ask-has-data, ask-streams-ready, ask-ready-count, ask-readiness, callOf, Typed, Shown, shown, called, sent, filled, readied, number, flag, count, truth}
+use Rattle.queue_runs.specs.Calls.{Call, add, produce, fill, discard, close, ready-ids, commit, rollback, reset, set-threshold, set-priority, set-interleaving, restore, ask-priority, ask-amount, ask-threshold, ask-total, ask-empty, ask-has-data, ask-streams-ready, ask-ready-count, ask-readiness, ask-room, callOf, Typed, Shown, shown, called, sent, filled, readied, number, flag, count, truth}
 use Rattle.queue_runs.specs.Run as runs
 use Rattle.queue_runs.specs.Run.{State}
 
@@ -89,6 +89,7 @@ shownOf ask-has-data o = shown (flag (flagOf (o .answer))) [] []
 shownOf ask-streams-ready o = shown (flag (flagOf (o .answer))) [] []
 shownOf ask-ready-count o = shown (number (promise.numberOf (o .answer))) [] []
 shownOf ask-readiness o = shown (count (countOf (o .answer))) [] []
+shownOf (ask-room r) o = shown (count (countOf (o .answer))) [] []
 
 -- ------------------------------------------------------------------ lists of calls
 

@@ -17,7 +17,7 @@ use Rattle.queue_model.specs.Waiting.{is-waiting}
 use Rattle.queue_model.specs.MidMessage.{AtMostOne}
 use Rattle.queue_sending.specs.declared.data.DataToSend.{DataToSend}
 use Rattle.queue_sending.specs.declared.data.Produced.the-variants as produced
-use Rattle.queue_runs.specs.Calls.{Call, add, produce, fill, discard, close, ready-ids, commit, rollback, reset, set-threshold, set-priority, set-interleaving, restore, ask-priority, ask-amount, ask-threshold, ask-total, ask-empty, ask-has-data, ask-streams-ready, ask-ready-count, ask-readiness, Typed, sent}
+use Rattle.queue_runs.specs.Calls.{Call, add, produce, fill, discard, close, ready-ids, commit, rollback, reset, set-threshold, set-priority, set-interleaving, restore, ask-priority, ask-amount, ask-threshold, ask-total, ask-empty, ask-has-data, ask-streams-ready, ask-ready-count, ask-readiness, ask-room, Typed, sent}
 use Rattle.queue_runs.specs.Run.{State, step}
 use Rattle.queue_runs.specs.Meaning.{queueOf}
 use Rattle.queue_runs.specs.Creation.{Arguments, newState, Creates}
@@ -47,6 +47,7 @@ Uninterleaved F P ask-has-data s = Unit {0}
 Uninterleaved F P ask-streams-ready s = Unit {0}
 Uninterleaved F P ask-ready-count s = Unit {0}
 Uninterleaved F P ask-readiness s = Unit {0}
+Uninterleaved F P (ask-room r) s = Unit {0}
 
 -- It restores no image with more than one half-sent message.
 abbrev pub Uninterrupted : Call → State → Type 0

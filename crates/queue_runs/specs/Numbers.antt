@@ -10,7 +10,7 @@ use Rattle.queue_words.specs.Header.{optionsAt}
 use Rattle.queue_streams.specs.Answers.{callNumber, numberNumber, flagNumber}
 use Rattle.queue_sending.specs.Data.{producedNumber}
 use Rattle.packets.specs.Filling.{filledNumber}
-use Rattle.queue_runs.specs.Calls.{Call, add, produce, fill, discard, close, ready-ids, commit, rollback, reset, set-threshold, set-priority, set-interleaving, restore, ask-priority, ask-amount, ask-threshold, ask-total, ask-empty, ask-has-data, ask-streams-ready, ask-ready-count, ask-readiness, Answer, called, sent, filled, readied, number, flag, count, truth}
+use Rattle.queue_runs.specs.Calls.{Call, add, produce, fill, discard, close, ready-ids, commit, rollback, reset, set-threshold, set-priority, set-interleaving, restore, ask-priority, ask-amount, ask-threshold, ask-total, ask-empty, ask-has-data, ask-streams-ready, ask-ready-count, ask-readiness, ask-room, Answer, called, sent, filled, readied, number, flag, count, truth}
 use Rattle.queue_runs.specs.Run.{State, step}
 use Rattle.queue_runs.specs.Refusals.{refusal}
 
@@ -53,6 +53,7 @@ listed ask-has-data = 16 ∷ []
 listed ask-streams-ready = 16 ∷ []
 listed ask-ready-count = 16 ∷ []
 listed ask-readiness = []
+listed (ask-room r) = []
 
 -- Whether a number stands in a list.
 abbrev pub among : ℕ → List ℕ → Bool
@@ -89,6 +90,7 @@ takesStore ask-has-data = false
 takesStore ask-streams-ready = false
 takesStore ask-ready-count = false
 takesStore ask-readiness = false
+takesStore (ask-room r) = false
 
 -- 2: "The store is [..] not of its creation length later": such a call is refused with 2, whatever its other arguments.
 abbrev pub OtherStore : Type 0

@@ -13,7 +13,7 @@ use Rattle.queue_sending.specs.declared.data.Produced.{Produced}
 use Rattle.queue_sending.specs.declared.data.Produced.the-variants as produced
 use Rattle.packets.specs.declared.packet.PacketFilled.{PacketFilled}
 use Rattle.packets.specs.declared.packet.PacketFilled.the-variants as packet
-use Rattle.queue_runs.specs.Calls.{Call, add, produce, fill, discard, close, ready-ids, commit, rollback, reset, set-threshold, set-priority, set-interleaving, restore, ask-priority, ask-amount, ask-threshold, ask-total, ask-empty, ask-has-data, ask-streams-ready, ask-ready-count, ask-readiness, Answer, called, sent, filled, readied, number, flag, count, truth}
+use Rattle.queue_runs.specs.Calls.{Call, add, produce, fill, discard, close, ready-ids, commit, rollback, reset, set-threshold, set-priority, set-interleaving, restore, ask-priority, ask-amount, ask-threshold, ask-total, ask-empty, ask-has-data, ask-streams-ready, ask-ready-count, ask-readiness, ask-room, Answer, called, sent, filled, readied, number, flag, count, truth}
 use Rattle.queue_runs.specs.Run.{State, step}
 
 -- Whether an answer is a refusal.
@@ -72,6 +72,7 @@ eventsOf ask-has-data = []
 eventsOf ask-streams-ready = []
 eventsOf ask-ready-count = []
 eventsOf ask-readiness = []
+eventsOf (ask-room r) = []
 
 abbrev pub bufferOf : Call → List ℕ
 bufferOf (add time m payload) = []
@@ -96,6 +97,7 @@ bufferOf ask-has-data = []
 bufferOf ask-streams-ready = []
 bufferOf ask-ready-count = []
 bufferOf ask-readiness = []
+bufferOf (ask-room r) = []
 
 -- A refused call leaves the queue, the event list and the fragment or packet buffer as they were.
 pub record Unchanged (c : Call) (s : State) : Type 0 where

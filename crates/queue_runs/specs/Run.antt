@@ -4,7 +4,7 @@ use mathlib.Core.Bool.{true, false}
 use mathlib.Core.List.{List, [], _∷_}
 use Rattle.queue_streams.specs.Settings.{Called, CalledWith, setPriority, setThreshold}
 use Rattle.queue_streams.specs.Restart.{reopen, setInterleaving}
-use Rattle.queue_questions.specs.Questions.{priorityOf, amountOf, thresholdOf, totalOf, emptyOf, dataOf, readyOf, readinessOf}
+use Rattle.queue_questions.specs.Questions.{priorityOf, amountOf, thresholdOf, totalOf, emptyOf, dataOf, readyOf, readinessOf, roomOf}
 use Rattle.queue_messages.specs.Add as adding
 use Rattle.queue_messages.specs.Discard as discarding
 use Rattle.queue_closing.specs.Close as closing
@@ -14,7 +14,7 @@ use Rattle.queue_sending.specs.Data.{ProducedWith}
 use Rattle.queue_sending.specs.Produce.{produceNext}
 use Rattle.packets.specs.Filling.{FilledWith, fillPacket}
 use Rattle.handover.specs.Restore as restoring
-use Rattle.queue_runs.specs.Calls.{Call, add, produce, fill, discard, close, ready-ids, commit, rollback, reset, set-threshold, set-priority, set-interleaving, restore, ask-priority, ask-amount, ask-threshold, ask-total, ask-empty, ask-has-data, ask-streams-ready, ask-ready-count, ask-readiness, Shown, shown, called, sent, filled, readied, number, flag, count, truth}
+use Rattle.queue_runs.specs.Calls.{Call, add, produce, fill, discard, close, ready-ids, commit, rollback, reset, set-threshold, set-priority, set-interleaving, restore, ask-priority, ask-amount, ask-threshold, ask-total, ask-empty, ask-has-data, ask-streams-ready, ask-ready-count, ask-readiness, ask-room, Shown, shown, called, sent, filled, readied, number, flag, count, truth}
 
 -- A queue: its words and its store.
 pub record State : Type 0 where
@@ -75,6 +75,7 @@ step ask-has-data s = stepped (shown (flag (dataOf (s .words))) [] []) s
 step ask-streams-ready s = stepped (shown (flag (readyOf (s .words))) [] []) s
 step ask-ready-count s = stepped (shown (number (readying.readyCount (s .words))) [] []) s
 step ask-readiness s = stepped (shown (count (readinessOf (s .words))) [] []) s
+step (ask-room r) s = stepped (shown (count (roomOf r (s .words))) [] []) s
 
 -- What a list of calls shows, call by call: "each call gets its queue and store as the last one left them".
 unfoldable pub run : List Call → State → List Shown

@@ -22,7 +22,7 @@ use Rattle.queue_model.specs.Settings.{raised-event, threshold-checks, priority
 use Rattle.queue_model.specs.Discard.{discarded, discard-at, discard-checks}
 use Rattle.queue_model.specs.Calls
 use Rattle.queue_model.specs.Run as calls
-use Rattle.queue_model.specs.Run.{add, produce, fill, discard, close, ready-ids, commit, rollback, reset, set-threshold, set-priority, set-interleaving, restore, ask-priority, ask-amount, ask-threshold, ask-total, ask-empty, ask-has-data, ask-streams-ready, ask-ready-count, ask-readiness}
+use Rattle.queue_model.specs.Run.{add, produce, fill, discard, close, ready-ids, commit, rollback, reset, set-threshold, set-priority, set-interleaving, restore, ask-priority, ask-amount, ask-threshold, ask-total, ask-empty, ask-has-data, ask-streams-ready, ask-ready-count, ask-readiness, ask-room}
 use Rattle.queue_model.proofs.Table.{find-put-same, find-put-other, Every, every-weaken, every-own}
 use Rattle.queue_model.proofs.Checks.{Passed, all-passed, passed-none}
 use Rattle.queue_model.proofs.Streams.{at-found, at-id}
@@ -308,3 +308,4 @@ happens k q ask-has-data w u o a = quiet refl refl (same-refl k q)
 happens k q ask-streams-ready w u o a = quiet refl refl (same-refl k q)
 happens k q ask-ready-count w u o a = quiet refl refl (same-refl k q)
 happens k q ask-readiness w u o a = quiet refl refl (same-refl k q)
+happens k q (ask-room r) w u o a = quiet refl refl (same-refl k q)

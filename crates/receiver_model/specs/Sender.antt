@@ -14,7 +14,7 @@ use Rattle.queue_model.specs.Streams.{new-queue, waiting}
 use Rattle.queue_model.specs.Refusals.{first-refusal}
 use Rattle.queue_model.specs.Produce.{Look, nothing, broken, dropped, chosen, look, produce-checks}
 use Rattle.queue_model.specs.Run as calls
-use Rattle.queue_model.specs.Run.{add, produce, fill, discard, close, ready-ids, commit, rollback, reset, set-threshold, set-priority, set-interleaving, restore, ask-priority, ask-amount, ask-threshold, ask-total, ask-empty, ask-has-data, ask-streams-ready, ask-ready-count, ask-readiness}
+use Rattle.queue_model.specs.Run.{add, produce, fill, discard, close, ready-ids, commit, rollback, reset, set-threshold, set-priority, set-interleaving, restore, ask-priority, ask-amount, ask-threshold, ask-total, ask-empty, ask-has-data, ask-streams-ready, ask-ready-count, ask-readiness, ask-room}
 use Rattle.queue_model.specs.Demands.{Created, AllTyped}
 use Rattle.receiver_model.specs.Lists.{count}
 use Rattle.receiver_model.specs.Types.{Kind, DATA, I-DATA, Chunk, Message, none-ready}
@@ -102,6 +102,7 @@ taken-in ask-has-data a = []
 taken-in ask-streams-ready a = []
 taken-in ask-ready-count a = []
 taken-in ask-readiness a = []
+taken-in (ask-room r) a = []
 
 -- All fragments that a list of calls sends, in order; and all messages that it queues.
 unfoldable pub sent-by : List calls.Call → Queue → List Fragment
@@ -153,6 +154,7 @@ Undisturbing k ask-has-data q = Unit {0}
 Undisturbing k ask-streams-ready q = Unit {0}
 Undisturbing k ask-ready-count q = Unit {0}
 Undisturbing k ask-readiness q = Unit {0}
+Undisturbing k (ask-room r) q = Unit {0}
 
 abbrev pub Undisturbed : Kind → List calls.Call → Queue → Type 0
 Undisturbed k [] q = Unit {0}

@@ -17,7 +17,7 @@ use Rattle.queue_messages.specs.declared.message.Message.{Message}
 use Rattle.linked_adding.specs.Message.{messageOf}
 use Rattle.linked_sending.specs.Meaning.{dataOf, producedOf, bufferOf}
 use Rattle.receiver_model.specs.Sender.{shown, if-done, taken-in, sent-by, queued-by}
-use Rattle.queue_runs.specs.Calls.{Call, add, produce, fill, discard, close, ready-ids, commit, rollback, reset, set-threshold, set-priority, set-interleaving, restore, ask-priority, ask-amount, ask-threshold, ask-total, ask-empty, ask-has-data, ask-streams-ready, ask-ready-count, ask-readiness, callOf, sent}
+use Rattle.queue_runs.specs.Calls.{Call, add, produce, fill, discard, close, ready-ids, commit, rollback, reset, set-threshold, set-priority, set-interleaving, restore, ask-priority, ask-amount, ask-threshold, ask-total, ask-empty, ask-has-data, ask-streams-ready, ask-ready-count, ask-readiness, ask-room, callOf, sent}
 use Rattle.queue_runs.specs.Meaning.{AllTyped, callsOf, shownOf, allShownOf}
 use Rattle.queue_runs.proofs.Steps.{typed-call}
 use Rattle.queue_runs.proofs.Forms.{Quiet, quiet-refused, quiet-done, Form, form-of}
@@ -74,6 +74,7 @@ shows len ask-has-data o f = quietly ask-has-data o refl (data-shown len ask-has
 shows len ask-streams-ready o f = quietly ask-streams-ready o refl (data-shown len ask-streams-ready o f)
 shows len ask-ready-count o f = quietly ask-ready-count o refl (data-shown len ask-ready-count o f)
 shows len ask-readiness o f = quietly ask-readiness o refl (data-shown len ask-readiness o f)
+shows len (ask-room r) o f = quietly (ask-room r) o refl (data-shown len (ask-room r) o f)
 
 piece-sent : (a : plain.Answer) (n : ℕ) (bs : List ℕ) → pieceIn (sent (producedOf a n)) (bufferOf a bs) ≡ map pieceOf (shown a)
 unfolding shown
@@ -124,6 +125,7 @@ message-shown len ask-has-data o f = refl
 message-shown len ask-streams-ready o f = refl
 message-shown len ask-ready-count o f = refl
 message-shown len ask-readiness o f = refl
+message-shown len (ask-room r) o f = refl
 
 -- ------------------------------------------------------------------ lists of calls
 

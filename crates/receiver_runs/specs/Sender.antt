@@ -10,7 +10,7 @@ use Rattle.queue_sending.specs.declared.data.DataToSend.{DataToSend}
 use Rattle.queue_sending.specs.declared.data.Produced.{Produced}
 use Rattle.queue_sending.specs.declared.data.Produced.the-variants as produced
 use Rattle.linked_adding.specs.Message.{messageOf}
-use Rattle.queue_runs.specs.Calls.{Call, add, produce, fill, discard, close, ready-ids, commit, rollback, reset, set-threshold, set-priority, set-interleaving, restore, ask-priority, ask-amount, ask-threshold, ask-total, ask-empty, ask-has-data, ask-streams-ready, ask-ready-count, ask-readiness, Answer, called, sent, filled, readied, number, flag, count, truth, Shown}
+use Rattle.queue_runs.specs.Calls.{Call, add, produce, fill, discard, close, ready-ids, commit, rollback, reset, set-threshold, set-priority, set-interleaving, restore, ask-priority, ask-amount, ask-threshold, ask-total, ask-empty, ask-has-data, ask-streams-ready, ask-ready-count, ask-readiness, ask-room, Answer, called, sent, filled, readied, number, flag, count, truth, Shown}
 
 -- ------------------------------------------------------------------ fragments
 
@@ -77,6 +77,7 @@ messageIn ask-has-data a = []
 messageIn ask-streams-ready a = []
 messageIn ask-ready-count a = []
 messageIn ask-readiness a = []
+messageIn (ask-room r) a = []
 
 -- All messages that a list of calls, which showed this, queued, in order.
 unfoldable pub messagesIn : List Call → List Shown → List plain.Message

@@ -22,7 +22,7 @@ use Rattle.queue_model.specs.Settings.{priority-checks, raised-event, threshold
 use Rattle.queue_model.specs.Image.{MessageRecord, StreamRecord, Handover}
 use Rattle.queue_model.specs.Reader.{read-image}
 use Rattle.queue_model.specs.Restore.{restored-stream, restored-item, restore-streams, restore-message, restore-messages, restored, record-checks, restore-checks, restore-read}
-use Rattle.queue_model.specs.Run.{Call, add, produce, fill, discard, close, ready-ids, commit, rollback, reset, set-threshold, set-priority, set-interleaving, restore, ask-priority, ask-amount, ask-threshold, ask-total, ask-empty, ask-has-data, ask-streams-ready, ask-ready-count, ask-readiness, step}
+use Rattle.queue_model.specs.Run.{Call, add, produce, fill, discard, close, ready-ids, commit, rollback, reset, set-threshold, set-priority, set-interleaving, restore, ask-priority, ask-amount, ask-threshold, ask-total, ask-empty, ask-has-data, ask-streams-ready, ask-ready-count, ask-readiness, ask-room, step}
 use Rattle.queue_model.proofs.Table.{Rising, Every, every-put, find-key}
 use Rattle.queue_model.proofs.Checks.{or-left, not-false, nil-of, Passed, all-passed, restore-of}
 use Rattle.queue_model.proofs.Streams.{at-found, at-id, every-at}
@@ -296,3 +296,4 @@ same-other ask-has-data q w n = refl
 same-other ask-streams-ready q w n = refl
 same-other ask-ready-count q w n = refl
 same-other ask-readiness q w n = refl
+same-other (ask-room r) q w n = refl

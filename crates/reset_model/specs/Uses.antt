@@ -43,6 +43,7 @@ only-by-it run.ask-has-data = false
 only-by-it run.ask-streams-ready = false
 only-by-it run.ask-ready-count = false
 only-by-it run.ask-readiness = false
+only-by-it (run.ask-room r) = false
 
 abbrev pub Allowed : Use → Type 0
 Allowed (request room response-number last-tsn) = Unit {0}

@@ -46,12 +46,15 @@ pub use packets::PacketFilled;
 pub use linked_restarts::count_streams_ready_to_reset;
 pub use linked_streams::buffered_amount;
 pub use linked_streams::buffered_amount_low_threshold;
+pub use linked_streams::free_bytes;
 pub use linked_streams::get_handover_readiness;
 pub use linked_streams::get_priority;
 pub use linked_streams::has_data_to_send;
 pub use linked_streams::has_streams_ready_to_be_reset;
 pub use linked_streams::is_empty;
+pub use linked_streams::known_streams;
 pub use linked_streams::total_buffered_amount;
+pub use linked_streams::waiting_messages;
 // The changeover image.
 pub use linked_restoring::restore;
 pub use linked_saving::save;

@@ -1,6 +1,7 @@
 // The questions: "the calls that only ask".
 ghost use mathlib.Core.Path.{_≡_};
-ghost use Rattle.queue_questions.specs.Questions.{priorityOf, amountOf, thresholdOf, totalOf, emptyOf, dataOf, readyOf, readinessOf};
+ghost use Rattle.queue_questions.specs.Questions.{priorityOf, amountOf, thresholdOf, totalOf, emptyOf, dataOf, readyOf, readinessOf, roomOf};
+ghost use Rattle.queue_model.specs.Questions.{free-store, waiting-messages, known-streams};
 ghost use Rattle.queue_restarts.specs.Ready.{readyCount};
 ghost use Rattle.queue_words.specs.Flags.{bit};
 ghost use Rattle.send_queue_c.specs.Given.{GivesNumber, GivesFlag};
@@ -11,12 +12,15 @@ use send_queue::QUEUE_WORDS;
 use send_queue::buffered_amount;
 use send_queue::buffered_amount_low_threshold;
 use send_queue::count_streams_ready_to_reset;
+use send_queue::free_bytes;
 use send_queue::get_handover_readiness;
 use send_queue::get_priority;
 use send_queue::has_data_to_send;
 use send_queue::has_streams_ready_to_be_reset;
 use send_queue::is_empty;
+use send_queue::known_streams;
 use send_queue::total_buffered_amount;
+use send_queue::waiting_messages;
 
 #[no_mangle]
 pub extern "C" fn dsq_get_priority(
@@ -105,4 +109,25 @@ pub extern "C" fn dsq_get_handover_readiness(queue: &[u64; QUEUE_WORDS]) -> u64
     ensures { λ r. ⌜ r ≡ readinessOf (now (queue .entry)) ⌝ }
 {
     get_handover_readiness(queue)
+}
+
+#[no_mangle]
+pub extern "C" fn dsq_free_bytes(queue: &[u64; QUEUE_WORDS]) -> u64
+    ensures { λ r. ⌜ r ≡ roomOf free-store (now (queue .entry)) ⌝ }
+{
+    free_bytes(queue)
+}
+
+#[no_mangle]
+pub extern "C" fn dsq_waiting_messages(queue: &[u64; QUEUE_WORDS]) -> u64
+    ensures { λ r. ⌜ r ≡ roomOf waiting-messages (now (queue .entry)) ⌝ }
+{
+    waiting_messages(queue)
+}
+
+#[no_mangle]
+pub extern "C" fn dsq_known_streams(queue: &[u64; QUEUE_WORDS]) -> u64
+    ensures { λ r. ⌜ r ≡ roomOf known-streams (now (queue .entry)) ⌝ }
+{
+    known_streams(queue)
 }

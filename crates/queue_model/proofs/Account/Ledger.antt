@@ -26,7 +26,7 @@ use Rattle.queue_model.specs.Questions.{amount-of}
 use Rattle.queue_model.specs.Image.{MessageRecord, StreamRecord, Handover}
 use Rattle.queue_model.specs.Reader.{read-image}
 use Rattle.queue_model.specs.Restore.{restored-stream, restored-item, restore-streams, restore-message, restore-messages, restored, record-checks, restore-checks, restore-read}
-use Rattle.queue_model.specs.Run.{Call, add, produce, fill, discard, close, ready-ids, commit, rollback, reset, set-threshold, set-priority, set-interleaving, restore, ask-priority, ask-amount, ask-threshold, ask-total, ask-empty, ask-has-data, ask-streams-ready, ask-ready-count, ask-readiness, step, after}
+use Rattle.queue_model.specs.Run.{Call, add, produce, fill, discard, close, ready-ids, commit, rollback, reset, set-threshold, set-priority, set-interleaving, restore, ask-priority, ask-amount, ask-threshold, ask-total, ask-empty, ask-has-data, ask-streams-ready, ask-ready-count, ask-readiness, ask-room, step, after}
 use Rattle.queue_model.specs.Demands.{AllTyped}
 use Rattle.queue_model.specs.Account.{Account, no-bytes, for-stream, unless-refused, handed, choice-bytes, choices-bytes, passed, head-bytes, records-left, image-left, produce-account, fill-account, none-refused, account, accounts, Request11-account}
 use Rattle.queue_model.specs.Passing.{passing-after, passing}
@@ -577,6 +577,7 @@ step-balanced k ask-has-data q w = record { balanced = omega arith }
 step-balanced k ask-streams-ready q w = record { balanced = omega arith }
 step-balanced k ask-ready-count q w = record { balanced = omega arith }
 step-balanced k ask-readiness q w = record { balanced = omega arith }
+step-balanced k (ask-room r) q w = record { balanced = omega arith }
 
 record Ends (k : ℕ) (q : Queue) (a : Account) (r : Queue) : Type 0 where
   ends-balanced : Balanced k q a r

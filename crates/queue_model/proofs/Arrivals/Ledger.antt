@@ -24,7 +24,7 @@ use Rattle.queue_model.specs.Settings.{priority-checks, threshold-checks
 use Rattle.queue_model.specs.Image.{MessageRecord, StreamRecord, Handover}
 use Rattle.queue_model.specs.Reader.{read-image}
 use Rattle.queue_model.specs.Restore.{restored-stream, restored-item, restore-streams, restore-message, restore-messages, restored, record-checks, restore-checks, restore-read}
-use Rattle.queue_model.specs.Run.{Call, add, produce, fill, discard, close, ready-ids, commit, rollback, reset, set-threshold, set-priority, set-interleaving, restore, ask-priority, ask-amount, ask-threshold, ask-total, ask-empty, ask-has-data, ask-streams-ready, ask-ready-count, ask-readiness, step, after}
+use Rattle.queue_model.specs.Run.{Call, add, produce, fill, discard, close, ready-ids, commit, rollback, reset, set-threshold, set-priority, set-interleaving, restore, ask-priority, ask-amount, ask-threshold, ask-total, ask-empty, ask-has-data, ask-streams-ready, ask-ready-count, ask-readiness, ask-room, step, after}
 use Rattle.queue_model.specs.Answers.{is-refused, fragments-in}
 use Rattle.queue_model.specs.Passing.{passing-after, passing}
 use Rattle.queue_model.specs.History.{Piece, piece, Entry, entry, asks-at, choices, passed-at, entries, made-of, history}
@@ -519,6 +519,7 @@ follows-step k ask-has-data q = by-itself k ask-has-data q refl (record { same-o
 follows-step k ask-streams-ready q = by-itself k ask-streams-ready q refl (record { same-options = refl; follows = refl }) refl
 follows-step k ask-ready-count q = by-itself k ask-ready-count q refl (record { same-options = refl; follows = refl }) refl
 follows-step k ask-readiness q = by-itself k ask-readiness q refl (record { same-options = refl; follows = refl }) refl
+follows-step k (ask-room r) q = by-itself k (ask-room r) q refl (record { same-options = refl; follows = refl }) refl
 
 -- ---- a list of calls, from any queue on
 

@@ -15,7 +15,7 @@ use Rattle.queue_model.specs.Close.{untouched, kept, closed-state}
 use Rattle.queue_model.specs.Reset.{whole-item, whole-head}
 use Rattle.queue_model.specs.Image.{Handover}
 use Rattle.queue_model.specs.Reader.{read-image}
-use Rattle.queue_model.specs.Run.{Call, add, produce, fill, discard, close, ready-ids, commit, rollback, reset, set-threshold, set-priority, set-interleaving, restore, ask-priority, ask-amount, ask-threshold, ask-total, ask-empty, ask-has-data, ask-streams-ready, ask-ready-count, ask-readiness}
+use Rattle.queue_model.specs.Run.{Call, add, produce, fill, discard, close, ready-ids, commit, rollback, reset, set-threshold, set-priority, set-interleaving, restore, ask-priority, ask-amount, ask-threshold, ask-total, ask-empty, ask-has-data, ask-streams-ready, ask-ready-count, ask-readiness, ask-room}
 use Rattle.queue_model.specs.History.{Piece, Entry}
 use Rattle.queue_model.specs.Arrivals.{Ledger, ledger-with, new-ledger, on-stream, append-arrival, count-arrival, drop-first, has-expired, expire-head, expire-heads, sent-on, send-first, send-piece, send-pieces, has-message-id, discard-head, close-in, close-stream, readied, ready-stream, reopen-in, reopen-stream, reset-ledger, records-of, image-laid, entered, enter, ledger, Arrivals, no-arrivals, image-arrives, arrives, arrivals, Same, InOrder, none-left, ended, waits, Request4-order}
 use Rattle.queue_model.proofs.Arrivals.Heads.{numbered-same}
@@ -201,6 +201,7 @@ ordered-entered strict k ask-has-data ps ss l b o = o
 ordered-entered strict k ask-streams-ready ps ss l b o = o
 ordered-entered strict k ask-ready-count ps ss l b o = o
 ordered-entered strict k ask-readiness ps ss l b o = o
+ordered-entered strict k (ask-room r) ps ss l b o = o
 
 ordered-history : (strict : Bool) (k : ℕ) (es : List Entry) (l : Ledger) (b : Arrivals) → Ordered l b → Ordered (ledger strict k es l) (arrivals k es b)
 unfolding ledger arrivals enter

@@ -22,7 +22,7 @@ use Rattle.queue_model.specs.Settings.{threshold-checks, priority-checks
 use Rattle.queue_model.specs.Image.{StreamRecord, MessageRecord, Handover}
 use Rattle.queue_model.specs.Reader.{read-image}
 use Rattle.queue_model.specs.Restore.{restored-stream, restored-item, restore-streams, restore-message, restore-messages, restored, mid-too-early, record-checks, restore-read, restore-checks}
-use Rattle.queue_model.specs.Run.{Call, add, produce, fill, discard, close, ready-ids, commit, rollback, reset, set-threshold, set-priority, set-interleaving, restore, ask-priority, ask-amount, ask-threshold, ask-total, ask-empty, ask-has-data, ask-streams-ready, ask-ready-count, ask-readiness, step}
+use Rattle.queue_model.specs.Run.{Call, add, produce, fill, discard, close, ready-ids, commit, rollback, reset, set-threshold, set-priority, set-interleaving, restore, ask-priority, ask-amount, ask-threshold, ask-total, ask-empty, ask-has-data, ask-streams-ready, ask-ready-count, ask-readiness, ask-room, step}
 use Rattle.queue_model.specs.Demands.{Typed, Reachable, created, called}
 use Rattle.queue_model.proofs.Table.{Every, every-put, every-map, every-weaken, every-both, every-find}
 use Rattle.queue_model.proofs.Checks.{Passed, all-passed, or-left, or-right}
@@ -349,6 +349,7 @@ module _ (o : Options) (Q : PauseState → List Item → Type 0) (v : Keeps o Q)
   held-step ask-streams-ready q t w e a = a
   held-step ask-ready-count q t w e a = a
   held-step ask-readiness q t w e a = a
+  held-step (ask-room r) q t w e a = a
 
   -- So it holds of every reachable queue.
   pub held-reachable : {q : Queue} → Reachable o q → AllHeld Q q

@@ -24,7 +24,7 @@ use Rattle.queue_model.specs.Settings.{raised-event, threshold-checks, p
 use Rattle.queue_model.specs.Image.{Handover}
 use Rattle.queue_model.specs.Reader.{read-image}
 use Rattle.queue_model.specs.Restore.{restored, restore-read, restore-checks, record-checks}
-use Rattle.queue_model.specs.Run.{Call, add, produce, fill, discard, close, ready-ids, commit, rollback, reset, set-threshold, set-priority, set-interleaving, restore, ask-priority, ask-amount, ask-threshold, ask-total, ask-empty, ask-has-data, ask-streams-ready, ask-ready-count, ask-readiness, step}
+use Rattle.queue_model.specs.Run.{Call, add, produce, fill, discard, close, ready-ids, commit, rollback, reset, set-threshold, set-priority, set-interleaving, restore, ask-priority, ask-amount, ask-threshold, ask-total, ask-empty, ask-has-data, ask-streams-ready, ask-ready-count, ask-readiness, ask-room, step}
 use Rattle.queue_model.proofs.Tests.{holds, ltb-true, ltb-false}
 use Rattle.queue_model.proofs.Table.{found, missing, look-up, find-key, sum-put-old, sum-find, sum-le, length-sum}
 use Rattle.queue_model.proofs.Checks.{not-less}
@@ -523,6 +523,7 @@ events-fit ask-has-data q w = omega arith
 events-fit ask-streams-ready q w = omega arith
 events-fit ask-ready-count q w = omega arith
 events-fit ask-readiness q w = omega arith
+events-fit (ask-room r) q w = omega arith
 
 -- ---- ready ids
 

@@ -21,7 +21,7 @@ use Rattle.queue_model.specs.Restore.{restored, record-checks, restore-r
 use Rattle.queue_model.specs.Settings.{threshold-checks, priority-checks, switched}
 use Rattle.queue_model.specs.Restart.{Afresh, NotRestored}
 use Rattle.queue_model.specs.Answers.{fragments-in, of-stream}
-use Rattle.queue_model.specs.Run.{Call, add, produce, fill, discard, close, ready-ids, commit, rollback, reset, set-threshold, set-priority, set-interleaving, restore, ask-priority, ask-amount, ask-threshold, ask-total, ask-empty, ask-has-data, ask-streams-ready, ask-ready-count, ask-readiness, step}
+use Rattle.queue_model.specs.Run.{Call, add, produce, fill, discard, close, ready-ids, commit, rollback, reset, set-threshold, set-priority, set-interleaving, restore, ask-priority, ask-amount, ask-threshold, ask-total, ask-empty, ask-has-data, ask-streams-ready, ask-ready-count, ask-readiness, ask-room, step}
 use Rattle.queue_model.proofs.Tests.{eqb-true, eqb-false}
 use Rattle.queue_model.proofs.Table.{Every, every-put, every-map, every-find, every-snoc, own, other, is-own}
 use Rattle.queue_model.proofs.Checks.{checked-either}
@@ -301,3 +301,4 @@ module _ (k : ℕ) where
   follows-step ask-streams-ready q n w a = no-fragment refl a
   follows-step ask-ready-count q n w a = no-fragment refl a
   follows-step ask-readiness q n w a = no-fragment refl a
+  follows-step (ask-room r) q n w a = no-fragment refl a

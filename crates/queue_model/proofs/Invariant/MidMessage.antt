@@ -26,7 +26,7 @@ use Rattle.queue_model.specs.Settings.{threshold-checks, priority-checks
 use Rattle.queue_model.specs.Image.{StreamRecord, MessageRecord, Handover}
 use Rattle.queue_model.specs.Reader.{read-image, streams-right, messages-right, handover-right}
 use Rattle.queue_model.specs.Restore.{restored-stream, restored-item, restore-streams, restore-message, restore-messages, half-sent-first, first-half-sent, remember-half-sent, restored, record-checks, restore-read, restore-checks}
-use Rattle.queue_model.specs.Run.{Call, add, produce, fill, discard, close, ready-ids, commit, rollback, reset, set-threshold, set-priority, set-interleaving, restore, ask-priority, ask-amount, ask-threshold, ask-total, ask-empty, ask-has-data, ask-streams-ready, ask-ready-count, ask-readiness, step}
+use Rattle.queue_model.specs.Run.{Call, add, produce, fill, discard, close, ready-ids, commit, rollback, reset, set-threshold, set-priority, set-interleaving, restore, ask-priority, ask-amount, ask-threshold, ask-total, ask-empty, ask-has-data, ask-streams-ready, ask-ready-count, ask-readiness, ask-room, step}
 use Rattle.queue_model.specs.Demands.{Typed, Reachable, created, called}
 use Rattle.queue_model.specs.MidMessage.{half-sent-record, half-sent-records, AtMostOne, Uninterrupted, NeverInterleaved, at-first, later, Request10-remembered}
 use Rattle.queue_model.proofs.Tests.{holds, ltb-false, leb-false, eqb-true, eqb-false, less, same, more, tri}
@@ -529,6 +529,7 @@ recalls-step ask-has-data q t u w a = a
 recalls-step ask-streams-ready q t u w a = a
 recalls-step ask-ready-count q t u w a = a
 recalls-step ask-readiness q t u w a = a
+recalls-step (ask-room r) q t u w a = a
 
 -- Such a queue is reachable, and remembers the stream whose head is half-sent.
 pub never-reachable : {o : Options} {q : Queue} → NeverInterleaved o q → Reachable o q

@@ -17,7 +17,7 @@ use Rattle.queue_model.specs.Reset.{is-resetting, reopened, reopen}
 use Rattle.queue_model.specs.Settings.{threshold-checks, priority-checks, raised-event, switched}
 use Rattle.queue_model.specs.Reader.{read-image}
 use Rattle.queue_model.specs.Restore.{restore-read, restore-checks}
-use Rattle.queue_model.specs.Run.{Call, add, produce, fill, discard, close, ready-ids, commit, rollback, reset, set-threshold, set-priority, set-interleaving, restore, ask-priority, ask-amount, ask-threshold, ask-total, ask-empty, ask-has-data, ask-streams-ready, ask-ready-count, ask-readiness, step}
+use Rattle.queue_model.specs.Run.{Call, add, produce, fill, discard, close, ready-ids, commit, rollback, reset, set-threshold, set-priority, set-interleaving, restore, ask-priority, ask-amount, ask-threshold, ask-total, ask-empty, ask-has-data, ask-streams-ready, ask-ready-count, ask-readiness, ask-room, step}
 use Rattle.queue_model.proofs.Table.{find-put-same, find-put-other, own, other, is-own, not-in-nil}
 use Rattle.queue_model.proofs.Checks.{Passed, all-passed, or-left, not-false, nil-of}
 use Rattle.queue_model.proofs.Streams.{at-found, at-id}
@@ -62,6 +62,7 @@ plain ask-has-data = true
 plain ask-streams-ready = true
 plain ask-ready-count = true
 plain ask-readiness = true
+plain (ask-room r) = true
 
 module _ (k : ℕ) (F : PauseState → List Item → Type 0) (l : Lasts F) where
   -- ---- the table of streams
@@ -181,3 +182,4 @@ module _ (k : ℕ) (F : PauseState → List Item → Type 0) (l : Lasts F) where
   plain-step ask-streams-ready q e h = h
   plain-step ask-ready-count q e h = h
   plain-step ask-readiness q e h = h
+  plain-step (ask-room r) q e h = h

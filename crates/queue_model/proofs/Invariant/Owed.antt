@@ -24,7 +24,7 @@ use Rattle.queue_model.specs.Settings.{threshold-checks, priority-checks
 use Rattle.queue_model.specs.Image.{StreamRecord, MessageRecord, Handover}
 use Rattle.queue_model.specs.Reader.{read-image}
 use Rattle.queue_model.specs.Restore.{restored-stream, restored-item, restore-streams, restore-message, restore-messages, half-sent-first, restored, record-checks, restore-read, restore-checks}
-use Rattle.queue_model.specs.Run.{Call, add, produce, fill, discard, close, ready-ids, commit, rollback, reset, set-threshold, set-priority, set-interleaving, restore, ask-priority, ask-amount, ask-threshold, ask-total, ask-empty, ask-has-data, ask-streams-ready, ask-ready-count, ask-readiness, step}
+use Rattle.queue_model.specs.Run.{Call, add, produce, fill, discard, close, ready-ids, commit, rollback, reset, set-threshold, set-priority, set-interleaving, restore, ask-priority, ask-amount, ask-threshold, ask-total, ask-empty, ask-has-data, ask-streams-ready, ask-ready-count, ask-readiness, ask-room, step}
 use Rattle.queue_model.specs.Demands.{Typed}
 use Rattle.queue_model.specs.Answers.{fragments-in}
 use Rattle.queue_model.specs.Unbroken.{Behind, UnbrokenBehind, Continues, starts, Onward}
@@ -364,3 +364,4 @@ goes-step l ask-has-data q t u w a b = quiet l _ refl b
 goes-step l ask-streams-ready q t u w a b = quiet l _ refl b
 goes-step l ask-ready-count q t u w a b = quiet l _ refl b
 goes-step l ask-readiness q t u w a b = quiet l _ refl b
+goes-step l (ask-room r) q t u w a b = quiet l _ refl b

@@ -24,7 +24,7 @@ use Rattle.queue_model.specs.Questions.{amount-of}
 use Rattle.queue_model.specs.Image.{Handover}
 use Rattle.queue_model.specs.Reader.{read-image}
 use Rattle.queue_model.specs.Restore.{remember-half-sent, restored, record-checks, restore-read, restore-checks}
-use Rattle.queue_model.specs.Run.{Call, add, produce, fill, discard, close, ready-ids, commit, rollback, reset, set-threshold, set-priority, set-interleaving, restore, ask-priority, ask-amount, ask-threshold, ask-total, ask-empty, ask-has-data, ask-streams-ready, ask-ready-count, ask-readiness, step}
+use Rattle.queue_model.specs.Run.{Call, add, produce, fill, discard, close, ready-ids, commit, rollback, reset, set-threshold, set-priority, set-interleaving, restore, ask-priority, ask-amount, ask-threshold, ask-total, ask-empty, ask-has-data, ask-streams-ready, ask-ready-count, ask-readiness, ask-room, step}
 use Rattle.queue_model.specs.Demands.{Typed, Reachable, created, called}
 use Rattle.queue_model.specs.Waiting.{is-waiting, WaitsBy, Waiting-seen}
 use Rattle.queue_model.proofs.Table.{find-here, find-there, find-key, find-put-same, find-put-other, find-without-other, find-after, own, other, is-own, not-in-nil, found, missing, look-up, Rising, Every, every-find}
@@ -568,6 +568,7 @@ serves-step ask-has-data q t w v a = a
 serves-step ask-streams-ready q t w v a = a
 serves-step ask-ready-count q t w v a = a
 serves-step ask-readiness q t w v a = a
+serves-step (ask-room r) q t w v a = a
 
 new-serves : (o : Options) → AtEase (new-queue o)
 unfolding new-queue

@@ -9,7 +9,7 @@ use Rattle.queue_model.specs.Types.{Options, Queue, refused}
 use Rattle.queue_model.specs.Streams.{new-queue}
 use Rattle.queue_model.specs.Refusals.{Check, first-refusal, create-refusal}
 use Rattle.queue_model.specs.Image.{save-checks, save-refusal}
-use Rattle.queue_model.specs.Run.{Call, add, produce, fill, discard, close, ready-ids, commit, rollback, reset, set-threshold, set-priority, set-interleaving, restore, ask-priority, ask-amount, ask-threshold, ask-total, ask-empty, ask-has-data, ask-streams-ready, ask-ready-count, ask-readiness, step}
+use Rattle.queue_model.specs.Run.{Call, add, produce, fill, discard, close, ready-ids, commit, rollback, reset, set-threshold, set-priority, set-interleaving, restore, ask-priority, ask-amount, ask-threshold, ask-total, ask-empty, ask-has-data, ask-streams-ready, ask-ready-count, ask-readiness, ask-room, step}
 use Rattle.queue_model.specs.Demands.{Typed, Reachable, created, called}
 use Rattle.queue_model.proofs.Invariant.Well.{Well, well-new, create-checks}
 use Rattle.queue_model.proofs.Invariant.Fine.{sixteen, Fine, Safe, safe-refusal, fine-add, fine-close, fine-ready, fine-reopen, fine-reset, fine-set-threshold, fine-set-priority, fine-set-interleaving}
@@ -42,6 +42,7 @@ fine-step ask-has-data q t w = record { next-well = w; not-sixteen = refl; same-
 fine-step ask-streams-ready q t w = record { next-well = w; not-sixteen = refl; same-options = refl }
 fine-step ask-ready-count q t w = record { next-well = w; not-sixteen = refl; same-options = refl }
 fine-step ask-readiness q t w = record { next-well = w; not-sixteen = refl; same-options = refl }
+fine-step (ask-room r) q t w = record { next-well = w; not-sixteen = refl; same-options = refl }
 
 -- Every reachable queue is well.
 pub reachable-well : {o : Options} {q : Queue} → Reachable o q → Well q

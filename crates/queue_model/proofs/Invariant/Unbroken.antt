@@ -17,7 +17,7 @@ use Rattle.queue_model.specs.Close.{kept}
 use Rattle.queue_model.specs.Image.{MessageRecord, Handover, message-record, message-records, handover, write-image}
 use Rattle.queue_model.specs.Reader.{has-flag, read-image}
 use Rattle.queue_model.specs.Restore.{restored-item, half-sent-first}
-use Rattle.queue_model.specs.Run.{Call, add, produce, fill, discard, close, ready-ids, commit, rollback, reset, set-threshold, set-priority, set-interleaving, restore, ask-priority, ask-amount, ask-threshold, ask-total, ask-empty, ask-has-data, ask-streams-ready, ask-ready-count, ask-readiness, step}
+use Rattle.queue_model.specs.Run.{Call, add, produce, fill, discard, close, ready-ids, commit, rollback, reset, set-threshold, set-priority, set-interleaving, restore, ask-priority, ask-amount, ask-threshold, ask-total, ask-empty, ask-has-data, ask-streams-ready, ask-ready-count, ask-readiness, ask-room, step}
 use Rattle.queue_model.specs.Demands.{Created, Reachable, fresh, Demand2-images}
 use Rattle.queue_model.specs.MidMessage.{half-sent-record, half-sent-records, AtMostOne, Uninterrupted, NeverInterleaved, at-first, later}
 use Rattle.queue_model.specs.Answers.{fragments-in}
@@ -178,6 +178,7 @@ uninterrupted ask-has-data q u = u
 uninterrupted ask-streams-ready q u = u
 uninterrupted ask-ready-count q u = u
 uninterrupted ask-readiness q u = u
+uninterrupted (ask-room r) q u = u
 
 fresh-never : {o : Options} → Created o → NeverInterleaved o (fresh o false)
 unfolding fresh
