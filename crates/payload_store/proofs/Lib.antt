@@ -10,6 +10,7 @@ pub mod Found
 pub mod Choice
 pub mod Groups
 pub mod Tests
+pub mod Own
 pub mod Together
 pub mod Goods
 pub mod Puts

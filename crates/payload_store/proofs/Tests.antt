@@ -194,6 +194,20 @@ module _ (ws : List ℕ) (len i n : ℕ) where
       let t = pick-else (leb n (room (gapFor (gapsOf ws) n))) 0 _ 1 (λ z. omega arith) (p .1) in
       (p .0, all-true ws len (usedOf ws) (pick-then (allFit ws len (usedOf ws)) 1 16 1 (λ z. omega arith) (t .1)))
 
+  -- where a put is not refused
+  pub put-may : putCode ws len i n ≤ 1 → PutOk ws len i n
+  put-may h = passed (putCode ws len i n) h refl .0
+
+  pub put-known : putCode ws len i n ≤ 1 → n ≤ room (gapFor (gapsOf ws) n) → 0 ≡ putCode ws len i n
+  put-known h k = rw (le-leb n (room (gapFor (gapsOf ws) n)) k) at (passed (putCode ws len i n) h refl .1)
+
+  pub put-other : putCode ws len i n ≤ 1 → room (gapFor (gapsOf ws) n) < n → 1 ≡ putCode ws len i n
+  put-other h k = go (allFit ws len (usedOf ws)) (rw (lt-leb n (room (gapFor (gapsOf ws) n)) k) at (passed (putCode ws len i n) h refl .1))
+    where
+      go : (b : Bool) → pick b 1 16 ≡ putCode ws len i n → 1 ≡ putCode ws len i n
+      go true e = e
+      go false e = absurd (omega arith)
+
 -- moving together, on any words: the totals, how many words, how many bytes
 pub record Kept (s t : Pack) : Type 0 where
   pub totals : totalsAt (t .words) ≡ totalsAt (s .words)
@@ -267,19 +281,6 @@ module _ (ws st bs : List ℕ) (i code : ℕ) (ec : code ≡ putCode ws (length 
   unfolding putPayload
   out-refused n0 n1 =
       rw (ne-eqb (putCode ws (length st) i (length bs)) 0 (λ z. n0 (ec ∙ z)), ne-eqb (putCode ws (length st) i (length bs)) 1 (λ z. n1 (ec ∙ z)), ec)
-
-module _ (ws : List ℕ) (len i n code : ℕ) (t : Totals) (ec : code ≡ putCode ws len i n) (et : t ≡ totalsAt ws) where
-  -- the gaps are in their order
-  pub order-end : code ≡ 0 → (t .gaps .from ≤ t .gaps .upto) × (t .gaps .end ≤ t .gaps .limit)
-  order-end e = let p = put-zero ws len i n (sym ec ∙ e) .0 .ordered in rw et (p .from-in, p .end-in)
-
-  pub room-end : (g : Gaps) → code ≡ 0 → g ≡ gapFor (t .gaps) n → (i < 1024) × (g .end + n ≤ len) × (usedOf ws + n ≤ len)
-  room-end g e eg =
-      let p = put-zero ws len i n (sym ec ∙ e) in
-      (p .0 .row, rw (eg, et) (p .1), p .0 .room)
-
-pub room-elsewhere : (ws : List ℕ) (len i n code : ℕ) → code ≡ putCode ws len i n → code ≡ 1 → (i < 1024) × (usedOf ws + n ≤ len)
-room-elsewhere ws len i n code ec e = let p = put-one ws len i n (sym ec ∙ e) in (p .0 .row, p .0 .room)
 
 pub ok-before : (ws : List ℕ) (len i n code : ℕ) → code ≡ putCode ws len i n → code ≡ 1 → PutOk ws len i n
 ok-before ws len i n code ec e = put-one ws len i n (sym ec ∙ e) .0

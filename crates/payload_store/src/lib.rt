@@ -4,7 +4,7 @@
 // used, and two gaps of the store (src/gaps). A new payload goes to one of them. Where neither has room and the free bytes
 // suffice, a gap is searched (src/searching), and where none that is found has room, the payloads are first moved together, in
 // the order of their places (src/nearest). Every public function is total: words that no queue has get the answer 16, and
-// nothing is changed.
+// nothing is changed. `put_own` and `read_own` are what follows the tests of `put_payload` and `read_payload`: their caller knows what the tests say.
 pub mod copying;
 mod gaps;
 mod nearest;
@@ -233,9 +233,9 @@ fn place_payload(
     g: Gaps,
     i: usize,
     payload: &[u8],
-) -> u8
+)
     requires { ⌜ (i < 1024) × (g .end + length (now payload) ≤ length (now store)) × (usedOf (now queue) + length (now payload) ≤ length (now store)) ⌝ }
-    ensures { λ r. ⌜ outcome r (now (queue .exit)) (now (store .exit)) ≡ placed (now (queue .entry)) (now (store .entry)) g i (now (payload .entry)) ⌝ }
+    ensures { λ _. ⌜ outcome 0 (now (queue .exit)) (now (store .exit)) ≡ placed (now (queue .entry)) (now (store .entry)) g i (now (payload .entry)) ⌝ }
 {
     let n = payload.len() as u64;
     let t = load_totals(&*queue);
@@ -252,20 +252,20 @@ fn place_payload(
             upto: g.upto,
         },
     );
-    0
 }
 
 // Puts a payload into row i where the known gaps have no room: into a gap that is found, or behind the others, moved together.
-fn put_elsewhere(queue: &mut [u64; QUEUE_WORDS], store: &mut [u8], i: usize, payload: &[u8]) -> u8
+fn put_elsewhere(queue: &mut [u64; QUEUE_WORDS], store: &mut [u8], i: usize, payload: &[u8])
     requires { ⌜ (i < 1024) × (usedOf (now queue) + length (now payload) ≤ length (now store)) ⌝ }
-    ensures { λ r. ⌜ outcome r (now (queue .exit)) (now (store .exit)) ≡ putElsewhere (now (queue .entry)) (now (store .entry)) i (now (payload .entry)) ⌝ }
+    ensures { λ _. ⌜ outcome 0 (now (queue .exit)) (now (store .exit)) ≡ putElsewhere (now (queue .entry)) (now (store .entry)) i (now (payload .entry)) ⌝ }
 {
     let len = store.len() as u64;
     let n = payload.len() as u64;
     let u = load_totals(&*queue);
     let f = find_gaps(&*queue, u.used, len);
     if n <= f.limit - f.end {
-        return place_payload(queue, store, f, i, payload);
+        place_payload(queue, store, f, i, payload);
+        return;
     }
     move_together(queue, store);
     let t = load_totals(&*queue);
@@ -280,7 +280,22 @@ fn put_elsewhere(queue: &mut [u64; QUEUE_WORDS], store: &mut [u8], i: usize, pay
         },
         i,
         payload,
-    )
+    );
+}
+
+// Puts a payload into row i, where the test says that it may be put: nothing is tested again.
+pub fn put_own(queue: &mut [u64; QUEUE_WORDS], store: &mut [u8], i: usize, payload: &[u8])
+    requires { ⌜ putCode (now queue) (length (now store)) i (length (now payload)) ≤ 1 ⌝ }
+    ensures { λ _. ⌜ outcome 0 (now (queue .exit)) (now (store .exit)) ≡ putPayload (now (queue .entry)) (now (store .entry)) i (now (payload .entry)) ⌝ }
+{
+    let n = payload.len() as u64;
+    let t = load_totals(&*queue);
+    let g = gap_for(t.gaps, n);
+    if n <= g.limit - g.end {
+        place_payload(queue, store, g, i, payload);
+        return;
+    }
+    put_elsewhere(queue, store, i, payload);
 }
 
 // Puts a payload into row i, which has none. 0: done. 8: no room. 16: damaged, or no such row. Refused: nothing is changed.
@@ -288,15 +303,11 @@ pub fn put_payload(queue: &mut [u64; QUEUE_WORDS], store: &mut [u8], i: usize, p
     ensures { λ r. ⌜ outcome r (now (queue .exit)) (now (store .exit)) ≡ putPayload (now (queue .entry)) (now (store .entry)) i (now (payload .entry)) ⌝ }
 {
     let code = put_code(queue, store.len() as u64, i, payload.len() as u64);
-    let t = load_totals(&*queue);
-    if code == 0 {
-        let g = gap_for(t.gaps, payload.len() as u64);
-        return place_payload(queue, store, g, i, payload);
+    if code > 1 {
+        return code;
     }
-    if code == 1 {
-        return put_elsewhere(queue, store, i, payload);
-    }
-    code
+    put_own(queue, store, i, payload);
+    0
 }
 
 // The n bytes of the store from `at` on, at dst's start.
@@ -335,6 +346,23 @@ pub fn read_code(queue: &[u64; QUEUE_WORDS], len: u64, i: usize, off: u64, n: u6
     0
 }
 
+// n bytes from off on of row i's payload go to dst's start, where the test says that they may: nothing is tested again.
+pub fn read_own(
+    queue: &[u64; QUEUE_WORDS],
+    store: &[u8],
+    i: usize,
+    off: u64,
+    n: u64,
+    dst: &mut [u8],
+)
+    requires { ⌜ readCode (now queue) (length (now store)) i off n (length (now dst)) ≡ 0 ⌝ }
+    ensures { λ _. ⌜ now (dst .exit) ≡ readPart (now (queue .entry)) (now (store .entry)) i off n (now (dst .entry)) ⌝ }
+{
+    let place = load_place(queue, i);
+    let at = place + off;
+    read_part(dst, store, at as usize, n as usize);
+}
+
 // The fragment copier: n bytes from off on of row i's payload go to dst's start. 0: done. 16: the payload has no such part, or
 // dst no room for it, and nothing is changed.
 pub fn read_payload(
@@ -351,9 +379,7 @@ pub fn read_payload(
     if code > 0 {
         return code;
     }
-    let place = load_place(queue, i);
-    let at = place + off;
-    read_part(dst, store, at as usize, n as usize);
+    read_own(queue, store, i, off, n, dst);
     0
 }
 

@@ -67,14 +67,21 @@ module _ (ws : List ℕ) (s : SchedulerState) (es : s ≡ schedulerAt ws) where
   unfolding peekWords
   peek-nothing h z = rw (← es, le-ltb _ _ h, eq-eqb _ _ z)
 
-  module _ (h : s .active ≤ 256) (z : s .active ≡ 0 → ⊥) (i : ℕ) (ei : i ≡ currentRow ws (s .active) (s .current)) where
-    pub peek-current : i < s .active → At i ≡ peekWords ws
-    unfolding peekWords peekAmong
-    peek-current l = rw (← es, le-ltb _ _ h, ne-eqb _ _ z, ← ei, lt-ltb _ _ l)
+  pub few-rows : schedulerAt ws .active ≤ 256 → s .active ≤ 256
+  few-rows h = rw es h
 
-    pub peek-least : (b : Best) → s .active ≤ i → b ≡ bestTo ws (s .active - 1) → At (b .at) ≡ peekWords ws
-    unfolding peekWords peekAmong
-    peek-least b g eb = rw (← es, le-ltb _ _ h, ne-eqb _ _ z, ← ei, le-ltb _ _ g, eb)
+  pub peek-front : s .active ≤ 256 → (s .active ≡ 0 → ⊥) → (r : ℕ) → At r ≡ peekAmong ws (s .active) (currentRow ws (s .active) (s .current)) → At r ≡ peekWords ws
+  unfolding peekWords peekAmong
+  peek-front h z r e = rw (← es, le-ltb _ _ h, ne-eqb _ _ z) e
+
+module _ (ws : List ℕ) (n : ℕ) (current : Remembered) (i : ℕ) (ei : i ≡ currentRow ws n current) where
+  pub front-current : i < n → At i ≡ peekAmong ws n (currentRow ws n current)
+  unfolding peekAmong
+  front-current l = rw (← ei, lt-ltb _ _ l)
+
+  pub front-least : (b : Best) → n ≤ i → b ≡ bestTo ws (n - 1) → At (b .at) ≡ peekAmong ws n (currentRow ws n current)
+  unfolding peekAmong
+  front-least b g eb = rw (← ei, le-ltb _ _ g, eb)
 
 -- ------------------------------------------------------------------ taking a row out
 

@@ -3,15 +3,18 @@
 //
 // A stream that waits has a row. Rows stand in no order: a new one at the end, the last one in the place of one that is removed, and a
 // stream that begins anew keeps its row. Every public function is total: where the number of rows is above 256, a row asked for is not among
-// them, or a 257th would be needed, it answers `false` or `Broken`, and nothing has changed. The caller then answers 16.
+// them, or a 257th would be needed, it answers `false` or `Broken`, and nothing has changed. The caller then answers 16. (src/own: the
+// choice where the number of rows is known to be right.)
 pub mod anew;
+pub mod own;
 
 ghost use mathlib.Core.Path.{_≡_};
 ghost use Prim.Native.Nat.{_+_, _-_, _*_, _<_, _≤_, min};
 ghost use Rattle.queue_model.specs.Scheduler.{cost, saturating};
 ghost use Rattle.queue_model.specs.Types.{weighted};
 ghost use Rattle.stream_scheduler.specs.Rows.{advanced, scheduledRow};
-ghost use Rattle.stream_scheduler.specs.Words.{outcome, forgotten, rested, rememberedBy, keptUnless, currentRow, peekWords, waitsIn, droppedRow, takenOut, removeStream, setIn, setBytesRemaining, beginWaiting, acceptAt};
+ghost use Rattle.stream_scheduler.specs.declared.Peeked.the-variants.{At};
+ghost use Rattle.stream_scheduler.specs.Words.{outcome, forgotten, rested, rememberedBy, keptUnless, currentRow, peekAmong, peekWords, waitsIn, droppedRow, takenOut, removeStream, setIn, setBytesRemaining, beginWaiting, acceptAt};
 use active_table::least_row;
 use active_table::seek;
 use queue_words::QUEUE_WORDS;
@@ -122,7 +125,20 @@ fn current_row(queue: &[u64; QUEUE_WORDS], n: usize, current: Remembered) -> usi
     }
 }
 
-// "Choice: the stream in mid-message if one is remembered, else the smallest finish time, then the smallest id."
+// "Choice: the stream in mid-message if one is remembered, else the smallest finish time, then the smallest id": of n rows.
+fn front_row(queue: &[u64; QUEUE_WORDS], n: usize, current: Remembered) -> usize
+    requires { ⌜ (0 < n) × (n ≤ 256) ⌝ }
+    ensures { λ r. ⌜ At r ≡ peekAmong (now (queue .entry)) n (currentRow (now (queue .entry)) n current) ⌝ }
+{
+    let i = current_row(queue, n, current);
+    if i < n {
+        return i;
+    }
+    let best = least_row(queue, n);
+    best.at
+}
+
+// The choice, or that nothing waits.
 pub fn peek(queue: &[u64; QUEUE_WORDS]) -> Peeked
     ensures { λ r. ⌜ r ≡ peekWords (now (queue .entry)) ⌝ }
 {
@@ -135,12 +151,8 @@ pub fn peek(queue: &[u64; QUEUE_WORDS]) -> Peeked
         return Peeked::Nothing;
     }
     let current = s.current;
-    let i = current_row(queue, n, current);
-    if i < n {
-        return Peeked::At(i);
-    }
-    let best = least_row(queue, n);
-    Peeked::At(best.at)
+    let at = front_row(queue, n, current);
+    Peeked::At(at)
 }
 
 // Whether a stream waits: it has a row.
