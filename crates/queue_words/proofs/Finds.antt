@@ -17,9 +17,11 @@ use Rattle.queue_words.specs.declared.known.Known.{Known}
 use Rattle.queue_words.specs.declared.known.Probe.{Probe}
 use Rattle.queue_words.specs.declared.known.Found.{Found}
 use Rattle.queue_words.specs.declared.known.Found.the-variants.{At, Gap, Broken}
+use Rattle.queue_words.specs.declared.known.Spot.{Spot}
+use Rattle.queue_words.specs.declared.known.Spot.the-variants as spot
 use Rattle.queue_words.specs.Flags.{pick}
 use Rattle.queue_words.specs.Known.{knownAt, idAt, knownCount, Rising, RisingKnown}
-use Rattle.queue_words.specs.Find.{probed, all, probes, foundAt, findStream}
+use Rattle.queue_words.specs.Find.{probed, all, probes, foundAt, foundAmong, findStream, placeTested, foundBy, Findable}
 use Rattle.queue_words.specs.Header.{totalsWords, totalsAt, putOptions, putTotals, putScheduler}
 use Rattle.queue_words.specs.Streams.{putStream}
 use Rattle.queue_words.specs.Items.{putItem, putNext, putPlace, putLength}
@@ -340,3 +342,26 @@ count-put-totals ws t l = ap (λ vs. getD vs 3 0) (row-put-same ws 7 (totalsWord
 pub find-put-totals : (ws : List ℕ) (t : Totals) (id : ℕ) → length ws ≡ 20768 → t .known ≡ knownCount ws
     → findStream (putTotals ws t) id ≡ findStream ws id
 find-put-totals ws t id l e = find-same ws (putTotals ws t) id (λ j h. known-put-totals ws t j) (count-put-totals ws t l ∙ e)
+
+-- ------------------------------------------------------------------ the search without its tests
+
+pub among-is : (ws : List ℕ) (id : ℕ) → knownCount ws ≤ 256 → foundAmong ws id ≡ findStream ws id
+unfolding findStream
+among-is ws id h = rw (le-ltb 256 (knownCount ws) h)
+
+pub findable-known : (ws : List ℕ) (id : ℕ) → Findable ws id → knownCount ws ≤ 256
+findable-known ws id f = by-lt 256 (knownCount ws) (λ h. absurd (f (find-broken ws id h))) (λ h. h)
+
+-- the test of the place
+pub place-broken : (p q : ℕ) → 255 < q → placeTested (spot.At p q) ≡ Broken
+place-broken p q h = rw (lt-ltb 255 q h)
+
+pub place-kept : (p q : ℕ) → q ≤ 255 → placeTested (spot.At p q) ≡ At p q
+place-kept p q h = rw (le-ltb 255 q h)
+
+-- where the tests cannot fail, what is sought is found
+pub own-found : (ws : List ℕ) (id : ℕ) (s : Spot) → Findable ws id → placeTested s ≡ foundAmong ws id → foundBy s ≡ findStream ws id
+own-found ws id (spot.At p q) f e =
+    let is : placeTested (spot.At p q) ≡ findStream ws id = e ∙ among-is ws id (findable-known ws id f) in
+    by-lt 255 q (λ h. absurd (f (sym is ∙ place-broken p q h))) (λ h. sym (place-kept p q h) ∙ is)
+own-found ws id (spot.Gap p) f e = e ∙ among-is ws id (findable-known ws id f)

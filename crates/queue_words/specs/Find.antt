@@ -1,5 +1,6 @@
 -- The search for a stream among the known, by halving: the first position whose id is not below the one sought. Assumes nothing.
 use Prim.Native.Nat.{ℕ, zero, suc, _+_, _-_, _/_}
+use mathlib.Core.Path.{_≡_}
 use mathlib.Core.List.{List}
 use lib.Dec.{ltb, eqb}
 use Rattle.queue_words.specs.Flags.{pick}
@@ -7,6 +8,8 @@ use Rattle.queue_words.specs.Known.{knownAt, idAt, knownCount}
 use Rattle.queue_words.specs.declared.known.Probe.{Probe}
 use Rattle.queue_words.specs.declared.known.Found.{Found}
 use Rattle.queue_words.specs.declared.known.Found.the-variants.{At, Gap, Broken}
+use Rattle.queue_words.specs.declared.known.Spot.{Spot}
+use Rattle.queue_words.specs.declared.known.Spot.the-variants as spot
 
 -- one step: the middle one of the positions left is looked at
 unfoldable pub probed : List ℕ → ℕ → Probe → Probe
@@ -31,6 +34,26 @@ foundAt ws id p =
     (pick (eqb (idAt ws p) id) (pick (ltb 255 (knownAt ws p .place)) Broken (At p (knownAt ws p .place))) (Gap p))
     (Gap p)
 
--- where the stream with an id is; among n positions n steps are enough
+-- where the stream with an id is among the known, if they have rows; among n positions n steps are enough
+abbrev pub foundAmong : List ℕ → ℕ → Found
+foundAmong ws id = foundAt ws id (probes ws id (knownCount ws) (all (knownCount ws)) .low)
+
+-- where the stream with an id is
 unfoldable pub findStream : List ℕ → ℕ → Found
-findStream ws id = pick (ltb 256 (knownCount ws)) Broken (foundAt ws id (probes ws id (knownCount ws) (all (knownCount ws)) .low))
+findStream ws id = pick (ltb 256 (knownCount ws)) Broken (foundAmong ws id)
+
+-- ---- the search without its tests
+
+-- what a spot is once its place has been tested
+abbrev pub placeTested : Spot → Found
+placeTested (spot.At p q) = pick (ltb 255 q) Broken (At p q)
+placeTested (spot.Gap p) = Gap p
+
+-- what a spot is where the tests cannot fail
+abbrev pub foundBy : Spot → Found
+foundBy (spot.At p q) = At p q
+foundBy (spot.Gap p) = Gap p
+
+-- the tests cannot fail
+abbrev pub Findable : List ℕ → ℕ → Type 0
+Findable ws id = findStream ws id ≡ Broken → ⊥

@@ -1,11 +1,11 @@
 // The known streams: 256 rows of 2 words from word 32 on, in the order of their ids, and the search among them.
 ghost use mathlib.Core.Path.{_≡_};
 ghost use Prim.Native.Nat.{_+_, _<_, _≤_};
-ghost use Rattle.queue_words.specs.Known.{knownOut, knownIn, knownAt, putKnown, FitsKnown};
-ghost use Rattle.queue_words.specs.Find.{probed, all, probes, findStream};
+ghost use Rattle.queue_words.specs.Known.{knownOut, knownIn, knownAt, putKnown, FitsKnown, knownCount};
+ghost use Rattle.queue_words.specs.Find.{probed, all, probes, foundAmong, placeTested, findStream, Findable, foundBy};
 use crate::QUEUE_WORDS;
 use crate::header::load_totals;
-use crate::limits::LAST_STREAM;
+use crate::limits::LAST_STREAM_ROW;
 use crate::limits::STREAMS;
 use types::StreamId;
 
@@ -104,6 +104,38 @@ fn probe_all(queue: &[u64; QUEUE_WORDS], id: u16, known: usize) -> Probe
     p
 }
 
+// Where a stream of a queue is. The place is the one told, a row or not.
+pub enum Spot {
+    At(usize, usize),
+    Gap(usize),
+}
+
+// The search among a number of known streams for which there are rows.
+fn search_known(queue: &[u64; QUEUE_WORDS], id: u16, known: usize) -> Spot
+    requires { ⌜ (known ≡ knownCount (now queue)) × (known ≤ 256) ⌝ }
+    ensures { λ r. ⌜ placeTested r ≡ foundAmong (now (queue .entry)) id ⌝ }
+{
+    let p = probe_all(queue, id, known);
+    let at = p.low;
+    if at >= known {
+        return Spot::Gap(at);
+    }
+    let row = load_known(queue, at);
+    if row.id.0 != id {
+        return Spot::Gap(at);
+    }
+    Spot::At(at, row.place as usize)
+}
+
+// The search where it is known to find a row or a gap.
+pub fn find_own(queue: &[u64; QUEUE_WORDS], id: u16) -> Spot
+    requires { ⌜ Findable (now queue) id ⌝ }
+    ensures { λ r. ⌜ foundBy r ≡ findStream (now (queue .entry)) id ⌝ }
+{
+    let t = load_totals(queue);
+    search_known(queue, id, t.known as usize)
+}
+
 pub fn find_stream(queue: &[u64; QUEUE_WORDS], id: u16) -> Found
     ensures { λ r. ⌜ r ≡ findStream (now (queue .entry)) id ⌝ }
 {
@@ -111,18 +143,14 @@ pub fn find_stream(queue: &[u64; QUEUE_WORDS], id: u16) -> Found
     if t.known > STREAMS {
         return Found::Broken;
     }
-    let known = t.known as usize;
-    let p = probe_all(queue, id, known);
-    let at = p.low;
-    if at >= known {
-        return Found::Gap(at);
+    let spot = search_known(queue, id, t.known as usize);
+    match spot {
+        Spot::At(at, row) => {
+            if row > LAST_STREAM_ROW {
+                return Found::Broken;
+            }
+            Found::At(at, row)
+        }
+        Spot::Gap(at) => Found::Gap(at),
     }
-    let row = load_known(queue, at);
-    if row.id.0 != id {
-        return Found::Gap(at);
-    }
-    if row.place > LAST_STREAM {
-        return Found::Broken;
-    }
-    Found::At(at, row.place as usize)
 }
