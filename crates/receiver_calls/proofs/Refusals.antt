@@ -25,9 +25,9 @@ use Rattle.receiver_words.specs.Fragments.{fragmentAt}
 use Rattle.receiver_words.specs.Index.{findRow}
 use Rattle.receiver_words.specs.Search.{findTurn}
 use Rattle.receiver_words.specs.declared.fragments.Fragment.{Fragment}
-use Rattle.receiver_store.specs.Words.{placeOf, sizeOf, oldestOf, usedOf, endOf}
+use Rattle.receiver_store.specs.Words.{placeOf, sizeOf, usedOf, endOf}
 use Rattle.receiver_store.specs.Words as held
-use Rattle.receiver_store.specs.Packing.{misplaced, rises, packCode}
+use Rattle.receiver_store.specs.Packing.{misplaced, startOf, packCode}
 use Rattle.receiver_store.specs.Putting.{roomCode}
 use Rattle.receiver_store.specs.Reading.{sameCode}
 use Rattle.receiver_messages.specs.Keys.{interleavedOf}
@@ -101,20 +101,20 @@ module _ (ws st : List ℕ) where
   by-code code y (inr m) h = either (ltb 0 code) _ y (told code m) h
   by-code code y (inl z) h = subst (λ (k : ℕ). Kept (pick (ltb 0 k) (receiving.received (received.Refused k) ws st) y)) (sym z) h
 
-  pack-listed : (len : ℕ) → Listed (packCode ws len)
+  pack-listed : (len n : ℕ) → Listed (packCode ws len n)
   unfolding packCode member
-  pack-listed len = one-of (rises ws len (oldestOf ws) 0 (usedOf ws) 4097) 0 16 (inl refl) (inr refl)
+  pack-listed len n = one-of (startOf ws len n .found) 0 16 (inl refl) (inr refl)
 
   room-listed : (len n : ℕ) → Listed (roomCode ws len n)
   unfolding roomCode member
   room-listed len n =
-      let c4 = pick (leb n (len - endOf ws)) 0 (packCode ws len) in
+      let c4 = pick (leb n (len - endOf ws)) 0 (packCode ws len n) in
       let c3 = pick (ltb len (endOf ws)) 16 c4 in
       let c2 = pick (ltb (len - usedOf ws) n) 23 c3 in
       one-of (ltb len (usedOf ws)) 16 c2 (inr refl)
       (one-of (ltb (len - usedOf ws) n) 23 c3 (inr refl)
       (one-of (ltb len (endOf ws)) 16 c4 (inr refl)
-      (one-of (leb n (len - endOf ws)) 0 (packCode ws len) (inl refl) (pack-listed len))))
+      (one-of (leb n (len - endOf ws)) 0 (packCode ws len n) (inl refl) (pack-listed len n))))
 
   admit-listed : (len n t : ℕ) → Listed (admitCode ws len n t)
   unfolding admitCode member

@@ -4,24 +4,25 @@ use mathlib.Core.Bool.{Bool, true, false}
 use mathlib.Core.List.{List}
 use Prim.Native.Nat.{ℕ, zero, suc, _+_, _-_, _≤_, _<_}
 use native.Mathlib.Omega.{arith}
-use borrow.Author.Tests.{le-leb, lt-leb, lt-ltb, le-ltb, eq-eqb, ne-eqb, ltb-false, leb-false}
+use borrow.Author.Tests.{le-leb, lt-leb, lt-ltb, le-ltb, eq-eqb, ne-eqb, ltb-false, leb-false, leb-true}
 use lib.Dec.{ltb, leb, eqb}
 use lib.ListN.{length, take, drop, length-drop}
 use lib.Seq.{length-take-le}
 use Rattle.queue_words.specs.Flags.{pick}
 use Rattle.payload_store.specs.Moving.{moved, Pack, pack}
 use Rattle.payload_store.specs.Putting.{Outcome, outcome, written}
-use Rattle.payload_store.proofs.Cases.{pick-else}
+use Rattle.payload_store.proofs.Cases.{pick-else, pick-then, false-true}
 use Rattle.payload_store.proofs.Moves.{moved-length}
 use Rattle.payload_store.proofs.Puts.{written-length}
 use Rattle.receiver_model.specs.Lists.{same-list}
 use Rattle.receiver_words.specs.Tables.{Header, Links, wordAt, putWord}
 use Rattle.receiver_words.proofs.Laws.{whole-put-word, word-put-same, word-put-beside, word-put-table}
-use Rattle.receiver_store.specs.Words.{placeOf, sizeOf, newestOf, oldestOf, usedOf, endOf, payloadOf}
-use Rattle.receiver_store.specs.Packing.{misplaced, packCode, moveRow, packFrom, packed, packStore}
+use Rattle.receiver_store.specs.Words.{placeOf, sizeOf, olderOf, newestOf, usedOf, endOf, payloadOf}
+use Rattle.receiver_store.specs.Packing.{misplaced, start, nowhere, goalOf, startFrom, startOf, packCode, moveRow, packFrom, packed}
+use Rattle.receiver_store.specs.declared.packing.Start.{Start}
 use Rattle.receiver_store.specs.Putting.{roomCode, placed, putPayload}
 use Rattle.receiver_store.specs.Reading.{readCode, readPayload, sameCode}
-use Rattle.receiver_store.specs.Dropping.{dropCode, released, dropPayload}
+use Rattle.receiver_store.specs.Dropping.{dropCode, heldEnd, released, dropPayload}
 use Rattle.receiver_store.proofs.Lies.{lies-in}
 
 -- what the test says where it fails
@@ -81,43 +82,72 @@ rows-kept (suc n) s p = go (leb 4096 p) refl (rows-kept n (moveRow s p) (wordAt 
 pub row-same-length : (ws st ws1 st1 : List ℕ) (cur cur1 i : ℕ) → i < 4096 → pack ws1 st1 cur1 ≡ moveRow (pack ws st cur) i → length st1 ≡ length st
 row-same-length ws st ws1 st1 cur cur1 i h e = ap (λ (s : Pack). length (s .store)) e ∙ row-kept (pack ws st cur) i h .same
 
-pub rows-same-length : (ws st ws1 st1 : List ℕ) (cur oldest : ℕ) → pack ws1 st1 cur ≡ packFrom 4096 (pack ws st 0) oldest → length st1 ≡ length st
-rows-same-length ws st ws1 st1 cur oldest e = ap (λ (s : Pack). length (s .store)) e ∙ rows-kept 4096 (pack ws st 0) oldest .same
+pub rows-same-length : (ws st ws1 st1 : List ℕ) (cur first to : ℕ) → pack ws1 st1 cur ≡ packFrom 4096 (pack ws st to) first → length st1 ≡ length st
+rows-same-length ws st ws1 st1 cur first to e = ap (λ (s : Pack). length (s .store)) e ∙ rows-kept 4096 (pack ws st to) first .same
+
+-- ------------------------------------------------------------------ find_start
+
+-- what is found ends at or below the goal
+module _ (ws : List ℕ) (goal : ℕ) where
+  abbrev Ends : Start → Type 0
+  Ends s = s .found ≡ true → s .end ≤ goal
+
+  either : (t : Bool) (x y : Start) → Ends x → Ends y → Ends (pick t x y)
+  either true x y hx hy = hx
+  either false x y hx hy = hy
+
+  reached : (t : Bool) (row cursor end : ℕ) (y : Start) → leb end goal ≡ t → Ends y → Ends (pick t (start true row cursor end) y)
+  reached true row cursor end y e hy f = leb-true end goal e
+  reached false row cursor end y e hy f = hy f
+
+  pub start-ends : (n p row high sum : ℕ) → Ends (startFrom n ws goal p row high sum)
+  unfolding startFrom
+  start-ends zero p row high sum = λ f. false-true f
+  start-ends (suc n) p row high sum =
+      let top = placeOf ws p + sizeOf ws p in
+      let on = startFrom n ws goal (olderOf ws p) p (placeOf ws p) (sum + sizeOf ws p) in
+      let here = pick (leb (top + sum) goal) (start true row top (top + sum)) on in
+      either (leb 4096 p) (start (leb sum goal) row 0 sum) (pick (misplaced 0 high (placeOf ws p) (sizeOf ws p)) nowhere here)
+      (λ f. leb-true sum goal f)
+      (either (misplaced 0 high (placeOf ws p) (sizeOf ws p)) nowhere here (λ f. false-true f)
+      (reached (leb (top + sum) goal) row top (top + sum) on refl (start-ends n (olderOf ws p) p (placeOf ws p) (sum + sizeOf ws p))))
+
+-- the goal is at or above the used bytes, and leaves room
+pub goal-above : (used len n : ℕ) → used ≤ goalOf used len n
+unfolding goalOf
+goal-above used len n = omega arith
+
+pub goal-room : (used len n : ℕ) → used + n ≤ len → goalOf used len n + n ≤ len
+unfolding goalOf
+goal-room used len n h = omega arith
 
 -- ------------------------------------------------------------------ move_together
 
-pub all-moved : (ws st ws1 st1 ws2 : List ℕ) (oldest used cur : ℕ) → oldest ≡ oldestOf ws → used ≡ usedOf ws → pack ws1 st1 cur ≡ packFrom 4096 (pack ws st 0) oldest
-    → ws2 ≡ putWord Header ws1 0 6 used → outcome 0 ws2 st1 ≡ packed ws st
+pub all-moved : (ws st ws1 st1 ws2 : List ℕ) (n cur : ℕ) (s : Start) → s ≡ startOf ws (length st) n → pack ws1 st1 cur ≡ packFrom 4096 (pack ws st (s .cursor)) (s .row)
+    → ws2 ≡ putWord Header ws1 0 6 (s .end) → outcome 0 ws2 st1 ≡ packed ws st n
 unfolding packed
-all-moved ws st ws1 st1 ws2 oldest used cur eo eu em e =
-    rw (← eo, ← eu, ← em, e)
+all-moved ws st ws1 st1 ws2 n cur s es em e = rw (← es, ← em, e)
 
-pub together-kept : (ws st ws1 st1 : List ℕ) → outcome 0 ws1 st1 ≡ packed ws st → (length ws1 ≡ length ws) × (length st1 ≡ length st)
-unfolding packed
-together-kept ws st ws1 st1 e =
-    let k = rows-kept 4096 (pack ws st 0) (oldestOf ws) in (
-      ap (λ (o : Outcome). length (o .words)) e ∙ whole-put-word Header _ 0 6 (usedOf ws) ∙ k .long,
-      ap (λ (o : Outcome). length (o .store)) e ∙ k .same,
-    )
+module _ (ws st ws1 st1 : List ℕ) (n : ℕ) (e : outcome 0 ws1 st1 ≡ packed ws st n) where
+  abbrev b : Start
+  b = startOf ws (length st) n
 
-pub together-amounts : (ws st ws1 st1 : List ℕ) → length ws ≡ 83472 → outcome 0 ws1 st1 ≡ packed ws st → (endOf ws1 ≡ usedOf ws) × (usedOf ws1 ≡ usedOf ws)
-unfolding packed
-together-amounts ws st ws1 st1 l e =
-    let k = rows-kept 4096 (pack ws st 0) (oldestOf ws) in (
-      ap (λ (o : Outcome). endOf (o .words)) e ∙ word-put-same Header _ 0 6 (usedOf ws) (k .long ∙ l) (omega arith) (omega arith),
-      ap (λ (o : Outcome). usedOf (o .words)) e ∙ word-put-beside Header _ 0 6 (usedOf ws) 5 (λ z. omega arith) ∙ k .header 5 (omega arith),
-    )
+  k : Kept (pack ws st (b .cursor)) (packFrom 4096 (pack ws st (b .cursor)) (b .row))
+  k = rows-kept 4096 (pack ws st (b .cursor)) (b .row)
 
--- ------------------------------------------------------------------ pack
+  pub together-kept : (length ws1 ≡ length ws) × (length st1 ≡ length st)
+  unfolding packed
+  together-kept = (
+    ap (λ (o : Outcome). length (o .words)) e ∙ whole-put-word Header _ 0 6 (b .end) ∙ k .long,
+    ap (λ (o : Outcome). length (o .store)) e ∙ k .same,
+  )
 
-module _ (ws st : List ℕ) (code : ℕ) (ec : code ≡ packCode ws (length st)) where
-  pub pack-refused : 0 < code → outcome code ws st ≡ packStore ws st
-  unfolding packStore
-  pack-refused h = rw (← ec, lt-ltb 0 code h)
-
-  pub pack-done : (o : Outcome) → code ≤ 0 → o ≡ packed ws st → o ≡ packStore ws st
-  unfolding packStore
-  pack-done o h e = rw (← ec, le-ltb 0 code h) e
+  pub together-amounts : length ws ≡ 83472 → (endOf ws1 ≡ startOf ws (length st) n .end) × (usedOf ws1 ≡ usedOf ws)
+  unfolding packed
+  together-amounts l = (
+    ap (λ (o : Outcome). endOf (o .words)) e ∙ word-put-same Header _ 0 6 (b .end) (k .long ∙ l) (omega arith) (omega arith),
+    ap (λ (o : Outcome). usedOf (o .words)) e ∙ word-put-beside Header _ 0 6 (b .end) 5 (λ z. omega arith) ∙ k .header 5 (omega arith),
+  )
 
 -- ------------------------------------------------------------------ place_payload, put_payload
 
@@ -156,7 +186,7 @@ module _ (ws st bs : List ℕ) (i code : ℕ) (ec : code ≡ roomCode ws (length
   unfolding putPayload
   put-at-end o end h ee a eo = rw (← ec, le-ltb 0 code h, ← ee, le-leb (length bs) (length st - end) a) eo
 
-  pub put-packed : (o : Outcome) (end : ℕ) (ws1 st1 : List ℕ) → code ≤ 0 → end ≡ endOf ws → length st - end < length bs → outcome 0 ws1 st1 ≡ packed ws st → o ≡ placed ws1 st1 i bs
+  pub put-packed : (o : Outcome) (end : ℕ) (ws1 st1 : List ℕ) → code ≤ 0 → end ≡ endOf ws → length st - end < length bs → outcome 0 ws1 st1 ≡ packed ws st (length bs) → o ≡ placed ws1 st1 i bs
       → o ≡ putPayload ws st i bs
   unfolding putPayload
   put-packed o end ws1 st1 h ee a em eo = rw (← ec, le-ltb 0 code h, ← ee, lt-leb (length bs) (length st - end) a, ← em) eo
@@ -169,13 +199,27 @@ pub room-at-end : (ws : List ℕ) (len n i code end : ℕ) → i < 4096 → code
     → (i < 4096) × (endOf ws + n ≤ len) × (usedOf ws + n ≤ len)
 room-at-end ws len n i code end hi ec h ee a = (hi, omega (arith, put-room ws len n code ec h .1, ee), put-room ws len n code ec h .0)
 
-pub room-packed : (ws st bs ws1 st1 : List ℕ) (i code : ℕ) → i < 4096 → length ws ≡ 83472 → code ≡ roomCode ws (length st) (length bs) → code ≤ 0 → outcome 0 ws1 st1 ≡ packed ws st
-    → (i < 4096) × (endOf ws1 + length bs ≤ length st1) × (usedOf ws1 + length bs ≤ length st1)
-room-packed ws st bs ws1 st1 i code hi l ec h em =
-    let a = together-amounts ws st ws1 st1 l em in
-    let b = together-kept ws st ws1 st1 em in
+-- a start is found where there is room, and not at the end
+pub room-found : (ws : List ℕ) (len n : ℕ) → roomCode ws len n ≡ 0 → len - endOf ws < n → startOf ws len n .found ≡ true
+unfolding roomCode packCode
+room-found ws len n e a =
+    let t1 = pick-else (ltb len (usedOf ws)) 16 _ 0 (λ z. omega arith) e in
+    let t2 = pick-else (ltb (len - usedOf ws) n) 23 _ 0 (λ z. omega arith) (t1 .1) in
+    let t3 = pick-else (ltb len (endOf ws)) 16 _ 0 (λ z. omega arith) (t2 .1) in
+    let t4 : _≡_ {A = ℕ} (pick (startOf ws len n .found) 0 16) 0 = rw (lt-leb n (len - endOf ws) a) at (t3 .1) in
+    pick-then (startOf ws len n .found) 0 16 0 (λ z. omega arith) t4
+
+pub room-packed : (ws st bs ws1 st1 : List ℕ) (i code end : ℕ) → i < 4096 → length ws ≡ 83472 → code ≡ roomCode ws (length st) (length bs) → code ≤ 0 → end ≡ endOf ws → length st - end < length bs
+    → outcome 0 ws1 st1 ≡ packed ws st (length bs) → (i < 4096) × (endOf ws1 + length bs ≤ length st1) × (usedOf ws1 + length bs ≤ length st1)
+unfolding startOf
+room-packed ws st bs ws1 st1 i code end hi l ec h ee a em =
+    let t = together-amounts ws st ws1 st1 (length bs) em l in
+    let b = together-kept ws st ws1 st1 (length bs) em in
     let r = put-room ws (length st) (length bs) code ec h in
-    (hi, omega (arith, a .0, b .1, r .0), omega (arith, a .1, b .1, r .0))
+    let f = room-found ws (length st) (length bs) (omega arith) (rw ee at a) in
+    let g = start-ends ws (goalOf (usedOf ws) (length st) (length bs)) 4097 (newestOf ws) 4096 (endOf ws) 0 f in
+    let w = goal-room (usedOf ws) (length st) (length bs) (r .0) in
+    (hi, omega (arith, t .0, b .1, g, w), omega (arith, t .1, b .1, r .0))
 
 -- ------------------------------------------------------------------ read_payload
 
@@ -251,11 +295,7 @@ module _ (ws : List ℕ) (i code : ℕ) (ec : code ≡ dropCode ws i) where
   pub drop-held : (size used : ℕ) → code ≤ 0 → size ≡ sizeOf ws i → used ≡ usedOf ws → size ≤ used
   drop-held size used h es eu = rw (es, eu) (drop-ok ws i (omega arith))
 
-  module _ (size used newest : ℕ) (ws1 : List ℕ) (h : code ≤ 0) (es : size ≡ sizeOf ws i) (eu : used ≡ usedOf ws) (en : newest ≡ newestOf ws) (e1 : ws1 ≡ putWord Header ws 0 5 (used - size)) where
-    pub drop-last : (ws2 : List ℕ) → 4096 ≤ newest → ws2 ≡ putWord Header ws1 0 6 0 → (0 ≡ dropCode ws i) × (ws2 ≡ dropPayload ws i)
-    unfolding dropPayload released
-    drop-last ws2 g e2 = (omega arith, rw (← ec, le-ltb 0 code h, ← en, le-leb 4096 newest g, ← es, ← eu, ← e1) e2)
-
-    pub drop-more : newest < 4096 → (0 ≡ dropCode ws i) × (ws1 ≡ dropPayload ws i)
-    unfolding dropPayload released
-    drop-more g = (omega arith, rw (← ec, le-ltb 0 code h, ← en, lt-leb 4096 newest g, ← es, ← eu) e1)
+  pub drop-done : (size used end : ℕ) (ws1 ws2 : List ℕ) → code ≤ 0 → size ≡ sizeOf ws i → used ≡ usedOf ws → end ≡ heldEnd ws → ws1 ≡ putWord Header ws 0 5 (used - size)
+      → ws2 ≡ putWord Header ws1 0 6 end → (0 ≡ dropCode ws i) × (ws2 ≡ dropPayload ws i)
+  unfolding dropPayload released
+  drop-done size used end ws1 ws2 h es eu ee e1 e2 = (omega arith, rw (← ec, le-ltb 0 code h, ← es, ← eu, ← ee, ← e1) e2)

@@ -23,7 +23,7 @@ use Rattle.receiver_store.specs.Words.{placeOf, sizeOf, newestOf, oldest
 use Rattle.receiver_store.specs.Packing.{packCode, packed}
 use Rattle.receiver_store.specs.Putting.{roomCode, placed, putPayload}
 use Rattle.receiver_store.specs.Reading.{readCode, readPayload, sameCode}
-use Rattle.receiver_store.specs.Dropping.{dropCode, released, dropPayload}
+use Rattle.receiver_store.specs.Dropping.{dropCode, heldEnd, released, dropPayload}
 use Rattle.receiver_store.specs.Good.{Below, Laid}
 use Rattle.receiver_store.specs.Promise.{Packed, Put, Dropped}
 use Rattle.receiver_store.proofs.Lies.{in-lies}
@@ -138,7 +138,7 @@ module _ (ws st held : List ℕ) (i : ℕ) (bs : List ℕ) (l : Laid ws st held)
 -- ------------------------------------------------------------------ putting
 
 -- a put after moving together, as seen from before
-after-packing : (ws st held : List ℕ) (i : ℕ) (bs : List ℕ) (m o : Outcome) → Packed ws st held m → Put (m .words) (m .store) held i bs o → ((x : ℕ) → 0 < count x held → x < 4096) → Put ws st held i bs o
+after-packing : (ws st held : List ℕ) (i : ℕ) (bs : List ℕ) (m o : Outcome) → Packed ws st held (length bs) m → Put (m .words) (m .store) held i bs o → ((x : ℕ) → 0 < count x held → x < 4096) → Put ws st held i bs o
 after-packing ws st held i bs m o q p rows = record {
   accepted = p .accepted;
   laid = p .laid;
@@ -158,7 +158,7 @@ module _ (ws st held : List ℕ) (l : Laid ws st held) (aged : Aged ws held) (on
   room-law n fits =
       by-lt (length st - endOf ws) n
       (λ a. rw (le-ltb (length st) (usedOf ws) (omega arith), le-ltb (length st - usedOf ws) n (omega arith), le-ltb (length st) (endOf ws) (l .end-in), lt-leb n (length st - endOf ws) a)
-      (pack-code-zero ws st held l aged once short))
+      (pack-code-zero ws st held l aged once short n fits))
       (λ a. rw (le-ltb (length st) (usedOf ws) (omega arith), le-ltb (length st - usedOf ws) n (omega arith), le-ltb (length st) (endOf ws) (l .end-in), le-leb n (length st - endOf ws) a))
 
   -- and one for which they do not has none
@@ -174,12 +174,12 @@ module _ (ws st held : List ℕ) (l : Laid ws st held) (aged : Aged ws held) (on
       let rows : (x : ℕ) → 0 < count x held → x < 4096 = both-rows (older ws) (newer ws) (oldestOf ws) 4096 (newestOf ws) held aged in
       let code = room-law (length bs) fits in
       by-lt (length st - endOf ws) (length bs)
-      (λ a. let q = packed-law ws st held l aged once short in
-      let m = packed ws st in
+      (λ a. let q = packed-law ws st held l aged once short (length bs) fits in
+      let m = packed ws st (length bs) in
       subst (λ (o : Outcome). Put ws st held i bs o)
       (put-packed ws st bs i 0 (sym code) (placed (m .words) (m .store) i bs) (endOf ws) (m .words) (m .store) (omega arith) refl a (ap (λ (k : ℕ). outcome k (m .words) (m .store)) (sym (q .accepted))) refl)
       (after-packing ws st held i bs m (placed (m .words) (m .store) i bs) q
-      (placed-law (m .words) (m .store) held i bs (q .laid) rows hi new (omega (arith, q .together, q .same, fits))) rows))
+      (placed-law (m .words) (m .store) held i bs (q .laid) rows hi new (omega (arith, q .roomy, q .same))) rows))
       (λ a. subst (λ (o : Outcome). Put ws st held i bs o) (put-at-end ws st bs i 0 (sym code) (placed ws st i bs) (endOf ws) (omega arith) refl a refl)
       (placed-law ws st held i bs l rows hi new (omega (arith, a, l .end-in))))
 
@@ -215,10 +215,18 @@ module _ (ws st held : List ℕ) (i : ℕ) (l : Laid ws st held) (h : 0 < count 
 
 -- ------------------------------------------------------------------ dropping
 
--- where there is no newest row, none is held
-pub aged-none : (ws xs : List ℕ) → Aged ws xs → 4096 ≤ newestOf ws → xs ≡ []
-aged-none ws [] a h = refl
-aged-none ws (x ∷ xs) (e, b, d, c) h = absurd (omega (arith, e))
+-- the used part falls back to the end of the newest row: no lower than the payloads
+held-end-row : (ws : List ℕ) (x : ℕ) → newestOf ws ≡ x → x < 4096 → placeOf ws x + sizeOf ws x ≤ endOf ws → heldEnd ws ≡ placeOf ws x + sizeOf ws x
+unfolding heldEnd
+held-end-row ws x e h inside = rw (e, lt-leb 4096 x h, in-lies 0 (endOf ws) (placeOf ws x) (sizeOf ws x) (omega arith) inside)
+
+held-end-none : (ws : List ℕ) → newestOf ws ≡ 4096 → heldEnd ws ≡ 0
+unfolding heldEnd
+held-end-none ws e = rw (le-leb 4096 (newestOf ws) (omega (arith, e)))
+
+held-end : (ws xs : List ℕ) → Aged ws xs → Below ws (endOf ws) xs → (heldEnd ws ≤ endOf ws) × Below ws (heldEnd ws) xs
+held-end ws [] (e, d) b = (omega (arith, held-end-none ws e), tt)
+held-end ws (x ∷ xs) (e, h, d, c) (a, b) = let k = held-end-row ws x e h a in (omega (arith, k, a), (omega (arith, k), b))
 
 module _ (ws st held : List ℕ) (i : ℕ) (l : Laid ws st held) (once : (y : ℕ) → count y held ≤ 1) (h : 0 < count i held) (aged : Aged ws (without i held)) where
   total : usedOf ws ≡ sizeOf ws i + sum-by (sizeOf ws) (without i held)
@@ -231,73 +239,48 @@ module _ (ws st held : List ℕ) (i : ℕ) (l : Laid ws st held) (once : (y : �
   abbrev less : List ℕ
   less = putWord Header ws 0 5 (usedOf ws - sizeOf ws i)
 
-  abbrev none : List ℕ
-  none = putWord Header less 0 6 0
+  abbrev gone : List ℕ
+  gone = putWord Header less 0 6 (heldEnd ws)
 
   less-frame : Frame ws less 5 6 8 8
   less-frame = frame-header ws (usedOf ws - sizeOf ws i) 5 6 8 8 (omega arith)
 
-  none-frame : Frame ws none 5 6 8 8
-  none-frame = frame-both ws less none 5 6 8 8 less-frame (frame-swap less none 6 5 8 8 (frame-header less 0 6 5 8 8 (omega arith)))
+  gone-frame : Frame ws gone 5 6 8 8
+  gone-frame = frame-both ws less gone 5 6 8 8 less-frame (frame-swap less gone 6 5 8 8 (frame-header less (heldEnd ws) 6 5 8 8 (omega arith)))
 
-  less-used : usedOf less ≡ usedOf ws - sizeOf ws i
-  less-used = word-put-same Header ws 0 5 (usedOf ws - sizeOf ws i) (l .long) (omega arith) (omega arith)
+  gone-used : usedOf gone ≡ usedOf ws - sizeOf ws i
+  gone-used = word-put-beside Header less 0 6 (heldEnd ws) 5 (λ k. omega arith) ∙ word-put-same Header ws 0 5 (usedOf ws - sizeOf ws i) (l .long) (omega arith) (omega arith)
 
-  link-kept : (ws′ : List ℕ) → Frame ws ws′ 5 6 8 8 → (x k : ℕ) → x < 4096 → k < 8 → wordAt Links ws′ x k ≡ wordAt Links ws x k
-  link-kept ws′ f x k hx hk = f .links x k hx hk (λ z. omega arith) (λ z. omega arith)
+  gone-end : endOf gone ≡ heldEnd ws
+  gone-end = word-put-same Header less 0 6 (heldEnd ws) (less-frame .long ∙ l .long) (omega arith) (omega arith)
+
+  link-kept : (x k : ℕ) → x < 4096 → k < 8 → wordAt Links gone x k ≡ wordAt Links ws x k
+  link-kept x k hx hk = gone-frame .links x k hx hk (λ z. omega arith) (λ z. omega arith)
 
   rows : (x : ℕ) → 0 < count x (without i held) → x < 4096
   rows = both-rows (older ws) (newer ws) (oldestOf ws) 4096 (newestOf ws) (without i held) aged
 
-  some-left : Dropped ws st (without i held) i less
-  some-left = record {
+  falls : (heldEnd ws ≤ endOf ws) × Below ws (heldEnd ws) (without i held)
+  falls = held-end ws (without i held) aged (below-without ws (endOf ws) i held (l .below))
+
+  left : Dropped ws st (without i held) i gone
+  left = record {
     laid = record {
-      long = less-frame .long ∙ l .long;
-      end-in = omega (arith, end-kept, l .end-in);
-      below = subst (λ (e : ℕ). Below less e (without i held)) (sym end-kept)
-          (below-frame ws less (endOf ws) (without i held) (λ x k. link-kept less less-frame x 0 (rows x k) (omega arith)) (λ x k. link-kept less less-frame x 1 (rows x k) (omega arith))
-          (below-without ws (endOf ws) i held (l .below)));
-      used-is = omega (arith, less-used, total, sum-same (sizeOf ws) (sizeOf less) (without i held) (λ x k. link-kept less less-frame x 1 (rows x k) (omega arith)));
+      long = gone-frame .long ∙ l .long;
+      end-in = omega (arith, gone-end, falls .0, l .end-in);
+      below = subst (λ (e : ℕ). Below gone e (without i held)) (sym gone-end)
+          (below-frame ws gone (heldEnd ws) (without i held) (λ x k. link-kept x 0 (rows x k) (omega arith)) (λ x k. link-kept x 1 (rows x k) (omega arith)) (falls .1));
+      used-is = omega (arith, gone-used, total, sum-same (sizeOf ws) (sizeOf gone) (without i held) (λ x k. link-kept x 1 (rows x k) (omega arith)));
     };
-    used = omega (arith, less-used, total);
-    payloads = λ x hx. payload-words ws less st x (link-kept less less-frame x 0 hx (omega arith)) (link-kept less less-frame x 1 hx (omega arith));
-    frame = less-frame;
+    used = omega (arith, gone-used, total);
+    payloads = λ x hx. payload-words ws gone st x (link-kept x 0 hx (omega arith)) (link-kept x 1 hx (omega arith));
+    frame = gone-frame;
   }
-    where
-      end-kept : endOf less ≡ endOf ws
-      end-kept = word-put-beside Header ws 0 5 (usedOf ws - sizeOf ws i) 6 (λ z. omega arith)
 
-  none-left : without i held ≡ [] → Dropped ws st (without i held) i none
-  none-left e =
-      let z : sum-by (sizeOf ws) (without i held) ≡ 0 = ap (sum-by (sizeOf ws)) e in
-      let u : usedOf none ≡ usedOf ws - sizeOf ws i = word-put-beside Header less 0 6 0 5 (λ k. omega arith) ∙ less-used in
-      record {
-        laid = subst (λ (xs : List ℕ). Laid none st xs) (sym e) (record {
-          long = none-frame .long ∙ l .long;
-          end-in = omega (arith, word-put-same Header less 0 6 0 (less-frame .long ∙ l .long) (omega arith) (omega arith));
-          below = tt;
-          used-is = omega (arith, u, total, z);
-        });
-        used = omega (arith, u, total);
-        payloads = λ x hx. payload-words ws none st x (link-kept none none-frame x 0 hx (omega arith)) (link-kept none none-frame x 1 hx (omega arith));
-        frame = none-frame;
-      }
-
-  drop-is : dropPayload ws i ≡ released ws i
-  unfolding dropPayload
+  drop-is : dropPayload ws i ≡ gone
+  unfolding dropPayload released
   drop-is = rw (le-ltb 0 (dropCode ws i) (omega (arith, drop-zero)))
-
-  released-none : 4096 ≤ newestOf ws → released ws i ≡ none
-  unfolding released
-  released-none a = rw (le-leb 4096 (newestOf ws) a)
-
-  released-some : newestOf ws < 4096 → released ws i ≡ less
-  unfolding released
-  released-some a = rw (lt-leb 4096 (newestOf ws) a)
 
   -- THE THEOREM of dropping: after row i has left the age chain
   pub drop-law : Dropped ws st (without i held) i (dropPayload ws i)
-  drop-law =
-      by-lt (newestOf ws) 4096
-      (λ a. subst (λ (w : List ℕ). Dropped ws st (without i held) i w) (sym (drop-is ∙ released-some a)) some-left)
-      (λ a. subst (λ (w : List ℕ). Dropped ws st (without i held) i w) (sym (drop-is ∙ released-none a)) (none-left (aged-none ws (without i held) aged a)))
+  drop-law = subst (λ (w : List ℕ). Dropped ws st (without i held) i w) (sym drop-is) left

@@ -1,4 +1,4 @@
--- The rows from the oldest to the newest: the chain, and the places that rise along it. Assumes nothing.
+-- The rows from the oldest to the newest, and the places that rise along them. Assumes nothing.
 use mathlib.Core.Path.{_≡_, refl, sym, ap, _∙_, subst}
 use mathlib.Core.List.{List, [], _∷_}
 use Prim.Native.Nat.{ℕ, suc, _+_, _≤_, _<_}
@@ -7,8 +7,7 @@ use lib.ListN.{length}
 use Rattle.queue_model.specs.Table.{sum-by}
 use Rattle.receiver_model.specs.Lists.{count, keep}
 use Rattle.receiver_model.proofs.Lists.{count-nil, count-here, count-there, count-cons, equal, other, compare-same}
-use Rattle.receiver_words.specs.Link.{Linked}
-use Rattle.receiver_words.specs.Ages.{Both, without}
+use Rattle.receiver_words.specs.Ages.{without}
 use Rattle.receiver_words.proofs.Rows.{stands-here, head-once, tail-once, without-here, without-there, without-absent}
 use Rattle.receiver_store.specs.Words.{placeOf, sizeOf}
 use Rattle.receiver_store.specs.Good.{Below}
@@ -50,12 +49,6 @@ sum-without g i (x ∷ xs) once h = elim (compare-same x i) [
       let b = sum-without g i xs (tail-once x xs once) (omega arith) in omega (arith, a, b))
 ]
 
--- a chain both ways, read from its last row
-pub back-linked : (next back : ℕ → ℕ) (q p l : ℕ) (xs ys : List ℕ) → Both next back q p l xs → Linked back q ys → Linked back l (onto xs ys)
-back-linked next back q p l [] ys (e, d) c = subst (λ (r : ℕ). Linked back r ys) (sym d) c
-back-linked next back q p l (x ∷ xs) ys (e, b, d, r) c =
-    back-linked next back x (next x) l xs (x ∷ ys) r (refl, b, subst (λ (t : ℕ). Linked back t ys) (sym d) c)
-
 -- ------------------------------------------------------------------ places that rise
 
 -- oldest first: each payload begins at or above the end of the one before, the first at or above `low`; the last ends at or below e
@@ -71,10 +64,6 @@ module _ (ws : List ℕ) where
   pub rising-end : (low : ℕ) (xs : List ℕ) (e : ℕ) → Rising ws low xs e → low ≤ e
   rising-end low [] e r = r
   rising-end low (x ∷ xs) e (a, r) = let b = rising-end (placeOf ws x + sizeOf ws x) xs e r in omega (arith, a, b)
-
-  pub rising-sum : (low : ℕ) (xs : List ℕ) (e : ℕ) → Rising ws low xs e → low + sum-by (sizeOf ws) xs ≤ e
-  rising-sum low [] e r = omega (arith, r)
-  rising-sum low (x ∷ xs) e (a, r) = let ih = rising-sum (placeOf ws x + sizeOf ws x) xs e r in omega (arith, a, ih)
 
   pub rising-in : (low : ℕ) (xs : List ℕ) (e y : ℕ) → Rising ws low xs e → 0 < count y xs → (low ≤ placeOf ws y) × (placeOf ws y + sizeOf ws y ≤ e)
   rising-in low [] e y r h = absurd (let z = count-nil y in omega arith)
@@ -103,21 +92,14 @@ module _ (ws : List ℕ) where
     | other ne ↦ (let c = count-there y x xs ne in let i = below-in (placeOf ws x) xs y b (omega arith) in omega (arith, a, i))
   ]
 
-  -- from the newest to the oldest, and the other way round
-  pub below-rising : (e : ℕ) (xs ys : List ℕ) (f : ℕ) → Below ws e xs → Rising ws e ys f → Rising ws 0 (onto xs ys) f
-  below-rising e [] ys f b r = rising-low e 0 ys f (omega arith) r
-  below-rising e (x ∷ xs) ys f (a, b) r = below-rising (placeOf ws x) xs (x ∷ ys) f b (omega arith, rising-low e (placeOf ws x + sizeOf ws x) ys f a r)
+  pub below-sum : (e : ℕ) (xs : List ℕ) → Below ws e xs → sum-by (sizeOf ws) xs ≤ e
+  below-sum e [] b = omega arith
+  below-sum e (x ∷ xs) (a, b) = let ih = below-sum (placeOf ws x) xs b in omega (arith, a, ih)
 
-  pub record Halves (xs ys : List ℕ) (f : ℕ) : Type 0 where
-    pub at : ℕ
-    pub first : Below ws at xs
-    pub second : Rising ws at ys f
-
-  pub rising-below : (xs ys : List ℕ) (f : ℕ) → Rising ws 0 (onto xs ys) f → Halves xs ys f
-  rising-below [] ys f r = record { at = 0; first = tt; second = r }
-  rising-below (x ∷ xs) ys f r =
-      let h = rising-below xs (x ∷ ys) f r in
-      record { at = placeOf ws x + sizeOf ws x; first = (omega arith, below-up (h .at) (placeOf ws x) xs (h .second .0) (h .first)); second = h .second .1 }
+  -- rows that rise from c on, above rows that lie below c
+  pub rising-onto : (c e : ℕ) (zs xs : List ℕ) → Rising ws c zs e → Below ws c xs → Below ws e (onto zs xs)
+  rising-onto c e [] xs r b = below-up c e xs r b
+  rising-onto c e (z ∷ zs) xs (a, r) b = rising-onto (placeOf ws z + sizeOf ws z) e zs (z ∷ xs) r (omega arith, below-up c (placeOf ws z) xs a b)
 
 -- rows whose places and lengths are the same
 pub below-frame : (ws ws′ : List ℕ) (e : ℕ) (xs : List ℕ) → ((x : ℕ) → 0 < count x xs → placeOf ws′ x ≡ placeOf ws x) → ((x : ℕ) → 0 < count x xs → sizeOf ws′ x ≡ sizeOf ws x)

@@ -1,35 +1,37 @@
--- Moving together keeps every payload, and leaves no gap; its test passes where the payloads are laid. Assumes nothing.
+-- Moving together keeps every payload, and leaves room at the end; where the payloads are laid, a start is found. Assumes nothing.
 use mathlib.Core.Path.{_≡_, refl, sym, ap, _∙_, subst}
 use mathlib.Core.Logic.{_⊎_, inl, inr}
 use mathlib.Core.Bool.{true, false}
 use mathlib.Core.List.{List, [], _∷_}
 use Prim.Native.Nat.{ℕ, zero, suc, _+_, _-_, _≤_, _<_}
 use native.Mathlib.Omega.{arith}
-use borrow.Author.Tests.{le-leb, lt-leb, le-ltb, eq-eqb, ne-eqb}
+use borrow.Author.Tests.{le-leb, lt-leb, eq-eqb, ne-eqb}
 use lib.ListN.{length, getD}
 use Rattle.payload_store.specs.Moving.{moved, Pack, pack}
 use Rattle.payload_store.specs.Putting.{Outcome, outcome}
+use Rattle.payload_store.proofs.Cases.{by-lt}
 use Rattle.payload_store.proofs.Moves.{moved-length, moved-other, moved-at, part-same}
 use Rattle.queue_model.specs.Table.{sum-by}
 use Rattle.receiver_model.specs.Lists.{count}
 use Rattle.receiver_model.proofs.Lists.{count-here, count-there, count-cons, equal, other, compare-same}
 use Rattle.receiver_words.specs.Tables.{Header, Links, wordAt, putWord}
 use Rattle.receiver_words.specs.Link.{Linked}
-use Rattle.receiver_words.specs.Ages.{Aged, older, newer}
+use Rattle.receiver_words.specs.Ages.{Both, Aged, older, newer}
 use Rattle.receiver_words.specs.Frames.{Frame}
 use Rattle.receiver_words.proofs.Laws.{word-put-same, word-put-beside, word-put-other, word-put-table}
 use Rattle.receiver_words.proofs.Linked.{linked-frame}
 use Rattle.receiver_words.proofs.Messages.{linked-rows}
 use Rattle.receiver_words.proofs.Rows.{stands-here, head-once, tail-once, not-among}
 use Rattle.receiver_words.proofs.Ages.{both-rows}
-use Rattle.receiver_words.proofs.Frames.{frame-none, frame-both, frame-link, frame-header}
-use Rattle.receiver_store.specs.Words.{placeOf, sizeOf, newerOf, newestOf, oldestOf, usedOf, endOf, payloadOf}
-use Rattle.receiver_store.specs.Packing.{misplaced, rises, packCode, moveRow, packFrom, packed, packStore}
+use Rattle.receiver_words.proofs.Frames.{frame-none, frame-both, frame-swap, frame-link, frame-header}
+use Rattle.receiver_store.specs.Words.{placeOf, sizeOf, olderOf, newerOf, newestOf, oldestOf, usedOf, endOf, payloadOf}
+use Rattle.receiver_store.specs.Packing.{misplaced, start, goalOf, startFrom, startOf, packCode, moveRow, packFrom, packed}
+use Rattle.receiver_store.specs.declared.packing.Start.{Start}
 use Rattle.receiver_store.specs.Good.{Below, Laid}
 use Rattle.receiver_store.specs.Promise.{Packed}
 use Rattle.receiver_store.proofs.Lies.{in-lies}
-use Rattle.receiver_store.proofs.Exits.{rows-kept, pack-done}
-use Rattle.receiver_store.proofs.Orders.{onto, count-onto, length-onto, sum-onto, sum-same, back-linked, Rising, rising-low, rising-end, rising-sum, rising-in, below-up, below-rising, rising-below, below-frame, rising-frame}
+use Rattle.receiver_store.proofs.Exits.{rows-kept, goal-above, goal-room}
+use Rattle.receiver_store.proofs.Orders.{onto, count-onto, length-onto, sum-same, Rising, rising-low, rising-end, rising-in, rising-onto, below-sum, below-in, below-frame, rising-frame}
 
 -- a row's payload is the same by its bytes
 pub payload-same : (ws st ws′ st′ : List ℕ) (i : ℕ) → sizeOf ws′ i ≡ sizeOf ws i → placeOf ws i + sizeOf ws i ≤ length st → placeOf ws′ i + sizeOf ws i ≤ length st′
@@ -41,27 +43,6 @@ payload-same ws st ws′ st′ i e h h′ f = rw e (part-same st st′ (placeOf 
 pub payload-words : (ws ws′ st : List ℕ) (i : ℕ) → placeOf ws′ i ≡ placeOf ws i → sizeOf ws′ i ≡ sizeOf ws i → payloadOf ws′ st i ≡ payloadOf ws st i
 unfolding payloadOf
 payload-words ws ws′ st i p s = rw (p, s)
-
--- ------------------------------------------------------------------ the test
-
-rise-on : (ws : List ℕ) (len x low left n : ℕ) → x < 4096 → low ≤ placeOf ws x → placeOf ws x + sizeOf ws x ≤ len → sizeOf ws x ≤ left
-    → rises ws len x low left (suc n) ≡ rises ws len (newerOf ws x) (placeOf ws x + sizeOf ws x) (left - sizeOf ws x) n
-unfolding rises
-rise-on ws len x low left n hx above inside some = rw (lt-leb 4096 x hx, in-lies low len (placeOf ws x) (sizeOf ws x) above inside, le-ltb left (sizeOf ws x) some)
-
-rise-done : (ws : List ℕ) (len p low left n : ℕ) → 4096 ≤ p → left ≡ 0 → rises ws len p low left (suc n) ≡ true
-unfolding rises
-rise-done ws len p low left n b z = rw (le-leb 4096 p b, eq-eqb left 0 z)
-
-pub rises-true : (ws : List ℕ) (len : ℕ) (zs : List ℕ) (p low left n e : ℕ) → Linked (newerOf ws) p zs → Rising ws low zs e → e ≤ len → left ≡ sum-by (sizeOf ws) zs → length zs < n
-    → rises ws len p low left n ≡ true
-rises-true ws len zs p low left zero e c r inside total short = absurd (omega arith)
-rises-true ws len [] p low left (suc n) e c r inside total short = rise-done ws len p low left n (omega (arith, c)) total
-rises-true ws len (x ∷ zs) p low left (suc n) e (ep, hx, c) (above, r) inside total short =
-    let ends : placeOf ws x + sizeOf ws x ≤ e = rising-end ws (placeOf ws x + sizeOf ws x) zs e r in
-    ap (λ (q : ℕ). rises ws len q low left (suc n)) ep
-    ∙ rise-on ws len x low left n hx above (omega (arith, ends, inside)) (omega (arith, total))
-    ∙ rises-true ws len zs (newerOf ws x) (placeOf ws x + sizeOf ws x) (left - sizeOf ws x) n e c r inside (omega (arith, total)) (omega arith)
 
 -- ------------------------------------------------------------------ one row
 
@@ -217,98 +198,181 @@ packs (x ∷ zs) (suc n) s p e long (ep, hx, c) once short (above, r) inside =
     subst (λ (t : Pack). Packs s (x ∷ zs) t) (sym (ap (packFrom (suc n) s) ep ∙ pack-goes n s x hx))
     (joined s (moveRow s x) (packFrom n (moveRow s x) (newerOf (s .words) x)) x zs e hx rows new r above inside m q)
 
+-- ------------------------------------------------------------------ where it begins
+
+start-bottom : (n : ℕ) (ws : List ℕ) (goal p row high sum : ℕ) → 4096 ≤ p → sum ≤ goal → startFrom (suc n) ws goal p row high sum ≡ start true row 0 sum
+unfolding startFrom
+start-bottom n ws goal p row high sum h g = rw (le-leb 4096 p h, le-leb sum goal g)
+
+module _ (n : ℕ) (ws : List ℕ) (goal x row high sum : ℕ) (hx : x < 4096) (inside : placeOf ws x + sizeOf ws x ≤ high) where
+  abbrev top : ℕ
+  top = placeOf ws x + sizeOf ws x
+
+  lies-below : misplaced 0 high (placeOf ws x) (sizeOf ws x) ≡ false
+  lies-below = in-lies 0 high (placeOf ws x) (sizeOf ws x) (omega arith) inside
+
+  start-stops : top + sum ≤ goal → startFrom (suc n) ws goal x row high sum ≡ start true row top (top + sum)
+  unfolding startFrom
+  start-stops g = rw (lt-leb 4096 x hx, lies-below, le-leb (top + sum) goal g)
+
+  start-goes : goal < top + sum → startFrom (suc n) ws goal x row high sum ≡ startFrom n ws goal (olderOf ws x) x (placeOf ws x) (sum + sizeOf ws x)
+  unfolding startFrom
+  start-goes g = rw (lt-leb 4096 x hx, lies-below, lt-leb (top + sum) goal g)
+
+-- it is found: the rows `moving`, oldest first, rise from the cursor on; the rows `staying`, newest first, lie below it; together they are the held rows
+record Begins (ws held : List ℕ) (goal e : ℕ) (s : Start) : Type 0 where
+  moving : List ℕ
+  staying : List ℕ
+  found : s .found ≡ true
+  split : onto moving staying ≡ held
+  chain : Linked (newerOf ws) (s .row) moving
+  climbs : Rising ws (s .cursor) moving e
+  under : Below ws (s .cursor) staying
+  end-is : s .end ≡ s .cursor + sum-by (sizeOf ws) moving
+  low : s .end ≤ goal
+
+module _ (ws held : List ℕ) (goal e : ℕ) where
+  begins : (n : ℕ) (xs zs : List ℕ) (p row high sum last : ℕ) → Both (older ws) (newer ws) row p last xs → Linked (newerOf ws) row zs → Below ws high xs → Rising ws high zs e
+      → sum ≡ sum-by (sizeOf ws) zs → onto zs xs ≡ held → sum-by (sizeOf ws) xs + sum ≤ goal → length xs < n → Begins ws held goal e (startFrom n ws goal p row high sum)
+  begins zero xs zs p row high sum last c k b r es eh g short = absurd (omega arith)
+  begins (suc n) [] zs p row high sum last c k b r es eh g short =
+      subst (λ (s : Start). Begins ws held goal e s) (sym (start-bottom n ws goal p row high sum (omega (arith, c .0)) (omega arith))) (record {
+        moving = zs;
+        staying = [];
+        found = refl;
+        split = eh;
+        chain = k;
+        climbs = rising-low ws high 0 zs e (omega arith) r;
+        under = tt;
+        end-is = omega arith;
+        low = omega arith;
+      })
+  begins (suc n) (x ∷ xs) zs p row high sum last (ep, hx, up, c) k (a, b) r es eh g short =
+      ap-p
+      (by-lt goal (placeOf ws x + sizeOf ws x + sum)
+      (λ f. subst (λ (s : Start). Begins ws held goal e s) (sym (start-goes n ws goal x row high sum hx a f))
+      (begins n xs (x ∷ zs) (older ws x) x (placeOf ws x) (sum + sizeOf ws x) last c (refl, hx, subst (λ (q : ℕ). Linked (newerOf ws) q zs) (sym up) k) b
+      (omega arith, rising-low ws high (placeOf ws x + sizeOf ws x) zs e a r) (omega arith) eh (omega arith) (omega arith)))
+      (λ f. subst (λ (s : Start). Begins ws held goal e s) (sym (start-stops n ws goal x row high sum hx a f)) (record {
+        moving = zs;
+        staying = x ∷ xs;
+        found = refl;
+        split = eh;
+        chain = k;
+        climbs = rising-low ws high (placeOf ws x + sizeOf ws x) zs e a r;
+        under = (omega arith, b);
+        end-is = omega arith;
+        low = f;
+      })))
+    where
+      ap-p : Begins ws held goal e (startFrom (suc n) ws goal x row high sum) → Begins ws held goal e (startFrom (suc n) ws goal p row high sum)
+      ap-p h = subst (λ (q : ℕ). Begins ws held goal e (startFrom (suc n) ws goal q row high sum)) (sym ep) h
+
 -- ------------------------------------------------------------------ where the payloads are laid
 
 module _ (ws st held : List ℕ) (l : Laid ws st held) (aged : Aged ws held) (once : (y : ℕ) → count y held ≤ 1) (short : length held ≤ 4096) where
-  abbrev zs : List ℕ
-  zs = onto held []
-
-  abbrev t : Pack
-  t = packFrom 4096 (pack ws st 0) (oldestOf ws)
-
-  counted : (y : ℕ) → count y zs ≡ count y held
-  unfolding count
-  counted y = let a = count-onto y held [] in omega arith
-
-  chain : Linked (newerOf ws) (oldestOf ws) zs
-  chain = back-linked (older ws) (newer ws) 4096 (newestOf ws) (oldestOf ws) held [] aged refl
-
-  climbs : Rising ws 0 zs (endOf ws)
-  climbs = below-rising ws (endOf ws) held [] (endOf ws) (l .below) (omega arith)
-
-  total : sum-by (sizeOf ws) zs ≡ usedOf ws
-  total = let a = sum-onto (sizeOf ws) held [] in let b = l .used-is in omega arith
-
-  fits : length zs ≤ 4096
-  fits = let a = length-onto held [] in omega arith
-
-  walked : Packs (pack ws st 0) zs t
-  walked = packs zs 4096 (pack ws st 0) (oldestOf ws) (endOf ws) (l .long) chain (λ y. let a = counted y in let b = once y in omega arith) fits climbs (l .end-in)
-
-  abbrev ws′ : List ℕ
-  ws′ = putWord Header (t .words) 0 6 (usedOf ws)
-
-  -- the last store changes no link and no other word of the header
-  last-frame : Frame (t .words) ws′ 5 6 0 1
-  last-frame = record {
-    long = f .long;
-    header = λ m a b c. f .header m a c b;
-    links = λ x m a b c d. f .links x m a b d c;
-    words = f .words;
-    tables = f .tables;
-  }
-    where
-      f : Frame (t .words) ws′ 6 5 1 0
-      f = frame-header (t .words) (usedOf ws) 6 5 1 0 (omega arith)
-
-  link-same : (x k : ℕ) → x < 4096 → k < 8 → wordAt Links ws′ x k ≡ wordAt Links (t .words) x k
-  link-same x k hx hk = word-put-table Header Links (t .words) 0 6 (usedOf ws) x k refl (omega arith) hx (omega arith) hk
-
-  row : (x : ℕ) → 0 < count x held → x < 4096
-  row x h = both-rows (older ws) (newer ws) (oldestOf ws) 4096 (newestOf ws) held aged x h
-
-  cursor-is : t .cursor ≡ usedOf ws
-  cursor-is = let a = walked .cursor-is in omega (arith, a, total)
-
   pub used-in : usedOf ws ≤ length st
-  used-in = let a = rising-sum ws 0 zs (endOf ws) climbs in omega (arith, a, total, l .end-in)
+  used-in = let a = below-sum ws (endOf ws) held (l .below) in omega (arith, a, l .used-is, l .end-in)
 
-  end-is : endOf ws′ ≡ usedOf ws
-  end-is = word-put-same Header (t .words) 0 6 (usedOf ws) (walked .frame .long ∙ l .long) (omega arith) (omega arith)
+  module _ (n : ℕ) (fits : usedOf ws + n ≤ length st) where
+    abbrev goal : ℕ
+    goal = goalOf (usedOf ws) (length st) n
 
-  used-same : usedOf ws′ ≡ usedOf ws
-  used-same = word-put-beside Header (t .words) 0 6 (usedOf ws) 5 (λ z. omega arith) ∙ rows-kept 4096 (pack ws st 0) (oldestOf ws) .header 5 (omega arith)
+    abbrev b : Start
+    b = startOf ws (length st) n
 
-  -- the payloads end where the used bytes do
-  down : Below (t .words) (usedOf ws) held
-  down =
-      let h = rising-below (t .words) held [] (t .cursor) (walked .rising) in
-      below-up (t .words) (h .at) (usedOf ws) held (omega (arith, h .second, cursor-is)) (h .first)
+    started : Begins ws held goal (endOf ws) b
+    unfolding startOf
+    started =
+        begins ws held goal (endOf ws) 4097 held [] (newestOf ws) 4096 (endOf ws) 0 (oldestOf ws) aged refl (l .below) (omega arith) refl refl
+        (omega (arith, l .used-is, goal-above (usedOf ws) (length st) n)) (omega arith)
 
-  pub packed-law : Packed ws st held (packed ws st)
-  unfolding packed
-  packed-law = record {
-    accepted = refl;
-    laid = record {
-      long = last-frame .long ∙ walked .frame .long ∙ l .long;
-      end-in = omega (arith, end-is, used-in, walked .same);
-      below = subst (λ (e : ℕ). Below ws′ e held) (sym end-is)
-          (below-frame (t .words) ws′ (usedOf ws) held (λ x h. link-same x 0 (row x h) (omega arith)) (λ x h. link-same x 1 (row x h) (omega arith)) down);
-      used-is = used-same ∙ l .used-is ∙ sym (sum-same (sizeOf ws) (sizeOf ws′) held (λ x h. link-same x 1 (row x h) (omega arith) ∙ walked .sizes x (row x h)));
-    };
-    together = end-is;
-    used = used-same;
-    same = walked .same;
-    sizes = λ x hx. link-same x 1 hx (omega arith) ∙ walked .sizes x hx;
-    payloads = λ x h. payload-words (t .words) ws′ (t .store) x (link-same x 0 (row x h) (omega arith)) (link-same x 1 (row x h) (omega arith))
-        ∙ walked .payloads x (let a = counted x in omega arith);
-    frame = frame-both ws (t .words) ws′ 5 6 0 1 (walked .frame) last-frame;
-  }
+    abbrev zs : List ℕ
+    zs = started .moving
 
-  -- the test of moving together passes
-  pub pack-code-zero : packCode ws (length st) ≡ 0
-  unfolding packCode
-  pack-code-zero = rw (rises-true ws (length st) zs (oldestOf ws) 0 (usedOf ws) 4097 (endOf ws) chain climbs (l .end-in) (sym total) (omega (arith, fits)))
+    abbrev xs : List ℕ
+    xs = started .staying
 
-  pub pack-law : Packed ws st held (packStore ws st)
-  pack-law = subst (λ (o : Outcome). Packed ws st held o) (pack-done ws st 0 (sym pack-code-zero) (packed ws st) (omega arith) refl) packed-law
+    abbrev t : Pack
+    t = packFrom 4096 (pack ws st (b .cursor)) (b .row)
+
+    counted : (y : ℕ) → count y zs + count y xs ≡ count y held
+    counted y = sym (count-onto y zs xs) ∙ ap (count y) (started .split)
+
+    row : (x : ℕ) → 0 < count x held → x < 4096
+    row x h = both-rows (older ws) (newer ws) (oldestOf ws) 4096 (newestOf ws) held aged x h
+
+    few : length zs ≤ 4096
+    few = let a = length-onto zs xs in let e = ap length (started .split) in omega (arith, a, e, short)
+
+    walked : Packs (pack ws st (b .cursor)) zs t
+    walked = packs zs 4096 (pack ws st (b .cursor)) (b .row) (endOf ws) (l .long) (started .chain) (λ y. let a = counted y in let o = once y in omega arith) few (started .climbs) (l .end-in)
+
+    abbrev ws′ : List ℕ
+    ws′ = putWord Header (t .words) 0 6 (b .end)
+
+    -- the last store changes no link and no other word of the header
+    last-frame : Frame (t .words) ws′ 5 6 0 1
+    last-frame = frame-swap (t .words) ws′ 6 5 1 0 (frame-header (t .words) (b .end) 6 5 1 0 (omega arith))
+
+    link-same : (x k : ℕ) → x < 4096 → k < 8 → wordAt Links ws′ x k ≡ wordAt Links (t .words) x k
+    link-same x k hx hk = word-put-table Header Links (t .words) 0 6 (b .end) x k refl (omega arith) hx (omega arith) hk
+
+    end-is : endOf ws′ ≡ b .end
+    end-is = word-put-same Header (t .words) 0 6 (b .end) (walked .frame .long ∙ l .long) (omega arith) (omega arith)
+
+    used-same : usedOf ws′ ≡ usedOf ws
+    used-same = word-put-beside Header (t .words) 0 6 (b .end) 5 (λ z. omega arith) ∙ rows-kept 4096 (pack ws st (b .cursor)) (b .row) .header 5 (omega arith)
+
+    room : b .end + n ≤ length st
+    room = omega (arith, started .low, goal-room (usedOf ws) (length st) n fits)
+
+    -- a row that stays is none of those that move
+    apart : (x : ℕ) → 0 < count x xs → count x zs ≡ 0
+    apart x h = let a = counted x in let o = once x in omega arith
+
+    stays-row : (x : ℕ) → 0 < count x xs → x < 4096
+    stays-row x h = row x (let a = counted x in omega arith)
+
+    down : Below (t .words) (b .end) held
+    down = subst (λ (ys : List ℕ). Below (t .words) (b .end) ys) (started .split)
+        (subst (λ (e : ℕ). Below (t .words) e (onto zs xs)) (walked .cursor-is ∙ sym (started .end-is))
+        (rising-onto (t .words) (b .cursor) (t .cursor) zs xs (walked .rising)
+        (below-frame ws (t .words) (b .cursor) xs (λ x h. walked .others x (apart x h)) (λ x h. walked .sizes x (stays-row x h)) (started .under))))
+
+    -- a row that stays has its payload
+    stayed : (x : ℕ) → 0 < count x xs → payloadOf (t .words) (t .store) x ≡ payloadOf ws st x
+    stayed x h =
+        let p : placeOf (t .words) x ≡ placeOf ws x = walked .others x (apart x h) in
+        let i : placeOf ws x + sizeOf ws x ≤ b .cursor = below-in ws (b .cursor) xs x (started .under) h in
+        let c : b .cursor ≤ endOf ws = rising-end ws (b .cursor) zs (endOf ws) (started .climbs) in
+        payload-same ws st (t .words) (t .store) x (walked .sizes x (stays-row x h)) (omega (arith, i, c, l .end-in)) (omega (arith, p, i, c, l .end-in, walked .same))
+        (λ j k. ap (λ (u : ℕ). getD (t .store) (u + j) 0) p ∙ walked .under (placeOf ws x + j) (omega (arith, i, k)))
+
+    kept : (x : ℕ) → 0 < count x held → payloadOf (t .words) (t .store) x ≡ payloadOf ws st x
+    kept x h = by-lt 0 (count x zs) (λ m. walked .payloads x m) (λ m. stayed x (let a = counted x in omega arith))
+
+    pub packed-law : Packed ws st held n (packed ws st n)
+    unfolding packed
+    packed-law = record {
+      accepted = refl;
+      laid = record {
+        long = last-frame .long ∙ walked .frame .long ∙ l .long;
+        end-in = omega (arith, end-is, room, walked .same);
+        below = subst (λ (e : ℕ). Below ws′ e held) (sym end-is)
+            (below-frame (t .words) ws′ (b .end) held (λ x h. link-same x 0 (row x h) (omega arith)) (λ x h. link-same x 1 (row x h) (omega arith)) down);
+        used-is = used-same ∙ l .used-is ∙ sym (sum-same (sizeOf ws) (sizeOf ws′) held (λ x h. link-same x 1 (row x h) (omega arith) ∙ walked .sizes x (row x h)));
+      };
+      half = omega (arith, end-is, started .low);
+      roomy = omega (arith, end-is, room);
+      used = used-same;
+      same = walked .same;
+      sizes = λ x hx. link-same x 1 hx (omega arith) ∙ walked .sizes x hx;
+      payloads = λ x h. payload-words (t .words) ws′ (t .store) x (link-same x 0 (row x h) (omega arith)) (link-same x 1 (row x h) (omega arith)) ∙ kept x h;
+      frame = frame-both ws (t .words) ws′ 5 6 0 1 (walked .frame) last-frame;
+    }
+
+    -- the test of moving together passes
+    pub pack-code-zero : packCode ws (length st) n ≡ 0
+    unfolding packCode
+    pack-code-zero = rw (started .found)

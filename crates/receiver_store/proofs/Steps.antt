@@ -5,53 +5,56 @@ use mathlib.Core.List.{List, [], _∷_}
 use Prim.Native.Nat.{ℕ, zero, suc, _+_, _-_, _≤_, _<_}
 use native.Mathlib.Omega.{arith}
 use borrow.Author.Tests.{le-leb, lt-leb, lt-ltb, le-ltb, eq-eqb, ne-eqb}
-use lib.Dec.{eqb}
+use lib.Dec.{leb, eqb}
 use lib.ListN.{length, getD, drop, drop-of-length-le}
 use lib.Seq.{drop-cons}
 use Rattle.receiver_model.specs.Lists.{same-list}
 use Rattle.payload_store.specs.Moving.{Pack}
-use Rattle.receiver_store.specs.Words.{placeOf, sizeOf, newerOf}
-use Rattle.receiver_store.specs.Packing.{misplaced, rises, moveRow, packFrom}
+use Rattle.receiver_store.specs.Words.{placeOf, sizeOf, olderOf, newerOf}
+use Rattle.receiver_store.specs.Packing.{misplaced, start, nowhere, startFrom, moveRow, packFrom}
+use Rattle.receiver_store.specs.declared.packing.Start.{Start}
 
--- ------------------------------------------------------------------ rows_rise
+-- ------------------------------------------------------------------ find_start
 
-module _ (ws : List ℕ) (len p low left n : ℕ) (r : Bool) (h : n < 4097) (inv : rises ws len p low left (4097 - n) ≡ r) where
+module _ (ws : List ℕ) (goal p row high sum n : ℕ) (r : Start) (h : n < 4097) (inv : startFrom (4097 - n) ws goal p row high sum ≡ r) where
   s : 4097 - n ≡ suc (4097 - (n + 1))
   s = omega arith
 
-  pub rise-none : 4096 ≤ p → eqb left 0 ≡ r
-  unfolding rises
-  rise-none g =
-      let w : rises ws len p low left (4097 - n) ≡ eqb left 0 = rw (s, le-leb _ _ g) in
+  pub start-none : 4096 ≤ p → start (leb sum goal) row 0 sum ≡ r
+  unfolding startFrom
+  start-none g =
+      let w : startFrom (4097 - n) ws goal p row high sum ≡ start (leb sum goal) row 0 sum = rw (s, le-leb _ _ g) in
       sym w ∙ inv
 
-  module _ (place size : ℕ) (out : Bool) (g : p < 4096) (ep : place ≡ placeOf ws p) (es : size ≡ sizeOf ws p) (eo : out ≡ misplaced low len place size) where
-    m : misplaced low len (placeOf ws p) (sizeOf ws p) ≡ out
+  module _ (place size : ℕ) (out : Bool) (g : p < 4096) (ep : place ≡ placeOf ws p) (es : size ≡ sizeOf ws p) (eo : out ≡ misplaced 0 high place size) where
+    m : misplaced 0 high (placeOf ws p) (sizeOf ws p) ≡ out
     m = rw (← ep, ← es) (sym eo)
 
-    pub rise-out : out ≡ true → false ≡ r
-    unfolding rises
-    rise-out t =
-        let w : rises ws len p low left (4097 - n) ≡ false = rw (s, lt-leb _ _ g, m, t) in
+    pub start-out : out ≡ true → nowhere ≡ r
+    unfolding startFrom
+    start-out t =
+        let w : startFrom (4097 - n) ws goal p row high sum ≡ nowhere = rw (s, lt-leb _ _ g, m, t) in
         sym w ∙ inv
 
-    pub rise-over : out ≡ false → left < size → false ≡ r
-    unfolding rises
-    rise-over t o =
-        let w : rises ws len p low left (4097 - n) ≡ false = rw (s, lt-leb _ _ g, m, t, ← es, lt-ltb _ _ o) in
-        sym w ∙ inv
+    pub start-here : out ≡ false → place + size + sum ≤ goal → start true row (place + size) (place + size + sum) ≡ r
+    unfolding startFrom
+    start-here t o =
+        let w : startFrom (4097 - n) ws goal p row high sum ≡ start true row (placeOf ws p + sizeOf ws p) (placeOf ws p + sizeOf ws p + sum) =
+        rw (s, lt-leb _ _ g, m, t, le-leb _ _ (rw (ep, es) at o)) in
+        rw (ep, es) (sym w ∙ inv)
 
-    pub rise-next : (v : ℕ) → out ≡ false → size ≤ left → v ≡ newerOf ws p → rises ws len v (place + size) (left - size) (4097 - (n + 1)) ≡ r
-    unfolding rises
-    rise-next v t o ev =
-        let w : rises ws len p low left (4097 - n) ≡ rises ws len (newerOf ws p) (placeOf ws p + sizeOf ws p) (left - sizeOf ws p) (4097 - (n + 1)) = rw (s, lt-leb _ _ g, m, t, le-ltb _ _ (rw es at o)) in
+    pub start-next : (v : ℕ) → out ≡ false → goal < place + size + sum → v ≡ olderOf ws p → startFrom (4097 - (n + 1)) ws goal v p place (sum + size) ≡ r
+    unfolding startFrom
+    start-next v t o ev =
+        let w : startFrom (4097 - n) ws goal p row high sum ≡ startFrom (4097 - (n + 1)) ws goal (olderOf ws p) p (placeOf ws p) (sum + sizeOf ws p) =
+        rw (s, lt-leb _ _ g, m, t, lt-leb _ _ (rw (ep, es) at o)) in
         rw (ev, ep, es) (sym w ∙ inv)
 
-pub rise-end : (ws : List ℕ) (len p low left n : ℕ) (r : Bool) → 4097 ≤ n → rises ws len p low left (4097 - n) ≡ r → false ≡ r
-unfolding rises
-rise-end ws len p low left n r h inv =
+pub start-end : (ws : List ℕ) (goal p row high sum n : ℕ) (r : Start) → 4097 ≤ n → startFrom (4097 - n) ws goal p row high sum ≡ r → nowhere ≡ r
+unfolding startFrom
+start-end ws goal p row high sum n r h inv =
     let s : 4097 - n ≡ 0 = omega arith in
-    let w : rises ws len p low left (4097 - n) ≡ false = rw s in
+    let w : startFrom (4097 - n) ws goal p row high sum ≡ nowhere = rw s in
     sym w ∙ inv
 
 -- ------------------------------------------------------------------ move_rows

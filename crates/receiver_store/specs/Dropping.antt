@@ -1,21 +1,27 @@
 -- Dropping a payload: its test, and what it leaves, for any words. Assumes nothing.
 use mathlib.Core.List.{List}
-use Prim.Native.Nat.{ℕ, _-_}
+use Prim.Native.Nat.{ℕ, _+_, _-_}
 use lib.Dec.{ltb, leb}
 use Rattle.queue_words.specs.Flags.{pick}
 use Rattle.receiver_words.specs.Tables.{Header, putWord}
-use Rattle.receiver_store.specs.Words.{sizeOf, newestOf, usedOf}
+use Rattle.receiver_store.specs.Words.{placeOf, sizeOf, newestOf, usedOf, endOf}
+use Rattle.receiver_store.specs.Packing.{misplaced}
 
 -- 16: "an amount would fall below 0".
 -- may row i's bytes be freed: 0, else 16
 unfoldable pub dropCode : List ℕ → ℕ → ℕ
 dropCode ws i = pick (ltb (usedOf ws) (sizeOf ws i)) 16 0
 
--- row i's bytes are free; where no row is held any more, the used part ends at 0
+-- where the payload of the newest held row ends: 0 where none is held; the end stays where that is not in the used part
+unfoldable pub heldEnd : List ℕ → ℕ
+heldEnd ws =
+    pick (leb 4096 (newestOf ws)) 0
+    (pick (misplaced 0 (endOf ws) (placeOf ws (newestOf ws)) (sizeOf ws (newestOf ws))) (endOf ws)
+    (placeOf ws (newestOf ws) + sizeOf ws (newestOf ws)))
+
+-- row i's bytes are free, and the used part ends with the newest row
 unfoldable pub released : List ℕ → ℕ → List ℕ
-released ws i =
-    let ws′ = putWord Header ws 0 5 (usedOf ws - sizeOf ws i) in
-    pick (leb 4096 (newestOf ws)) (putWord Header ws′ 0 6 0) ws′
+released ws i = putWord Header (putWord Header ws 0 5 (usedOf ws - sizeOf ws i)) 0 6 (heldEnd ws)
 
 -- the whole call; refused, it leaves the words as they were
 unfoldable pub dropPayload : List ℕ → ℕ → List ℕ

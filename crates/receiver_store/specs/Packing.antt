@@ -1,32 +1,48 @@
--- Moving the payloads together along the age chain: its test, and what it leaves, for any words and any store. Assumes nothing.
+-- Moving the newest payloads together along the age chain: where it begins, its test, and what it leaves, for any words and any store. Assumes nothing.
 use mathlib.Core.Bool.{Bool, true, false}
 use mathlib.Core.List.{List}
-use Prim.Native.Nat.{ℕ, zero, suc, _+_, _-_}
+use Prim.Native.Nat.{ℕ, zero, suc, _+_, _-_, _/_}
 use lib.Dec.{ltb, leb, eqb}
 use lib.ListN.{length}
 use Rattle.queue_words.specs.Flags.{pick}
 use Rattle.payload_store.specs.Moving.{moved, Pack, pack}
 use Rattle.payload_store.specs.Putting.{Outcome, outcome}
 use Rattle.receiver_words.specs.Tables.{Header, Links, putWord}
-use Rattle.receiver_store.specs.Words.{placeOf, sizeOf, newerOf, oldestOf, usedOf}
+use Rattle.receiver_store.specs.Words.{placeOf, sizeOf, olderOf, newerOf, newestOf, usedOf, endOf}
+use Rattle.receiver_store.specs.declared.packing.Start.{Start}
 
 -- 16: "a place kept in the state lies outside its table".
 -- a payload begins below `low`, or does not lie in a store of len bytes
 unfoldable pub misplaced : ℕ → ℕ → ℕ → ℕ → Bool
 misplaced low len place size = pick (ltb place low) true (pick (ltb len size) true (ltb (len - size) place))
 
--- do the payloads of the rows from p on, fewer than n of them, lie in a store of len bytes, each at or above the end of the one before, the first at or above `low`; and are they `left` bytes together
-unfoldable pub rises : List ℕ → ℕ → ℕ → ℕ → ℕ → ℕ → Bool
-rises ws len p low left zero = false
-rises ws len p low left (suc n) =
-    pick (leb 4096 p) (eqb left 0)
-    (pick (misplaced low len (placeOf ws p) (sizeOf ws p)) false
-    (pick (ltb left (sizeOf ws p)) false
-    (rises ws len (newerOf ws p) (placeOf ws p + sizeOf ws p) (left - sizeOf ws p) n)))
+abbrev pub start : Bool → ℕ → ℕ → ℕ → Start
+start found row cursor end = record { found = found; row = row; cursor = cursor; end = end }
 
--- may the payloads be moved together: they rise along the age chain, which ends, and are as many bytes as are used
-unfoldable pub packCode : List ℕ → ℕ → ℕ
-packCode ws len = pick (rises ws len (oldestOf ws) 0 (usedOf ws) 4097) 0 16
+abbrev pub nowhere : Start
+nowhere = start false 4096 0 0
+
+-- where the used part is to end before n bytes are put into a store of len bytes: half of the bytes that stay free are behind them then
+unfoldable pub goalOf : ℕ → ℕ → ℕ → ℕ
+goalOf used len n = used + (len - used - n) / 2
+
+-- from row p down, the older ones, at most n of them: the first above which the rows, moved together, end at or below the goal. `row` is the one above p, its payload begins at `high`, and the rows from it on have `sum` bytes.
+-- None where the chain ends or goes in a circle before, or a payload does not lie below the one above it
+unfoldable pub startFrom : ℕ → List ℕ → ℕ → ℕ → ℕ → ℕ → ℕ → Start
+startFrom zero ws goal p row high sum = nowhere
+startFrom (suc n) ws goal p row high sum =
+    pick (leb 4096 p) (start (leb sum goal) row 0 sum)
+    (pick (misplaced 0 high (placeOf ws p) (sizeOf ws p)) nowhere
+    (pick (leb (placeOf ws p + sizeOf ws p + sum) goal) (start true row (placeOf ws p + sizeOf ws p) (placeOf ws p + sizeOf ws p + sum))
+    (startFrom n ws goal (olderOf ws p) p (placeOf ws p) (sum + sizeOf ws p))))
+
+-- from the newest row down
+unfoldable pub startOf : List ℕ → ℕ → ℕ → Start
+startOf ws len n = startFrom 4097 ws (goalOf (usedOf ws) len n) (newestOf ws) 4096 (endOf ws) 0
+
+-- may the payloads be moved together for one of n bytes
+unfoldable pub packCode : List ℕ → ℕ → ℕ → ℕ
+packCode ws len n = pick (startOf ws len n .found) 0 16
 
 -- row p's payload goes down to the cursor, which passes it; one that lies there stays, and so does one that is misplaced
 unfoldable pub moveRow : Pack → ℕ → Pack
@@ -43,12 +59,9 @@ unfoldable pub packFrom : ℕ → Pack → ℕ → Pack
 packFrom zero s p = s
 packFrom (suc n) s p = pick (leb 4096 p) s (packFrom n (moveRow s p) (newerOf (s .words) p))
 
--- from the oldest row on, as many as the table has; the used part then ends where the used bytes do: "free bytes count together, however scattered"
-unfoldable pub packed : List ℕ → List ℕ → Outcome
-packed ws st =
-    let s = packFrom 4096 (pack ws st 0) (oldestOf ws) in
-    outcome 0 (putWord Header (s .words) 0 6 (usedOf ws)) (s .store)
-
--- the whole call; refused, it leaves words and store as they were
-unfoldable pub packStore : List ℕ → List ℕ → Outcome
-packStore ws st = pick (ltb 0 (packCode ws (length st))) (outcome (packCode ws (length st)) ws st) (packed ws st)
+-- the rows from the start on, as many as the table has; the used part then ends where they do: "free bytes count together, however scattered"
+unfoldable pub packed : List ℕ → List ℕ → ℕ → Outcome
+packed ws st n =
+    let b = startOf ws (length st) n in
+    let s = packFrom 4096 (pack ws st (b .cursor)) (b .row) in
+    outcome 0 (putWord Header (s .words) 0 6 (b .end)) (s .store)

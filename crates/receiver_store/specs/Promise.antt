@@ -1,19 +1,21 @@
 -- What the calls promise where the payloads of the held rows are laid. Assumes nothing.
 use mathlib.Core.Path.{_≡_}
 use mathlib.Core.List.{List, _∷_}
-use Prim.Native.Nat.{ℕ, _+_, _<_}
+use Prim.Native.Nat.{ℕ, _+_, _≤_, _<_}
 use lib.ListN.{length}
 use Rattle.payload_store.specs.Putting.{Outcome}
 use Rattle.receiver_model.specs.Lists.{count}
 use Rattle.receiver_words.specs.Frames.{Frame}
 use Rattle.receiver_store.specs.Words.{sizeOf, usedOf, endOf, payloadOf}
+use Rattle.receiver_store.specs.Packing.{goalOf}
 use Rattle.receiver_store.specs.Good.{Laid}
 
--- moved together: every held row has its payload, and the free bytes are one gap, from the used bytes on
-pub record Packed (ws st held : List ℕ) (o : Outcome) : Type 0 where
+-- moved together for a payload of n bytes: every held row has its payload; the n bytes have room at the end, and half of those that stay free have it behind them
+pub record Packed (ws st held : List ℕ) (n : ℕ) (o : Outcome) : Type 0 where
   pub accepted : o .answer ≡ 0
   pub laid : Laid (o .words) (o .store) held
-  pub together : endOf (o .words) ≡ usedOf ws
+  pub half : endOf (o .words) ≤ goalOf (usedOf ws) (length st) n
+  pub roomy : endOf (o .words) + n ≤ length st
   pub used : usedOf (o .words) ≡ usedOf ws
   pub same : length (o .store) ≡ length st
   pub sizes : (x : ℕ) → x < 4096 → sizeOf (o .words) x ≡ sizeOf ws x

@@ -17,7 +17,7 @@ roomCode ws len n =
     (pick (ltb (len - usedOf ws) n) 23
     (pick (ltb len (endOf ws)) 16
     (pick (leb n (len - endOf ws)) 0
-    (packCode ws len))))
+    (packCode ws len n))))
 
 -- row i's payload is bs, put at the end of the used part
 unfoldable pub placed : List ℕ → List ℕ → ℕ → List ℕ → Outcome
@@ -31,4 +31,4 @@ unfoldable pub putPayload : List ℕ → List ℕ → ℕ → List ℕ → Outco
 putPayload ws st i bs =
     pick (ltb 0 (roomCode ws (length st) (length bs))) (outcome (roomCode ws (length st) (length bs)) ws st)
     (pick (leb (length bs) (length st - endOf ws)) (placed ws st i bs)
-    (placed (packed ws st .words) (packed ws st .store) i bs))
+    (placed (packed ws st (length bs) .words) (packed ws st (length bs) .store) i bs))

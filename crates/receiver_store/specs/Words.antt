@@ -11,7 +11,10 @@ placeOf ws i = wordAt Links ws i 0
 abbrev pub sizeOf : List ℕ → ℕ → ℕ
 sizeOf ws i = wordAt Links ws i 1
 
--- the held row accepted after row i; the newest and the oldest held row: 4096 for none
+-- the held row accepted before row i, and after it; the newest and the oldest held row: 4096 for none
+abbrev pub olderOf : List ℕ → ℕ → ℕ
+olderOf ws i = wordAt Links ws i 3
+
 abbrev pub newerOf : List ℕ → ℕ → ℕ
 newerOf ws i = wordAt Links ws i 4
 

@@ -1,9 +1,10 @@
 // The store of the receiving head (7/13): the payloads of the held fragments lie whole in one lent slice of bytes.
 //
 // A row's links say where its payload lies and how long it is; the header says how many bytes are used and where the used part ends. A
-// new payload goes to that end, so the places rise along the age chain, from the oldest row to the newest. Where the end has no room and the
-// free bytes suffice, the payloads are first moved together, in one walk along the chain (src/packing): that moves at most the bytes that
-// are held, and has been paid for by adding as many bytes as were then free. Every function is total: words that no receiver has get the answer 16, and nothing is changed.
+// new payload goes to that end, so the places rise along the age chain, from the oldest row to the newest, and when rows leave, the used part
+// ends with the newest that is left. Where the end has no room and the free bytes suffice, the newest payloads are first moved together
+// (src/packing), from the first row on below which no gap is needed: half of the bytes that stay free are at the end then, so as many bytes come
+// before it happens again. Every function is total: words that no receiver has get the answer 16, and nothing is changed.
 pub mod comparing;
 pub mod packing;
 pub mod places;
@@ -15,7 +16,7 @@ ghost use Rattle.payload_store.specs.Putting.{outcome};
 ghost use Rattle.receiver_store.specs.Words.{usedOf, endOf};
 ghost use Rattle.receiver_store.specs.Putting.{roomCode, placed, putPayload};
 ghost use Rattle.receiver_store.specs.Reading.{readCode, readPayload, sameCode};
-ghost use Rattle.receiver_store.specs.Dropping.{dropCode, dropPayload};
+ghost use Rattle.receiver_store.specs.Dropping.{dropCode, heldEnd, dropPayload};
 use comparing::same_bytes;
 use packing::move_together;
 use packing::pack_code;
@@ -51,7 +52,7 @@ pub fn room_code(receiver: &[u64; RECEIVER_WORDS], len: u64, n: u64) -> u8
     if n <= len - end {
         return 0;
     }
-    pack_code(receiver, len)
+    pack_code(receiver, len, n)
 }
 
 // The payload goes to the end of the used part.
@@ -96,7 +97,7 @@ pub fn put_payload(
     if n <= len - end {
         return place_payload(receiver, store, i, payload);
     }
-    move_together(receiver, store);
+    move_together(receiver, store, n);
     place_payload(receiver, store, i, payload)
 }
 
@@ -175,6 +176,24 @@ pub fn drop_code(receiver: &[u64; RECEIVER_WORDS], i: usize) -> u8
     0
 }
 
+// Where the payload of the newest held row ends: 0 where none is held; the used part's end, where it lies outside that. Reads only.
+fn held_end(receiver: &[u64; RECEIVER_WORDS]) -> u64
+    ensures { λ r. ⌜ r ≡ heldEnd (now (receiver .entry)) ⌝ }
+{
+    let newest = load_header(receiver, NEWEST);
+    if newest >= 4096 {
+        return 0;
+    }
+    let end = load_header(receiver, END);
+    let place = load_link(receiver, newest as usize, PLACE);
+    let size = load_link(receiver, newest as usize, LENGTH);
+    let out = misplaced(0, end, place, size);
+    if out {
+        return end;
+    }
+    place + size
+}
+
 // Frees the bytes of row i, which has left the age chain. 0: done. 16: more than are used, and nothing is changed.
 pub fn drop_payload(receiver: &mut [u64; RECEIVER_WORDS], i: usize) -> u8
     requires { ⌜ i < 4096 ⌝ }
@@ -186,11 +205,8 @@ pub fn drop_payload(receiver: &mut [u64; RECEIVER_WORDS], i: usize) -> u8
     }
     let size = load_link(&*receiver, i, LENGTH);
     let used = load_header(&*receiver, USED);
-    let newest = load_header(&*receiver, NEWEST);
+    let end = held_end(&*receiver);
     store_header(receiver, USED, used - size);
-    if newest >= 4096 {
-        store_header(receiver, END, 0);
-        return 0;
-    }
+    store_header(receiver, END, end);
     0
 }

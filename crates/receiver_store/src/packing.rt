@@ -1,18 +1,20 @@
-// Moving the payloads together, towards 0, along the age chain from the oldest row on.
+// Moving the payloads together, towards 0: as many of the newest rows as it takes, along the age chain.
 ghost use mathlib.Core.Path.{_≡_};
-ghost use Prim.Native.Nat.{_<_};
+ghost use Prim.Native.Nat.{_+_, _<_, _≤_};
 ghost use lib.ListN.{length};
 ghost use Rattle.payload_store.specs.Moving.{pack};
 ghost use Rattle.payload_store.specs.Putting.{outcome};
-ghost use Rattle.receiver_store.specs.Words.{usedOf, oldestOf};
-ghost use Rattle.receiver_store.specs.Packing.{rises, packCode, moveRow, packFrom, packed, packStore};
+ghost use Rattle.receiver_store.specs.Words.{usedOf};
+ghost use Rattle.receiver_store.specs.Packing.{goalOf, startFrom, startOf, packCode, moveRow, packFrom, packed};
 use crate::places::misplaced;
 use payload_store::move_down;
 use receiver_words::RECEIVER_WORDS;
 use receiver_words::cells::END;
 use receiver_words::cells::LENGTH;
 use receiver_words::cells::NEWER;
-use receiver_words::cells::OLDEST;
+use receiver_words::cells::NEWEST;
+use receiver_words::cells::NO_ROW;
+use receiver_words::cells::OLDER;
 use receiver_words::cells::PLACE;
 use receiver_words::cells::USED;
 use receiver_words::cells::load_header;
@@ -23,43 +25,94 @@ use receiver_words::cells::store_link;
 // One more than the rows of the table: a chain that has not ended then goes in a circle.
 const TURNS: usize = 4097;
 
-// Do the payloads of the rows from p on lie in a store of len bytes, each at or above the end of the one before; and are they `used` bytes together? Reads only.
-fn rows_rise(receiver: &[u64; RECEIVER_WORDS], len: u64, oldest: u64, used: u64) -> bool
-    ensures { λ r. ⌜ r ≡ rises (now (receiver .entry)) len oldest 0 used 4097 ⌝ }
+// Where moving together begins: whether it can, the first row that moves (4096: none), the byte that it goes to, and where the used part ends then.
+pub struct Start {
+    pub found: bool,
+    pub row: u64,
+    pub cursor: u64,
+    pub end: u64,
+}
+
+// Where the used part is to end before n bytes are put: with half of the bytes that stay free behind them.
+fn goal_of(used: u64, len: u64, n: u64) -> u64
+    requires { ⌜ used + n ≤ len ⌝ }
+    ensures { λ r. ⌜ r ≡ goalOf used len n ⌝ }
 {
-    let mut p = oldest;
-    let mut low = 0u64;
-    let mut left = used;
+    used + (len - used - n) / 2
+}
+
+// From the newest row down to one above which the gaps suffice: the rows above it then end at or below the goal. Reads only.
+fn find_start(receiver: &[u64; RECEIVER_WORDS], goal: u64, newest: u64, end: u64) -> Start
+    ensures { λ r. ⌜ r ≡ startFrom 4097 (now (receiver .entry)) goal newest 4096 end 0 ⌝ }
+{
+    let mut p = newest;
+    let mut row = NO_ROW;
+    let mut high = end;
+    let mut sum = 0u64;
     let mut n: usize = 0;
     while n < TURNS {
         if p >= 4096 {
-            return left == 0;
+            return Start {
+                found: sum <= goal,
+                row: row,
+                cursor: 0,
+                end: sum,
+            };
         }
         let place = load_link(receiver, p as usize, PLACE);
         let size = load_link(receiver, p as usize, LENGTH);
-        let out = misplaced(low, len, place, size);
+        let out = misplaced(0, high, place, size);
         if out {
-            return false;
+            return Start {
+                found: false,
+                row: NO_ROW,
+                cursor: 0,
+                end: 0,
+            };
         }
-        if size > left {
-            return false;
+        let top = place + size;
+        let after = top + sum;
+        if after <= goal {
+            return Start {
+                found: true,
+                row: row,
+                cursor: top,
+                end: after,
+            };
         }
-        low = place + size;
-        left -= size;
-        p = load_link(receiver, p as usize, NEWER);
+        row = p;
+        high = place;
+        sum += size;
+        p = load_link(receiver, p as usize, OLDER);
         n += 1;
     }
-    false
+    Start {
+        found: false,
+        row: NO_ROW,
+        cursor: 0,
+        end: 0,
+    }
 }
 
-// May the payloads be moved together in a store of len bytes: 0, else 16. Reads only.
-pub fn pack_code(receiver: &[u64; RECEIVER_WORDS], len: u64) -> u8
-    ensures { λ r. ⌜ r ≡ packCode (now (receiver .entry)) len ⌝ }
+// Where moving together begins for a payload of n bytes in a store of len bytes. Reads only.
+fn start_of(receiver: &[u64; RECEIVER_WORDS], len: u64, n: u64) -> Start
+    requires { ⌜ usedOf (now receiver) + n ≤ len ⌝ }
+    ensures { λ r. ⌜ r ≡ startOf (now (receiver .entry)) len n ⌝ }
 {
-    let oldest = load_header(receiver, OLDEST);
     let used = load_header(receiver, USED);
-    let rise = rows_rise(receiver, len, oldest, used);
-    if rise {
+    let goal = goal_of(used, len, n);
+    let newest = load_header(receiver, NEWEST);
+    let end = load_header(receiver, END);
+    find_start(receiver, goal, newest, end)
+}
+
+// May the payloads be moved together for one of n bytes in a store of len bytes: 0, else 16. Reads only.
+pub fn pack_code(receiver: &[u64; RECEIVER_WORDS], len: u64, n: u64) -> u8
+    requires { ⌜ usedOf (now receiver) + n ≤ len ⌝ }
+    ensures { λ r. ⌜ r ≡ packCode (now (receiver .entry)) len n ⌝ }
+{
+    let s = start_of(receiver, len, n);
+    if s.found {
         return 0;
     }
     16
@@ -84,12 +137,12 @@ fn move_row(receiver: &mut [u64; RECEIVER_WORDS], store: &mut [u8], cursor: u64,
     cursor + size
 }
 
-// All rows from p on. Answers where their payloads end then.
-fn move_rows(receiver: &mut [u64; RECEIVER_WORDS], store: &mut [u8], oldest: u64) -> u64
-    ensures { λ r. ⌜ pack (now (receiver .exit)) (now (store .exit)) r ≡ packFrom 4096 (pack (now (receiver .entry)) (now (store .entry)) 0) oldest ⌝ }
+// The rows from `first` on, the first to the cursor `to`. Answers where their payloads end then.
+fn move_rows(receiver: &mut [u64; RECEIVER_WORDS], store: &mut [u8], first: u64, to: u64) -> u64
+    ensures { λ r. ⌜ pack (now (receiver .exit)) (now (store .exit)) r ≡ packFrom 4096 (pack (now (receiver .entry)) (now (store .entry)) to) first ⌝ }
 {
-    let mut p = oldest;
-    let mut cursor = 0u64;
+    let mut p = first;
+    let mut cursor = to;
     let mut n: usize = 0;
     while n < 4096 {
         if p >= 4096 {
@@ -103,24 +156,12 @@ fn move_rows(receiver: &mut [u64; RECEIVER_WORDS], store: &mut [u8], oldest: u64
     cursor
 }
 
-// All held rows; the used part then ends where the used bytes do.
-pub fn move_together(receiver: &mut [u64; RECEIVER_WORDS], store: &mut [u8])
-    ensures { λ _. ⌜ outcome 0 (now (receiver .exit)) (now (store .exit)) ≡ packed (now (receiver .entry)) (now (store .entry)) ⌝ }
+// Moves payloads together, so that one of n bytes has room at the end.
+pub fn move_together(receiver: &mut [u64; RECEIVER_WORDS], store: &mut [u8], n: u64)
+    requires { ⌜ usedOf (now receiver) + n ≤ length (now store) ⌝ }
+    ensures { λ _. ⌜ outcome 0 (now (receiver .exit)) (now (store .exit)) ≡ packed (now (receiver .entry)) (now (store .entry)) n ⌝ }
 {
-    let oldest = load_header(&*receiver, OLDEST);
-    let used = load_header(&*receiver, USED);
-    move_rows(receiver, store, oldest);
-    store_header(receiver, END, used);
-}
-
-// Moves the payloads together where the words are those of a receiver. 0: done. 16: damaged, and nothing is changed.
-pub fn pack(receiver: &mut [u64; RECEIVER_WORDS], store: &mut [u8]) -> u8
-    ensures { λ r. ⌜ outcome r (now (receiver .exit)) (now (store .exit)) ≡ packStore (now (receiver .entry)) (now (store .entry)) ⌝ }
-{
-    let code = pack_code(&*receiver, store.len() as u64);
-    if code > 0 {
-        return code;
-    }
-    move_together(receiver, store);
-    0
+    let s = start_of(&*receiver, store.len() as u64, n);
+    move_rows(receiver, store, s.row, s.cursor);
+    store_header(receiver, END, s.end);
 }

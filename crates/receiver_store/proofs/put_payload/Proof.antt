@@ -2,7 +2,7 @@
 use borrow.Author.Needs.{needs}
 use native.Mathlib.Omega.{arith}
 use mathlib.Core.Path.{_≡_, ap, _∙_}
-use Rattle.receiver_store.proofs.Exits.{put-refused, put-at-end, put-packed, room-at-end, room-packed, placed-length, together-kept, sub-end}
+use Rattle.receiver_store.proofs.Exits.{put-room, put-refused, put-at-end, put-packed, room-at-end, room-packed, placed-length, together-kept, sub-end}
 use Rattle.receiver_store.proofs.put_payload.Statement.{statement}
 use Rattle.receiver_store.proofs.put_payload.Tie as tie
 
@@ -21,13 +21,16 @@ same-length c = placed-length _ _ _ _ (c .before .before .before .before .before
 returns-2 : tie.Need-returns-2
 returns-2 c = put-at-end _ _ _ _ _ (c .before .before .before .before .before .before .before .before .before .room-code .ensures) _ _ (c .before .before .before .before .before .before .before .before .if1 .left) (c .before .before .before .before .before .before .load-header .ensures) (c .before .before .before .before .before .if2 .taken) (c .before .before .place-payload .ensures)
 
+move-together-requires : tie.Need-move-together-requires
+move-together-requires c κs = put-room _ _ _ _ (c .before .before .before .before .before .before .room-code .ensures) (c .before .before .before .before .before .if1 .left) .0
+
 place-payload-requires-2 : tie.Need-place-payload-requires-2
-place-payload-requires-2 c κs = room-packed _ (c .before .before .before .before .before .before .before .before .before .before .before .before .before .before .before .before .before .args .store .now) (c .before .before .before .before .before .before .before .before .before .before .before .before .before .before .before .before .before .args .payload .now) _ _ _ _ (c .before .before .before .before .before .before .before .before .before .before .before .before .before .before .before .before .before .pre) (c .before .before .before .before .before .before .before .before .before .before .before .before .before .whole .ensures) (c .before .before .before .before .before .before .before .before .before .before .before .room-code .ensures) (c .before .before .before .before .before .before .before .before .before .before .if1 .left) (c .before .before .before .before .move-together .ensures)
+place-payload-requires-2 c κs = room-packed _ (c .before .before .before .before .before .before .before .before .before .before .before .before .before .before .before .before .before .args .store .now) (c .before .before .before .before .before .before .before .before .before .before .before .before .before .before .before .before .before .args .payload .now) _ _ _ _ _ (c .before .before .before .before .before .before .before .before .before .before .before .before .before .before .before .before .before .pre) (c .before .before .before .before .before .before .before .before .before .before .before .before .before .whole .ensures) (c .before .before .before .before .before .before .before .before .before .before .before .room-code .ensures) (c .before .before .before .before .before .before .before .before .before .before .if1 .left) (c .before .before .before .before .before .before .before .before .load-header .ensures) (c .before .before .before .before .before .before .before .if2 .left) (c .before .before .before .before .move-together .ensures)
 
 same-length-2 : tie.Need-same-length-2
 same-length-2 c =
-    placed-length _ _ _ _ (c .before .before .before .before .before .before .before .before .before .before .before .before .before .before .before .before .before .before .before .before .args .payload .now) _ _ (room-packed _ (c .before .before .before .before .before .before .before .before .before .before .before .before .before .before .before .before .before .before .before .before .args .store .now) (c .before .before .before .before .before .before .before .before .before .before .before .before .before .before .before .before .before .before .before .before .args .payload .now) _ _ _ _ (c .before .before .before .before .before .before .before .before .before .before .before .before .before .before .before .before .before .before .before .before .pre) (c .before .before .before .before .before .before .before .before .before .before .before .before .before .before .before .before .whole .ensures) (c .before .before .before .before .before .before .before .before .before .before .before .before .before .before .room-code .ensures) (c .before .before .before .before .before .before .before .before .before .before .before .before .before .if1 .left) (c .before .before .before .before .before .before .before .move-together .ensures) .1) (c .before .before .place-payload2 .ensures)
-    ∙ together-kept _ _ _ _ (c .before .before .before .before .before .before .before .move-together .ensures) .1
+    placed-length _ _ _ _ (c .before .before .before .before .before .before .before .before .before .before .before .before .before .before .before .before .before .before .before .before .args .payload .now) _ _ (room-packed _ (c .before .before .before .before .before .before .before .before .before .before .before .before .before .before .before .before .before .before .before .before .args .store .now) (c .before .before .before .before .before .before .before .before .before .before .before .before .before .before .before .before .before .before .before .before .args .payload .now) _ _ _ _ _ (c .before .before .before .before .before .before .before .before .before .before .before .before .before .before .before .before .before .before .before .before .pre) (c .before .before .before .before .before .before .before .before .before .before .before .before .before .before .before .before .whole .ensures) (c .before .before .before .before .before .before .before .before .before .before .before .before .before .before .room-code .ensures) (c .before .before .before .before .before .before .before .before .before .before .before .before .before .if1 .left) (c .before .before .before .before .before .before .before .before .before .before .before .load-header .ensures) (c .before .before .before .before .before .before .before .before .before .before .if2 .left) (c .before .before .before .before .before .before .before .move-together .ensures) .1) (c .before .before .place-payload2 .ensures)
+    ∙ together-kept _ _ _ _ _ (c .before .before .before .before .before .before .before .move-together .ensures) .1
 
 returns-3 : tie.Need-returns-3
 returns-3 c = put-packed _ _ _ _ _ (c .before .before .before .before .before .before .before .before .before .before .before .before .before .before .room-code .ensures) _ _ _ _ (c .before .before .before .before .before .before .before .before .before .before .before .before .before .if1 .left) (c .before .before .before .before .before .before .before .before .before .before .before .load-header .ensures) (c .before .before .before .before .before .before .before .before .before .before .if2 .left) (c .before .before .before .before .before .before .before .move-together .ensures) (c .before .before .place-payload2 .ensures)
@@ -44,7 +47,7 @@ put-payload-spec =
     place-payload-requires
     same-length
     returns-2
-    (λ c. search needs)
+    move-together-requires
     place-payload-requires-2
     same-length-2
     returns-3)

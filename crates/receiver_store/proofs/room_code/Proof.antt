@@ -1,5 +1,6 @@
 -- `receiver_store::room_code` meets its contract: each return is what its definition says, by what the calls ensure and the tests taken. Assumes nothing.
 use borrow.Author.Needs.{needs}
+use native.Mathlib.Omega.{arith}
 use borrow.Author.Tests.{le-leb, le-ltb, lt-leb, lt-ltb}
 use Rattle.receiver_store.specs.Putting.{roomCode}
 use Rattle.receiver_store.proofs.room_code.Statement.{statement}
@@ -58,6 +59,9 @@ returns-5 c =
       ← (c .pack-code .ensures),
     )
 
+pack-code-requires : tie.Need-pack-code-requires
+pack-code-requires c κs = omega (arith, c .before .before .before .before .before .load-header .ensures, c .before .before .before .before .if1 .left, c .before .before .before .if2 .left)
+
 pub room-code-spec : {M : Type 1} → statement M
 room-code-spec =
     tie.close
@@ -68,5 +72,5 @@ room-code-spec =
     (λ c. search needs)
     returns-3
     returns-4
-    (λ c. search needs)
+    pack-code-requires
     returns-5)

@@ -11,11 +11,11 @@ use Rattle.receiver_store.proofs.packing.move_rows.Statement.{statement
 use Rattle.receiver_store.proofs.packing.move_rows.Tie as tie
 
 abbrev Inv-loop : tie.InvT-loop
-Inv-loop receiver₀ store₀ oldest p₀ cursor₀ n₀ receiver store p cursor n =
-    (n ≤ 4096) × (length store ≡ length store₀) × (packFrom (4096 - n) (pack receiver store cursor) p ≡ packFrom 4096 (pack receiver₀ store₀ 0) oldest)
+Inv-loop receiver₀ store₀ first to p₀ cursor₀ n₀ receiver store p cursor n =
+    (n ≤ 4096) × (length store ≡ length store₀) × (packFrom (4096 - n) (pack receiver store cursor) p ≡ packFrom 4096 (pack receiver₀ store₀ to) first)
 
 abbrev μ-loop : tie.MeasureT-loop
-μ-loop receiver₀ store₀ oldest p₀ cursor₀ n₀ receiver store p cursor n = 4096 - n
+μ-loop receiver₀ store₀ first to p₀ cursor₀ n₀ receiver store p cursor n = 4096 - n
 
 loop-holds : tie.Need-loop-holds Inv-loop μ-loop
 loop-holds c = (omega arith, refl, refl)

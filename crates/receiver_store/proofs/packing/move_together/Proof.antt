@@ -6,16 +6,15 @@ use Rattle.receiver_store.proofs.packing.move_together.Statement.{state
 use Rattle.receiver_store.proofs.packing.move_together.Tie as tie
 
 same-length : tie.Need-same-length
-same-length c = rows-same-length _ _ _ _ _ _ (c .before .before .before .before .move-rows .ensures)
+same-length c = rows-same-length _ _ _ _ _ _ _ (c .before .before .before .before .move-rows .ensures)
 
 returns : tie.Need-returns
-returns c = all-moved _ _ _ _ _ _ _ _ (c .before .before .before .before .before .before .before .before .before .load-header .ensures) (c .before .before .before .before .before .before .before .load-header2 .ensures) (c .before .before .before .before .move-rows .ensures) (c .store-header .ensures)
+returns c = all-moved _ _ _ _ _ _ _ _ (c .before .before .before .before .before .before .before .start-of .ensures) (c .before .before .before .before .move-rows .ensures) (c .store-header .ensures)
 
 pub move-together-spec : {M : Type 1} → statement M
 move-together-spec =
     tie.close
     (tie.spec
-    (λ c. search needs)
     (λ c. search needs)
     (λ c. search needs)
     (λ c. search needs)

@@ -8,9 +8,7 @@ returns : tie.Need-returns
 unfolding packCode
 returns c =
     rw (
-      ← (c .before .before .before .load-header .ensures),
-      ← (c .before .before .load-header2 .ensures),
-      ← (c .before .rows-rise .ensures),
+      ← (c .before .start-of .ensures),
       (c .if1 .taken),
     )
 
@@ -18,9 +16,7 @@ returns-2 : tie.Need-returns-2
 unfolding packCode
 returns-2 c =
     rw (
-      ← (c .before .before .before .load-header .ensures),
-      ← (c .before .before .load-header2 .ensures),
-      ← (c .before .rows-rise .ensures),
+      ← (c .before .start-of .ensures),
       (c .if1 .left),
     )
 
@@ -28,8 +24,6 @@ pub pack-code-spec : {M : Type 1} → statement M
 pack-code-spec =
     tie.close
     (tie.spec
-    (λ c. search needs)
-    (λ c. search needs)
     (λ c. search needs)
     returns
     returns-2)
