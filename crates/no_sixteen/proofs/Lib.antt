@@ -1,0 +1,6 @@
+-- Refusal 16. Assumes nothing.
+pub mod Calls
+pub mod Saving
+pub mod Handler
+pub mod Receiver
+pub mod NoSixteen
