@@ -131,6 +131,17 @@ module _ (ws : List ℕ) (id p : ℕ) (r : Place) (er : r ≡ lookUp ws id) wher
   unfolding setPriority
   priority-refused n e = rw (← er, e)
 
+pub priority-put : (ws : List ℕ) (row p : ℕ) (s : OutgoingStream) (l : List ℕ) → s ≡ streamAt ws row → l ≡ putStream ws row (withPriority s p) → l ≡ putStream ws row (withPriority (streamAt ws row) p)
+priority-put ws row p s l es el = rw (el, es)
+
+pub priority-made : (ws : List ℕ) (position id p : ℕ) (o : Options) (s : OutgoingStream) (l : List ℕ) → o ≡ optionsAt ws → s ≡ newStream o → l ≡ inserted ws position id (withPriority s p)
+    → l ≡ inserted ws position id (withPriority (newStream (optionsAt ws)) p)
+priority-made ws position id p o s l eo es el = rw (el, es, eo)
+
+pub threshold-made : (ws : List ℕ) (position id t : ℕ) (o : Options) (s : OutgoingStream) (l : List ℕ) → o ≡ optionsAt ws → s ≡ newStream o → l ≡ inserted ws position id (withThreshold s t)
+    → l ≡ inserted ws position id (withThreshold (newStream (optionsAt ws)) t)
+threshold-made ws position id t o s l eo es el = rw (el, es, eo)
+
 pub raised-below : (amount old new : ℕ) → old < amount → leb amount new ≡ raised amount old new
 raised-below amount old new h = rw (lt-ltb _ _ h)
 

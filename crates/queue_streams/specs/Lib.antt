@@ -7,3 +7,4 @@ pub mod Waiting
 pub mod Restart
 pub mod Commit
 pub mod Settled
+pub mod Owned

@@ -4,6 +4,7 @@ pub mod answers;
 mod commit;
 pub mod events;
 pub mod known;
+pub mod owned;
 pub mod restart;
 pub mod settings;
 pub mod waiting;

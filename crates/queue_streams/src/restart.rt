@@ -4,6 +4,8 @@ ghost use mathlib.Core.Path.{_≡_};
 ghost use Prim.Native.Nat.{_<_, _≤_};
 ghost use Rattle.queue_streams.specs.Settings.{called};
 ghost use Rattle.queue_streams.specs.Restart.{opened, reopenedIn, reopenedAt, reopenedAll, reopen, switchedAt, switchedAll, alike, setInterleaving};
+ghost use Rattle.queue_streams.specs.Waiting.{roomFor};
+ghost use Rattle.queue_streams.specs.declared.answers.Call.the-variants.{Accepted};
 ghost use Rattle.queue_words.specs.Known.{knownAt};
 use crate::answers::Call;
 use crate::commit::commit_all;
@@ -92,13 +94,21 @@ fn reopen_all(queue: &mut [u64; QUEUE_WORDS], zeroed: bool, interleaving: bool, 
     }
 }
 
+// The resetting streams opened, where their places are in their tables and the rows suffice.
+pub fn reopen_own(queue: &mut [u64; QUEUE_WORDS], zeroed: bool)
+    requires { ⌜ roomFor (now queue) false ≡ true ⌝ }
+    ensures { λ _. ⌜ called (Accepted 0) (now (queue .exit)) ≡ reopen zeroed (now (queue .entry)) ⌝ }
+{
+    let t = load_totals(&*queue);
+    reopen_all(queue, zeroed, t.interleaving, t.known as usize);
+}
+
 fn reopen_streams(queue: &mut [u64; QUEUE_WORDS], zeroed: bool) -> Call
     ensures { λ r. ⌜ called r (now (queue .exit)) ≡ reopen zeroed (now (queue .entry)) ⌝ }
 {
     let room = room_for(&*queue, false);
     if room {
-        let t = load_totals(&*queue);
-        reopen_all(queue, zeroed, t.interleaving, t.known as usize);
+        reopen_own(queue, zeroed);
         return Call::Accepted(0);
     }
     Call::Refused(16)
@@ -156,21 +166,33 @@ fn same_choice(a: bool, b: bool) -> bool
     !b
 }
 
-// "setting the choice it has changes nothing"; else every stream's weight is read.
+// "setting the choice it has changes nothing"; else every stream's weight is read, where the places are in their tables and the rows suffice.
+pub fn switch_own(queue: &mut [u64; QUEUE_WORDS], enabled: bool)
+    requires { ⌜ roomFor (now queue) true ≡ true ⌝ }
+    ensures { λ _. ⌜ called (Accepted 0) (now (queue .exit)) ≡ setInterleaving enabled (now (queue .entry)) ⌝ }
+{
+    let mut t = load_totals(&*queue);
+    let same = same_choice(enabled, t.interleaving);
+    if same {
+        return;
+    }
+    let n = t.known as usize;
+    t.interleaving = enabled;
+    store_totals(queue, t);
+    switch_all(queue, enabled, n);
+}
+
 pub fn enable_message_interleaving(queue: &mut [u64; QUEUE_WORDS], enabled: bool) -> Call
     ensures { λ r. ⌜ called r (now (queue .exit)) ≡ setInterleaving enabled (now (queue .entry)) ⌝ }
 {
-    let mut t = load_totals(&*queue);
+    let t = load_totals(&*queue);
     let same = same_choice(enabled, t.interleaving);
     if same {
         return Call::Accepted(0);
     }
     let room = room_for(&*queue, true);
     if room {
-        let n = t.known as usize;
-        t.interleaving = enabled;
-        store_totals(queue, t);
-        switch_all(queue, enabled, n);
+        switch_own(queue, enabled);
         return Call::Accepted(0);
     }
     Call::Refused(16)

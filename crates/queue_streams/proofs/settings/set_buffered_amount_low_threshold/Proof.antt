@@ -1,5 +1,5 @@
 -- `queue_streams::settings::set_buffered_amount_low_threshold` meets its contract: each return is a case of `setThreshold` (proofs/Exits.antt). Assumes nothing.
-use mathlib.Core.Path.{sym, _∙_}
+use mathlib.Core.Path.{sym, refl, _∙_}
 use borrow.Author.Needs.{needs}
 use Rattle.queue_streams.proofs.Exits.{look-row, look-new, threshold-few, threshold-row, threshold-new, threshold-refused}
 use Rattle.queue_streams.proofs.settings.set_buffered_amount_low_threshold.Statement.{statement}
@@ -11,14 +11,14 @@ returns c = threshold-few _ _ _ _ (c .if1 .taken)
 set-threshold-in-requires : tie.Need-set-threshold-in-requires
 set-threshold-in-requires c κs = (look-row _ _ _ (sym (c .before .before .before .before .before .look-up .ensures) ∙ (c .before .before .before .place .given .1)), (c .before .before .before .before .before .before .before .if1 .left))
 
-insert-stream-requires : tie.Need-insert-stream-requires
-insert-stream-requires c κs = look-new _ _ _ (sym (c .before .before .before .before .before .before .before .look-up .ensures) ∙ (c .before .before .before .before .before .place2 .given .1))
+set-threshold-of-new-requires : tie.Need-set-threshold-of-new-requires
+set-threshold-of-new-requires c κs = look-new _ _ _ (sym (c .before .before .before .before .look-up .ensures) ∙ (c .before .before .place2 .given .1))
 
 returns-2 : tie.Need-returns-2
 returns-2 c = threshold-row _ _ _ _ (c .before .before .before .before .before .before .before .before .before .before .if1 .left) _ (c .before .before .before .before .before .before .before .before .look-up .ensures) _ _ _ _ (c .before .before .before .before .before .before .place .given .1) (c .before .before .set-threshold-in .ensures)
 
 returns-3 : tie.Need-returns-3
-returns-3 c = threshold-new _ _ _ _ (c .before .before .before .before .before .before .before .before .before .before .if1 .left) _ (c .before .before .before .before .before .before .before .before .look-up .ensures) _ _ _ _ (c .before .before .before .before .before .before .place2 .given .1) (c .before .before .before .load-options .ensures) (c .before .before .new-stream .ensures) (c .insert-stream .ensures)
+returns-3 c = threshold-new _ _ _ _ (c .before .before .before .before .before .before .before .if1 .left) _ (c .before .before .before .before .before .look-up .ensures) _ _ _ _ (c .before .before .before .place2 .given .1) refl refl (c .set-threshold-of-new .ensures)
 
 returns-4 : tie.Need-returns-4
 returns-4 c = threshold-refused _ _ _ _ (c .before .before .before .before .before .if1 .left) _ (c .before .before .before .look-up .ensures) _ (c .before .place3 .given .1)
@@ -32,9 +32,7 @@ set-buffered-amount-low-threshold-spec =
     (λ c. search needs)
     set-threshold-in-requires
     (λ c. search needs)
-    (λ c κs. search needs)
-    (λ c κs. search needs)
-    insert-stream-requires
+    set-threshold-of-new-requires
     (λ c. search needs)
     (λ c. search needs)
     returns-2
