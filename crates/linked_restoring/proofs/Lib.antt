@@ -11,6 +11,7 @@ pub mod Recalls
 pub mod Unused
 pub mod Parts
 pub mod Accepts
+pub mod Settled
 pub mod Answers
 pub mod Restores
 pub mod Meets

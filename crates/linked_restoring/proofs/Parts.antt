@@ -1,4 +1,4 @@
--- Restoring an image that keeps the rules, on the words of a queue that knows no stream: all parts, and the queue they leave. Assumes nothing.
+-- Restoring an image that keeps the rules, on any words: all parts, and the queue they leave, whatever the tables held before; that of a queue that knows no stream. Assumes nothing.
 use mathlib.Core.Path.{_≡_, refl, sym, ap, _∙_, subst}
 use mathlib.Core.List.{List, []}
 use Prim.Native.Nat.{ℕ, zero, suc, _*_, _≤_, _<_}
@@ -18,7 +18,8 @@ use Rattle.queue_model.specs.Restore as restore
 use Rattle.stream_scheduler.specs.Link.{modelScheduler}
 use Rattle.queue_streams.specs.Known.{withKnown}
 use Rattle.queue_state.specs.Model.{optionsOf, streamIn, streamsIn, model, tab}
-use Rattle.queue_state.specs.Good.{Shape, Good}
+use Rattle.queue_model.specs.Well.{Well}
+use Rattle.queue_state.specs.Good.{Shape}
 use Rattle.queue_state.proofs.Rooms.{Listing, AllKnown}
 use Rattle.queue_state.proofs.Singles.{model-is, model-options, model-interleaving, model-streams}
 use Rattle.handover_records.specs.Positions.{streamRecordAt, streamsFrom, messagesFrom}
@@ -30,6 +31,7 @@ use Rattle.linked_restoring.proofs.AllRecords.{Within, Limits, restored
 use Rattle.handover.specs.Restore.{recalledBy}
 use Rattle.linked_restoring.proofs.Waits.{AllWait, all-wait}
 use Rattle.linked_restoring.proofs.Recalls.{Recalled, all-recalled}
+use Rattle.linked_restoring.specs.Settled.{unused}
 use Rattle.linked_restoring.proofs.Unused.{unused-scheduler}
 
 -- What an image is known to hold: ns stream records from its start, nm message records from sz on, and the next message id.
@@ -73,7 +75,7 @@ pub record Parts (ws st : List ℕ) (time : ℕ) (h : Handover) (us ut : List �
   pub options : optionsAt us ≡ optionsAt ws
   pub next : model us ut ≡ restore.restored time h (model ws st)
 
-module _ (ws st : List ℕ) (g : Good ws st) (none-known : totalsAt ws .known ≡ 0) (small : length st ≤ 2000000) (bs : List ℕ) (bytes : T (areBytes bs)) (time ns sz nm next : ℕ) (h : Handover)
+module _ (ws st : List ℕ) (long : length ws ≡ 20768) (small : length st ≤ 2000000) (bs : List ℕ) (bytes : T (areBytes bs)) (time ns sz nm next : ℕ) (h : Handover)
     (holds : Holds bs ns sz nm next h) (limits : Limits ((restore.restored time h (model ws st)) .streams) (length st)) where
   abbrev o : plain.Options
   o = optionsOf (optionsAt ws)
@@ -88,23 +90,23 @@ module _ (ws st : List ℕ) (g : Good ws st) (none-known : totalsAt ws .known �
   x = partsOf ws st time bs ns sz nm next
 
   empty-known : totalsAt es .known ≡ 0
-  empty-known = ap (λ (t : Totals). t .known) (empty-totals ws st next (g .shape .long) (holds .next-fits))
+  empty-known = ap (λ (t : Totals). t .known) (empty-totals ws st next long (holds .next-fits))
 
   -- ---- the streams
 
   streams-in : Behind es st bs ns vs
-  streams-in = behind es st (empty-shape ws st next (g .shape .long) (holds .next-fits)) empty-known bs bytes ns (holds .streams-few) (holds .streams-inside) (holds .ids-rise)
+  streams-in = behind es st (empty-shape ws st next long (holds .next-fits)) empty-known bs bytes ns (holds .streams-few) (holds .streams-inside) (holds .ids-rise)
 
   options-vs : optionsAt vs ≡ optionsAt ws
-  options-vs = streams-in .options ∙ empty-options ws st next (g .shape .long) (holds .next-fits)
+  options-vs = streams-in .options ∙ empty-options ws st next long (holds .next-fits)
 
   totals-vs : totalsAt vs ≡ withKnown (emptyTotals (totalsAt ws) next) ns
-  totals-vs = streams-in .totals ∙ ap (λ (t : Totals). withKnown t ns) (empty-totals ws st next (g .shape .long) (holds .next-fits))
+  totals-vs = streams-in .totals ∙ ap (λ (t : Totals). withKnown t ns) (empty-totals ws st next long (holds .next-fits))
 
   streams-vs : streamsIn vs st ≡ restore-streams o (h .streams)
   streams-vs =
-      behind-model es st (empty-shape ws st next (g .shape .long) (holds .next-fits)) empty-known bs bytes ns vs streams-in
-      ∙ rw (empty-options ws st next (g .shape .long) (holds .next-fits), holds .streams-are)
+      behind-model es st (empty-shape ws st next long (holds .next-fits)) empty-known bs bytes ns vs streams-in
+      ∙ rw (empty-options ws st next long (holds .next-fits), holds .streams-are)
 
   total-vs : totalsAt vs .total ≡ 0
   total-vs = ap (λ (t : Totals). t .total) totals-vs
@@ -133,14 +135,7 @@ module _ (ws st : List ℕ) (g : Good ws st) (none-known : totalsAt ws .known �
   -- ---- the scheduler
 
   scheduler-x : modelScheduler (x .words) ≡ new-scheduler (optionsAt ws .«payload_limit»)
-  scheduler-x = messages-in .scheduler ∙ streams-in .scheduler ∙ empty-scheduler ws st next (g .shape .long) (holds .next-fits)
-
-  no-streams : (model ws st) .streams ≡ []
-  unfolding streamsIn tab
-  no-streams = model-streams ws st ∙ ap (tab (streamIn ws st)) none-known
-
-  scheduler-ws : (model ws st) .scheduler ≡ new-scheduler (optionsAt ws .«payload_limit»)
-  scheduler-ws = unused-scheduler (model ws st) (g .well) no-streams ∙ ap (λ (p : plain.Options). new-scheduler (p .payload-limit)) (model-options ws st)
+  scheduler-x = messages-in .scheduler ∙ streams-in .scheduler ∙ empty-scheduler ws st next long (holds .next-fits)
 
   waits-in : AllWait (totalsAt (x .words) .interleaving) (x .words) (x .store) (waitingIn (x .words))
   waits-in = all-wait (totalsAt (x .words) .interleaving) (x .words) (x .store) (messages-in .shape) (none-listed (x .words) (x .store) (optionsAt ws .«payload_limit») scheduler-x)
@@ -161,19 +156,37 @@ module _ (ws st : List ℕ) (g : Good ws st) (none-known : totalsAt ws .known �
   next-x : totalsAt (x .words) .«next_message_id» .0 ≡ h .next-message-id
   next-x = ap (λ i. i .0) (messages-in .next-id) ∙ ap (λ (t : Totals). t .«next_message_id» .0) totals-vs ∙ sym (holds .next-is)
 
-  model-restored : model us (x .store) ≡ restore.restored time h (model ws st)
+  -- with a scheduler that is new, the rest of the queue before is not looked at
+  model-with : (q : Queue) → q .options ≡ (model ws st) .options → q .interleaving ≡ (model ws st) .interleaving → q .scheduler ≡ new-scheduler (optionsAt ws .«payload_limit») → model us (x .store) ≡ restore.restored time h q
   unfolding restore.restored
-  model-restored =
-      let q : Queue = model ws st in
+  model-with q eo ei es =
       let ss : List Stream = restore-messages (q .options) time (h .messages) (restore-streams (q .options) (h .streams)) in
       let t : totalsAt us ≡ totalsAt (x .words) = recalls-in .same-totals ∙ waits-in .totals in
+      let sx : streamsIn (x .words) (x .store) ≡ ss = streams-x ∙ ap (λ (p : plain.Options). restore-messages p time (h .messages) (restore-streams p (h .streams))) (sym eo) in
+      let ix : totalsAt (x .words) .interleaving ≡ q .interleaving = interleaving-x ∙ sym ei in
       model-is us (x .store) (q .options) (q .interleaving) (amounts ss) (h .next-message-id) ss (remember-half-sent (q .interleaving) ss (reschedule-each (q .interleaving) has-items ss (q .scheduler)))
-      (ap optionsOf (recalls-in .same-options ∙ waits-in .options ∙ options-x) ∙ sym (model-options ws st))
-      (ap (λ (t : Totals). t .interleaving) t ∙ interleaving-x)
-      (ap (λ (t : Totals). t .total) t ∙ messages-in .counted ∙ ap amounts streams-x)
+      (ap optionsOf (recalls-in .same-options ∙ waits-in .options ∙ options-x) ∙ sym (model-options ws st) ∙ sym eo)
+      (ap (λ (t : Totals). t .interleaving) t ∙ ix)
+      (ap (λ (t : Totals). t .total) t ∙ messages-in .counted ∙ ap amounts sx)
       (ap (λ (t : Totals). t .«next_message_id» .0) t ∙ next-x)
-      (recalls-in .same-streams ∙ waits-in .streams ∙ streams-x)
-      (recalls-in .remembers ∙ rw (waits-in .streams, waits-in .scheduler, interleaving-x, streams-x, scheduler-x, scheduler-ws))
+      (recalls-in .same-streams ∙ waits-in .streams ∙ sx)
+      (recalls-in .remembers ∙ rw (waits-in .streams, waits-in .scheduler, ix, sx, scheduler-x, es))
 
-  pub all-parts : Parts ws st time h us (x .store)
-  all-parts = record { shape = recalls-in .shape; store = messages-in .store; options = recalls-in .same-options ∙ waits-in .options ∙ options-x; next = model-restored }
+  -- Nothing is left undone: the words hold together and stand for what the image restores into an unused queue.
+  pub parts-shape : Shape us (x .store)
+  parts-shape = recalls-in .shape
+
+  pub parts-settled : model us (x .store) ≡ restore.restored time h (unused (model ws st))
+  parts-settled = model-with (unused (model ws st)) refl refl (ap (λ (p : plain.Options). new-scheduler (p .payload-limit)) (model-options ws st))
+
+  -- on the words of a queue that knows no stream
+  module _ (well : Well (model ws st)) (none-known : totalsAt ws .known ≡ 0) where
+    no-streams : (model ws st) .streams ≡ []
+    unfolding streamsIn tab
+    no-streams = model-streams ws st ∙ ap (tab (streamIn ws st)) none-known
+
+    scheduler-ws : (model ws st) .scheduler ≡ new-scheduler (optionsAt ws .«payload_limit»)
+    scheduler-ws = unused-scheduler (model ws st) well no-streams ∙ ap (λ (p : plain.Options). new-scheduler (p .payload-limit)) (model-options ws st)
+
+    pub all-parts : Parts ws st time h us (x .store)
+    all-parts = record { shape = recalls-in .shape; store = messages-in .store; options = recalls-in .same-options ∙ waits-in .options ∙ options-x; next = model-with (model ws st) refl refl scheduler-ws }

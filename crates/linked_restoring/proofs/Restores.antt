@@ -20,14 +20,15 @@ use Rattle.queue_state.specs.Model.{model}
 use Rattle.queue_state.specs.Good.{Good}
 use Rattle.queue_state.specs.Promise.{Does, callOf}
 use Rattle.queue_state.proofs.Singles.{model-options}
-use Rattle.queue_messages.specs.Add.{Added, added}
+use Rattle.queue_messages.specs.Add.{Added}
 use Rattle.handover_records.specs.declared.records.Trailer.{Trailer}
 use Rattle.image_rules.specs.Trailers.{trailerIn}
 use Rattle.image_rules.specs.Code.{imageCode}
 use Rattle.image_rules.proofs.ReadLink.{handoverAt}
-use Rattle.handover.specs.Restore.{restoreCode, allWaiting, restoredFrom, acceptedWith, restore}
-use Rattle.linked_restoring.proofs.Parts.{Parts, partsOf, waitingOf, parts-few, all-parts}
+use Rattle.handover.specs.Restore.{restoreCode, restore}
+use Rattle.linked_restoring.proofs.Parts.{Parts, partsOf, waitingOf, all-parts}
 use Rattle.linked_restoring.proofs.Accepts.{accepted-holds, accepted-long, accepted-limits}
+use Rattle.linked_restoring.proofs.Settled.{result-is}
 use Rattle.linked_restoring.proofs.Answers.{Answers, refusal, acceptance, answers}
 
 module _ (ws st : List ℕ) (g : Good ws st) (time : ℕ) (bs : List ℕ) (ht : time < 2 ^ 64) (bytes : T (areBytes bs)) where
@@ -65,21 +66,8 @@ module _ (ws st : List ℕ) (g : Good ws st) (time : ℕ) (bs : List ℕ) (ht : 
 
     parts : Parts ws st time (handoverAt bs) (waitingOf vs) ut
     parts =
-        all-parts ws st g none-known store-small bs bytes time (t .streams) (t .«streams_size») (t .messages) (t .«next_message_id») (handoverAt bs)
-        (accepted-holds strict bs bytes d (length st) fine) (accepted-limits strict bs bytes d (length st) fine time q)
-
-    few : totalsAt vs .known ≤ 256
-    few =
-        parts-few ws st g none-known store-small bs bytes time (t .streams) (t .«streams_size») (t .messages) (t .«next_message_id») (handoverAt bs)
-        (accepted-holds strict bs bytes d (length st) fine) (accepted-limits strict bs bytes d (length st) fine time q)
-
-    -- the words of the call are those of the parts
-    abbrev result : Added
-    result = acceptedWith (restoredFrom ws st time bs (trailerIn bs))
-
-    result-is : result ≡ added (Accepted 0) (waitingOf vs) ut
-    unfolding restoredFrom allWaiting
-    result-is = rw (le-ltb 256 (totalsAt vs .known) few)
+        all-parts ws st (g .shape .long) store-small bs bytes time (t .streams) (t .«streams_size») (t .messages) (t .«next_message_id») (handoverAt bs)
+        (accepted-holds strict bs bytes d (length st) fine) (accepted-limits strict bs bytes d (length st) fine time q) (g .well) none-known
 
     does-restored : Does call ws st (Accepted 0) (waitingOf vs) ut
     does-restored =
@@ -96,7 +84,7 @@ module _ (ws st : List ℕ) (g : Good ws st) (time : ℕ) (bs : List ℕ) (ht : 
   by-answers (refusal p e) = rw (lt-ltb 0 code p) (refused-with e)
   by-answers (acceptance z k f e) =
       rw (le-ltb 0 code (omega (arith, z)), le-ltb (length bs) 20 (accepted-long (optionsAt ws .«strict_restart») bs bytes (optionsAt ws .«default_priority») (length st) f))
-      (subst (λ (x : Added). Does call ws st (x .answer) (x .words) (x .store)) (sym (result-is k f e)) (does-restored k f e))
+      (subst (λ (x : Added). Does call ws st (x .answer) (x .words) (x .store)) (sym (result-is ws st (g .shape .long) store-small bs bytes time f)) (does-restored k f e))
 
   -- Restoring is the model's step: refused with its number, 2, 4, 12, 13, 14 or 15 in this order, or accepted.
   pub restore-link : Does call ws st (restore ws st time bs .answer) (restore ws st time bs .words) (restore ws st time bs .store)

@@ -1,2 +1,3 @@
 -- What restoring promises. Assumes nothing.
 pub mod Restore
+pub mod Settled
