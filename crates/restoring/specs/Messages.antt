@@ -23,9 +23,10 @@ use Rattle.queue_streams.specs.Known.{newStream, lookUp, inserted}
 use Rattle.queue_streams.specs.Waiting.{rescheduled}
 use Rattle.queue_streams.specs.declared.known.Place.{Place}
 use Rattle.queue_streams.specs.declared.known.Place.the-variants as place
-use Rattle.queue_messages.specs.Add.{linkedLast}
+use Rattle.queue_messages.specs.Add.{linkedLast, madeKnown}
 use Rattle.handover_records.specs.Records.{messageAt}
 use Rattle.handover_records.specs.declared.records.HandoverStreamMessage.{HandoverStreamMessage}
+use Rattle.restoring.specs.declared.message_records.Home.{Home}
 
 -- "a sum of 1 unordered, 2 MID given, 4 lifetime": whether the flag of value n is in the sum f
 unfoldable pub hasFlag : ℕ → ℕ → Bool
@@ -95,6 +96,22 @@ unfoldable pub hung : List ℕ → List ℕ → ℕ → OutgoingStream → Item 
 hung ws st row s m payload n at =
     pick (ltb 1023 (totalsAt ws .free)) (restored ws st at)
     (hungAt ws st row s (totalsAt ws .free) (itemAt ws (totalsAt ws .free) .next) m payload n at)
+
+-- where a message goes: the row of its stream and the stream before it, and the words with the stream known; a row outside the table where it cannot be
+abbrev pub homeIn : List ℕ → Place → Home
+homeIn ws (place.Row row) = record { row = row; stream = streamAt ws row }
+homeIn ws (place.New position) = record { row = totalsAt ws .known; stream = newStream (optionsAt ws) }
+homeIn ws (place.Refused code) = record { row = 256; stream = newStream (optionsAt ws) }
+
+pub record Homed : Type 0 where
+  pub home : Home
+  pub words : List ℕ
+
+abbrev pub homed : Home → List ℕ → Homed
+homed h ws = record { home = h; words = ws }
+
+unfoldable pub homeOf : List ℕ → ℕ → Homed
+homeOf ws id = homed (homeIn ws (lookUp ws id)) (madeKnown ws id (lookUp ws id))
 
 -- a message of a known stream, or of one "that only messages name"; that there is no room for it the test has ruled out
 abbrev pub hungIn : List ℕ → List ℕ → ℕ → Item → List ℕ → ℕ → ℕ → Place → Restored

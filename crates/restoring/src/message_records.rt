@@ -2,7 +2,7 @@
 ghost use mathlib.Core.Path.{_≡_};
 ghost use Prim.Native.Nat.{_+_, _≤_, _<_};
 ghost use lib.ListN.{length};
-ghost use Rattle.restoring.specs.Messages.{hasFlag, restoredNumbers, restoredExpiry, restoredItem, unsentOf, countedRestored, restored, hungAt, hung, hungWith, recordRestored, messageRestored, messagesRestored};
+ghost use Rattle.restoring.specs.Messages.{hasFlag, restoredNumbers, restoredExpiry, restoredItem, unsentOf, countedRestored, restored, hungAt, hung, homed, homeOf, hungWith, recordRestored, messageRestored, messagesRestored};
 use handover_records::records::HandoverStreamMessage;
 use image_reader::read_message;
 use message_chains::amounts::plus;
@@ -22,7 +22,9 @@ use queue_words::items::Numbers;
 use queue_words::items::load_next;
 use queue_words::items::store_item;
 use queue_words::limits::LAST_MESSAGE;
+use queue_words::limits::LAST_STREAM_ROW;
 use queue_words::limits::NO_MESSAGE;
+use queue_words::limits::STREAM_ROWS;
 use queue_words::streams::OutgoingStream;
 use queue_words::streams::load_stream;
 use types::Fsn;
@@ -150,7 +152,47 @@ fn hang(
     hang_at(queue, store, row, s, place, free, m, payload, n, at)
 }
 
-// A message of a known stream, or of one that it makes known.
+// The row of a message's stream, and the stream before the message.
+pub struct Home {
+    pub row: usize,
+    pub stream: OutgoingStream,
+}
+
+// The home of a message of this stream, which becomes known if it is not; a row outside the table where it cannot.
+fn home_of(queue: &mut [u64; QUEUE_WORDS], id: u16) -> Home
+    ensures { λ r. ⌜ homed r (now (queue .exit)) ≡ homeOf (now (queue .entry)) id ⌝ }
+{
+    let place = look_up(&*queue, id);
+    match place {
+        Place::Row(row) => {
+            let s = load_stream(&*queue, row);
+            Home {
+                row: row,
+                stream: s,
+            }
+        }
+        Place::New(position) => {
+            let o = load_options(&*queue);
+            let s = new_stream(o);
+            let t = load_totals(&*queue);
+            insert_stream(queue, position, id, s);
+            Home {
+                row: t.known as usize,
+                stream: s,
+            }
+        }
+        Place::Refused(_) => {
+            let o = load_options(&*queue);
+            let s = new_stream(o);
+            Home {
+                row: STREAM_ROWS,
+                stream: s,
+            }
+        }
+    }
+}
+
+// A message of a known stream, or of one that it makes known. `hang` has this one caller, so it is compiled into it.
 fn hang_in(
     queue: &mut [u64; QUEUE_WORDS],
     store: &mut [u8],
@@ -162,21 +204,12 @@ fn hang_in(
 ) -> usize
     ensures { λ r. ⌜ restored (now (queue .exit)) (now (store .exit)) r ≡ hungWith (now (queue .entry)) (now (store .entry)) id m (now (payload .entry)) n at ⌝ }
 {
-    let place = look_up(&*queue, id);
-    match place {
-        Place::Row(row) => {
-            let s = load_stream(&*queue, row);
-            hang(queue, store, row, s, m, payload, n, at)
-        }
-        Place::New(position) => {
-            let o = load_options(&*queue);
-            let s = new_stream(o);
-            let t = load_totals(&*queue);
-            insert_stream(queue, position, id, s);
-            hang(queue, store, t.known as usize, s, m, payload, n, at)
-        }
-        Place::Refused(_) => at,
+    let h = home_of(queue, id);
+    if h.row > LAST_STREAM_ROW {
+        return at;
     }
+    let s = h.stream;
+    hang(queue, store, h.row, s, m, payload, n, at)
 }
 
 // The message of the record r at `at`.

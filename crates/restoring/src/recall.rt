@@ -15,8 +15,6 @@ use queue_words::limits::NO_MESSAGE;
 use queue_words::streams::load_stream;
 use types::StreamId;
 
-// No stream.
-
 // Whether the first message of a known stream is half-sent.
 fn is_half_sent(queue: &[u64; QUEUE_WORDS], k: Known) -> bool
     ensures { λ r. ⌜ r ≡ halfSentAt (now (queue .entry)) k ⌝ }
