@@ -1,10 +1,13 @@
 -- A head dropped in its stream's state, by a discard or as expired. Assumes nothing.
-use Prim.Native.Nat.{ℕ}
+use Prim.Native.Nat.{ℕ, _<_}
+use mathlib.Core.Path.{_≡_}
+use mathlib.Core.Bool.{true}
 use mathlib.Core.List.{List}
 use lib.Dec.{ltb}
 use Rattle.queue_words.specs.Flags.{pick}
 use Rattle.queue_words.specs.Header.{totalsAt}
-use Rattle.queue_words.specs.Streams.{isPending}
+use Rattle.queue_words.specs.Items.{itemAt}
+use Rattle.queue_words.specs.Streams.{isPending, streamAt}
 use Rattle.queue_words.specs.declared.items.Item.{Item}
 use Rattle.queue_words.specs.declared.streams.OutgoingStream.{OutgoingStream}
 use Rattle.queue_words.specs.declared.streams.PauseState.{PauseState}
@@ -42,3 +45,10 @@ unfoldable pub droppedInState : List ℕ → List ℕ → ℕ → ℕ → ℕ �
 droppedInState ws es k id row s m =
     pick (ltb 0 (headCode ws s (s .first) (m .next) (rest m))) (calledWith (Refused (headCode ws s (s .first) (m .next) (rest m))) ws es)
     (behindDropped ws es k id row s m)
+
+-- The tests of a drop of the head of the stream in a row say that it may be dropped: 16 is not given.
+pub record MayDrop (ws : List ℕ) (id row : ℕ) : Type 0 where
+  pub row-fits : row < 256
+  pub first-fits : streamAt ws row .first < 1024
+  pub head-goes : headCode ws (streamAt ws row) (streamAt ws row .first) (itemAt ws (streamAt ws row .first) .next) (rest (itemAt ws (streamAt ws row .first))) ≡ 0
+  pub scheduled : scheduledBehind ws id (streamAt ws row) (itemAt ws (streamAt ws row .first) .next) .done ≡ true

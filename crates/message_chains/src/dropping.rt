@@ -6,7 +6,8 @@ ghost use Rattle.queue_words.specs.Items.{itemAt};
 ghost use Rattle.queue_words.specs.Streams.{streamAt};
 ghost use Rattle.stream_scheduler.specs.Words.{outcome};
 ghost use Rattle.queue_streams.specs.Settings.{calledWith};
-ghost use Rattle.message_chains.specs.Dropping.{scheduledBehind, endPending, behindDropped, droppedInState};
+ghost use Rattle.queue_streams.specs.declared.answers.Call.the-variants.{Accepted};
+ghost use Rattle.message_chains.specs.Dropping.{scheduledBehind, endPending, behindDropped, droppedInState, MayDrop};
 use crate::amounts::remaining;
 use crate::heads::drop_head;
 use crate::heads::head_code;
@@ -110,4 +111,23 @@ pub fn drop_first(
     let s = load_stream(&*queue, row);
     let m = load_item(&*queue, s.first as usize);
     drop_in_state(queue, events, k, id, row, s, m)
+}
+
+// Drops the head of the stream in a row, where the tests say that it may be dropped: the events so far. Nothing is tested again.
+pub fn drop_own(
+    queue: &mut [u64; QUEUE_WORDS],
+    events: &mut [u64],
+    k: usize,
+    id: u16,
+    row: usize,
+) -> usize
+    requires { ⌜ MayDrop (now queue) id row ⌝ }
+    ensures { λ r. ⌜ calledWith (Accepted r) (now (queue .exit)) (now (events .exit)) ≡ droppedInState (now (queue .entry)) (now (events .entry)) k id row (streamAt (now (queue .entry)) row) (itemAt (now (queue .entry)) (streamAt (now (queue .entry)) row .first)) ⌝ }
+{
+    let s = load_stream(&*queue, row);
+    let m = load_item(&*queue, s.first as usize);
+    schedule_behind(queue, id, s, m.next);
+    let state = s.pause_state;
+    let after = end_pending(state);
+    drop_head(queue, events, k, id, row, s, after, m)
 }
