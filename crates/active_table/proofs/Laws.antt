@@ -96,35 +96,53 @@ seek-end ws id n i inv l g =
 
 -- ------------------------------------------------------------------ the least row
 
-pub best-zero : (ws : List ℕ) → bestTo ws 0 ≡ bestOf (activeAt ws 0) 0
-unfolding bestTo bestAmong
-best-zero ws = refl
+-- The best of `start` and n rows from `from` on, part by part: i of them, and c behind those.
+module _ (ws : List ℕ) (start : Best) (from : ℕ) where
+  abbrev best : ℕ → Best
+  best n = bestAmong (rowsFrom ws from) start from n
 
-pub best-suc : (ws : List ℕ) (k : ℕ) → bestTo ws (suc k) ≡ better (bestTo ws k) (bestOf (activeAt ws (suc k)) (suc k))
-unfolding bestTo bestAmong
-best-suc ws k =
-    let s : 1 + k ≡ suc k = omega arith in
-    rw s
+  joined : (i c : ℕ) → bestAmong (rowsFrom ws (from + i)) (best i) (from + i) c ≡ best (i + c)
+  unfolding bestAmong
+  joined i zero =
+      let z : i + 0 ≡ i = omega arith in
+      rw z
+  joined i (suc c) =
+      let s : i + suc c ≡ suc (i + c) = omega arith in
+      let t : (from + i) + c ≡ from + (i + c) = omega arith in
+      rw (s, t, joined i c)
 
--- Rows of the queue behind the least of those before.
-among : (ws : List ℕ) (i n : ℕ) → bestAmong (rowsFrom ws (i + 1)) (bestTo ws i) (i + 1) n ≡ bestTo ws (i + n)
-unfolding bestAmong
-among ws i zero =
-    let z : i + 0 ≡ i = omega arith in
-    rw z
-among ws i (suc n) =
-    let s : i + suc n ≡ suc (i + n) = omega arith in
-    let t : (i + 1) + n ≡ suc (i + n) = omega arith in
-    rw (s, t, among ws i n, best-suc ws (i + n))
+  pub among-none : start ≡ best 0
+  unfolding bestAmong
+  among-none = refl
 
--- A part of c rows behind row i.
-pub least-part : (ws : List ℕ) (i c : ℕ) (a b : Best) → a ≡ bestTo ws i → b ≡ bestAmong (rowsFrom ws (i + 1)) a (i + 1) c → b ≡ bestTo ws (i + c)
-least-part ws i c a b ea eb = eb ∙ (ap (λ (x : Best). bestAmong (rowsFrom ws (i + 1)) x (i + 1) c) ea ∙ among ws i c)
+  pub among-part : (i c : ℕ) (a b : Best) → a ≡ best i → b ≡ bestAmong (rowsFrom ws (from + i)) a (from + i) c → b ≡ best (i + c)
+  among-part i c a b ea eb = eb ∙ (ap (λ (x : Best). bestAmong (rowsFrom ws (from + i)) x (from + i) c) ea ∙ joined i c)
 
-pub least-end : (ws : List ℕ) (i n : ℕ) (b : Best) → b ≡ bestTo ws i → i < n → n ≤ i + 1 → b ≡ bestTo ws (n - 1)
-least-end ws i n b e l g =
-    let z : n - 1 ≡ i = omega arith in
-    rw (z, e)
+-- The same in two walks: the second starts behind i₀ rows.
+module _ (ws : List ℕ) (start : Best) (from i₀ : ℕ) where
+  abbrev behind : ℕ → Best
+  behind i = bestAmong (rowsFrom ws (from + i₀)) start (from + i₀) (i - i₀)
+
+  pub behind-none : start ≡ behind i₀
+  behind-none =
+      let z : i₀ - i₀ ≡ 0 = omega arith in
+      among-none ws start (from + i₀) ∙ ap (bestAmong (rowsFrom ws (from + i₀)) start (from + i₀)) (sym z)
+
+  pub behind-one : (i : ℕ) (a b : Best) → i₀ ≤ i → a ≡ behind i → b ≡ bestAmong (rowsFrom ws (from + i)) a (from + i) 1 → b ≡ behind (i + 1)
+  behind-one i a b l ea eb =
+      let z : from + i₀ + (i - i₀) ≡ from + i = omega arith in
+      let s : i - i₀ + 1 ≡ i + 1 - i₀ = omega arith in
+      among-part ws start (from + i₀) (i - i₀) 1 a b ea (eb ∙ ap (λ (x : ℕ). bestAmong (rowsFrom ws x) a x 1) (sym z)) ∙ ap (bestAmong (rowsFrom ws (from + i₀)) start (from + i₀)) s
+
+pub among-end : (ws : List ℕ) (start : Best) (from i₀ i n : ℕ) (a b : Best) → a ≡ bestAmong (rowsFrom ws from) start from i₀ → b ≡ bestAmong (rowsFrom ws (from + i₀)) a (from + i₀) (i - i₀)
+    → i₀ ≤ i → i ≤ n → n ≤ i → b ≡ bestAmong (rowsFrom ws from) start from n
+among-end ws start from i₀ i n a b ea eb h l g =
+    let z : i₀ + (i - i₀) ≡ n = omega arith in
+    among-part ws start from i₀ (i - i₀) a b ea eb ∙ ap (bestAmong (rowsFrom ws from) start from) z
+
+pub least-is : (ws : List ℕ) (k : ℕ) (a b : Best) → a ≡ bestOf (activeAt ws 0) 0 → b ≡ bestAmong (rowsFrom ws 1) a 1 k → b ≡ bestTo ws k
+unfolding bestTo
+least-is ws k a b ea eb = eb ∙ ap (λ (x : Best). bestAmong (rowsFrom ws 1) x 1 k) ea
 
 -- The better of two by its cases.
 module _ (a : Best) (row : ActiveStreamInfo) (i : ℕ) where

@@ -13,8 +13,8 @@ use Rattle.queue_words.specs.declared.active.ActiveStreamInfo.{ActiveStreamInfo
 use Rattle.active_table.specs.declared.Best.{Best}
 use Rattle.active_table.specs.Parts.{rowsFrom}
 use Rattle.active_table.specs.Passing.{idsBehind, finishOf, latest, soonest, fourBehind}
-use Rattle.active_table.specs.Rows.{bestOf, better, bestAmong, bestTo}
-use Rattle.active_table.proofs.Laws.{sooner, later, first-id, second-id, best-zero}
+use Rattle.active_table.specs.Rows.{bestOf, better, bestAmong}
+use Rattle.active_table.proofs.Laws.{sooner, later, first-id, second-id}
 
 -- ------------------------------------------------------------------ the ids
 
@@ -117,28 +117,31 @@ rows-behind rows best from zero h = refl
 rows-behind rows best from (suc n) h = rw (rows-behind rows best from n (λ k l. h k (omega arith))) (h n (omega arith))
 
 -- The search starts behind every row, so that the first is the least of itself.
-abbrev pub behindAll : Best
-behindAll = record { id = 65535; at = 0; finish = latest }
+abbrev pub behindAll : ℕ → Best
+behindAll at = record { id = 65535; at = at; finish = latest }
 
-pub least-begins : (ws : List ℕ) (b : Best) → b ≡ bestAmong (rowsFrom ws 0) behindAll 0 1 → finishOf (rowsFrom ws 0) 0 ≤ latest → b ≡ bestTo ws 0
+pub least-begins : (ws : List ℕ) (at : ℕ) (b : Best) → b ≡ bestAmong (rowsFrom ws at) (behindAll at) at 1 → finishOf (rowsFrom ws at) 0 ≤ latest → b ≡ bestOf (activeAt ws at) at
 unfolding bestAmong
-least-begins ws b e l = e ∙ (ap (λ (j : ℕ). better behindAll (bestOf (activeAt ws j) j)) z ∙ (go (tri (row .«virtual_finish_time») latest) ∙ sym (best-zero ws)))
+least-begins ws at b e l = e ∙ (ap (λ (j : ℕ). better (behindAll at) (bestOf (activeAt ws j) j)) z ∙ go (tri (row .«virtual_finish_time») latest))
   where
-    z : 0 + 0 ≡ 0
+    z : at + 0 ≡ at
     z = omega arith
 
     row : ActiveStreamInfo
-    row = activeAt ws 0
+    row = activeAt ws at
 
-    by-id : row .«virtual_finish_time» ≡ latest → Tri (row .«stream_id» .0) 65535 → better behindAll (bestOf row 0) ≡ bestOf row 0
-    by-id q (less m) = sym (second-id behindAll row 0 (omega arith) (omega arith) m)
-    by-id q (same p) = sym (first-id behindAll row 0 (omega arith) (omega arith) (omega arith)) ∙ rw (p, q)
-    by-id q (more m) = absurd (omega (arith, active-at-fits ws 0 .stream-id-fits))
+    fits : row .«virtual_finish_time» ≤ latest
+    fits = subst (λ (j : ℕ). (activeAt ws j) .«virtual_finish_time» ≤ latest) z l
 
-    go : Tri (row .«virtual_finish_time») latest → better behindAll (bestOf row 0) ≡ bestOf row 0
-    go (less m) = sym (later behindAll row 0 m)
+    by-id : row .«virtual_finish_time» ≡ latest → Tri (row .«stream_id» .0) 65535 → better (behindAll at) (bestOf row at) ≡ bestOf row at
+    by-id q (less m) = sym (second-id (behindAll at) row at (omega arith) (omega arith) m)
+    by-id q (same p) = sym (first-id (behindAll at) row at (omega arith) (omega arith) (omega arith)) ∙ rw (p, q)
+    by-id q (more m) = absurd (omega (arith, active-at-fits ws at .stream-id-fits))
+
+    go : Tri (row .«virtual_finish_time») latest → better (behindAll at) (bestOf row at) ≡ bestOf row at
+    go (less m) = sym (later (behindAll at) row at m)
     go (same q) = by-id q (tri _ _)
-    go (more m) = absurd (omega arith)
+    go (more m) = absurd (omega (arith, fits))
 
 -- The earliest of no row, and of one more; none finishes before it.
 module _ (rows : ℕ → ActiveStreamInfo) where

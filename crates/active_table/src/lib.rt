@@ -3,11 +3,14 @@
 //
 // The queue holds the table in its words. Every row that a search looks at is lent, four at a time or one: so small a part
 // stays in registers once compiled, and nothing is copied then (docs/DECISIONS.md).
+pub mod groups;
+
 ghost use mathlib.Core.Path.{_≡_};
 ghost use Prim.Native.Nat.{_+_, _-_, _<_, _≤_, _^_};
 ghost use lib.ListN.{length};
 ghost use Rattle.active_table.specs.Rows.{seekFrom, seek, bestOf, better, bestAmong, bestTo};
 ghost use Rattle.active_table.specs.Parts.{rowsOf, rowsFrom, fourRows, oneRow};
+ghost use Rattle.active_table.specs.Groups.{bestAt};
 ghost use Rattle.active_table.specs.Passing.{latest, finishOf, soonest, idsBehind, fourBehind};
 use queue_words::QUEUE_WORDS;
 use queue_words::active::ActiveStreamInfo;
@@ -247,25 +250,42 @@ pub fn seek(queue: &[u64; QUEUE_WORDS], stream_id: u16, n: usize) -> usize
     n
 }
 
-// The least of n rows of the queue. The search starts from a place behind every row, so that the first is lent as the others are.
-pub fn least_row(queue: &[u64; QUEUE_WORDS], n: usize) -> Best
-    requires { ⌜ (0 < n) × (n ≤ 256) ⌝ }
-    ensures { λ r. ⌜ r ≡ bestTo (now (queue .entry)) (n - 1) ⌝ }
+// The row `from` alone. The search starts from a place behind every row, so that the first is lent as the others are.
+fn first_row(queue: &[u64; QUEUE_WORDS], from: usize) -> Best
+    requires { ⌜ from + 1 ≤ 256 ⌝ }
+    ensures { λ r. ⌜ r ≡ bestAt (now (queue .entry)) from ⌝ }
 {
     let last = Best {
         id: LARGEST_ID,
-        at: 0,
+        at: from,
         finish: LATEST,
     };
-    let mut best = least_of_one(queue, 0, last);
+    least_of_one(queue, from, last)
+}
+
+// The best of `start` and n rows from `from` on.
+fn least_among(queue: &[u64; QUEUE_WORDS], from: usize, n: usize, start: Best) -> Best
+    requires { ⌜ from + n ≤ 256 ⌝ }
+    ensures { λ r. ⌜ r ≡ bestAmong (rowsFrom (now (queue .entry)) from) start from n ⌝ }
+{
+    let mut best = start;
     let mut i = 0;
-    while i + 5 <= n {
-        best = least_past(queue, i + 1, best);
+    while i + 4 <= n {
+        best = least_past(queue, from + i, best);
         i += 4;
     }
-    while i + 1 < n {
-        best = least_of_one(queue, i + 1, best);
+    while i < n {
+        best = least_of_one(queue, from + i, best);
         i += 1;
     }
     best
+}
+
+// The least of n rows of the queue, each looked at.
+fn least_row(queue: &[u64; QUEUE_WORDS], n: usize) -> Best
+    requires { ⌜ (0 < n) × (n ≤ 256) ⌝ }
+    ensures { λ r. ⌜ r ≡ bestTo (now (queue .entry)) (n - 1) ⌝ }
+{
+    let first = first_row(queue, 0);
+    least_among(queue, 1, n - 1, first)
 }

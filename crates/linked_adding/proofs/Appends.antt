@@ -26,7 +26,7 @@ use Rattle.queue_state.proofs.Chains.{hit-other, count-head, count-snoc, length
 use Rattle.queue_state.proofs.Splits.{by-index, free-once, row-once, far-free, far-tail}
 use Rattle.queue_state.proofs.Frames.{Same, Kept, free-frame, free-fits, row-fits}
 use Rattle.queue_state.proofs.Steps.{After, step}
-use Rattle.queue_state.proofs.Singles.{scheduler-same}
+use Rattle.stream_scheduler.proofs.Link.{scheduler-same}
 use Rattle.queue_messages.specs.Add.{withLast}
 use Rattle.linked_adding.proofs.Placed.{Placed}
 use Rattle.linked_adding.proofs.Hung.{Hung}
@@ -168,7 +168,7 @@ module _ (ws st : List ℕ) (g : Shape ws st) (i : ℕ) (hk : i < totalsAt ws .k
 
   schedulers : GoodScheduler us × (modelScheduler us ≡ modelScheduler ws)
   schedulers =
-      scheduler-same ws us (b .long ∙ a .long) (b .options ∙ a .options) (b .scheduler ∙ a .scheduler) (λ j. b .active j ∙ a .active j) (g .schedules)
+      scheduler-same ws us (b .long ∙ a .long) (b .options ∙ a .options) (b .scheduler ∙ a .scheduler) (λ j. b .active j ∙ a .active j) (b .leasts ∙ a .leasts) (g .schedules)
 
   pub after : After ws st g i us ut (g .q i ++ (p ∷ [])) fr
   after = step ws st g i hk us ut (g .q i ++ (p ∷ [])) fr (record {

@@ -107,6 +107,7 @@ module _ (ws st : List ℕ) (o : words.Options) (len : length ws ≡ 20768) (sma
     long = long;
     few = rw scheduler (omega arith);
     unlike = λ i j h l e. absurd (let z : schedulerAt (newWords ws o) .active ≡ 0 = ap (λ (s : SchedulerState). s .active) scheduler in omega arith);
+    leasts = λ i h j l. absurd (let z : schedulerAt (newWords ws o) .active ≡ 0 = ap (λ (s : SchedulerState). s .active) scheduler in omega arith);
   }
 
   new-shape : Shape (newWords ws o) st

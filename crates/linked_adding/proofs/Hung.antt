@@ -1,19 +1,22 @@
 -- A place hung to a stream's chain, and counted: what is read then. Assumes nothing.
 use mathlib.Core.Path.{_≡_, refl, ap, _∙_, subst}
+use mathlib.Core.Logic.{inr}
 use mathlib.Core.List.{List}
-use Prim.Native.Nat.{ℕ, _≤_, _<_}
+use Prim.Native.Nat.{ℕ, _+_, _*_, _≤_, _<_}
 use native.Mathlib.Omega.{arith}
 use borrow.Author.Tests.{lt-ltb, le-ltb}
-use lib.ListN.{length}
+use lib.ListN.{length, set}
 use Rattle.queue_words.specs.Active.{activeAt}
 use Rattle.queue_words.specs.Header.{optionsAt, totalsAt, putTotals, schedulerAt, FitsTotals}
 use Rattle.queue_words.specs.Items.{itemAt, putNext, withNext}
+use Rattle.queue_words.specs.Leasts.{leastsAt}
 use Rattle.queue_words.specs.Known.{knownAt}
 use Rattle.queue_words.specs.Streams.{streamAt, putChain, withChain}
 use Rattle.queue_words.specs.declared.header.Totals.{Totals}
 use Rattle.queue_words.specs.declared.items.Item.{Item}
 use Rattle.queue_words.specs.declared.streams.OutgoingStream.{OutgoingStream}
 use Rattle.queue_words.proofs.Laws
+use Rattle.queue_words.proofs.Rows.{row-word-other}
 use Rattle.queue_words.proofs.ChainLaws as chain
 use Rattle.payload_store.specs.Words.{placeOf, sizeOf}
 use Rattle.queue_state.specs.Model.{nextOf, itemOf}
@@ -28,6 +31,7 @@ pub record Turned (ws us : List ℕ) (l p : ℕ) : Type 0 where
   pub totals : totalsAt us ≡ totalsAt ws
   pub scheduler : schedulerAt us ≡ schedulerAt ws
   pub active : (j : ℕ) → activeAt us j ≡ activeAt ws j
+  pub leasts : leastsAt us ≡ leastsAt ws
   pub known : (j : ℕ) → j < 256 → knownAt us j ≡ knownAt ws j
   pub streams : (j : ℕ) → j < 256 → streamAt us j ≡ streamAt ws j
   pub next-turned : l < 1024 → nextOf us l ≡ p
@@ -43,6 +47,7 @@ turned-none ws l p h = record {
   totals = refl;
   scheduler = refl;
   active = λ j. refl;
+  leasts = refl;
   known = λ j b. refl;
   streams = λ j b. refl;
   next-turned = λ b. absurd (omega arith);
@@ -59,6 +64,7 @@ turned-next ws l p len h = record {
   totals = Laws.totals-put-next ws l p;
   scheduler = Laws.scheduler-put-next ws l p;
   active = λ j. Laws.active-put-next ws l p j h;
+  leasts = Laws.leasts-put-next ws l p;
   known = λ j b. Laws.known-put-next ws l p j b;
   streams = λ j b. Laws.stream-put-next ws l p j b;
   next-turned = λ b. ap (λ (m : Item). m .next) own;
@@ -73,6 +79,14 @@ turned-next ws l p len h = record {
     own : itemAt (putNext ws l p) l ≡ withNext (itemAt ws l) p
     own = Laws.item-put-next ws l p len h
 
+-- A stream's amount and its chain's ends change no group's word of the scheduler's.
+leasts-put-chain : (ws : List ℕ) (i amount first last : ℕ) → leastsAt (putChain ws i amount first last) ≡ leastsAt ws
+unfolding leastsAt putChain
+leasts-put-chain ws i amount first last =
+    row-word-other (set (set ws (544 + i * 10 + 5) amount) (544 + i * 10 + 7) first) (544 + i * 10 + 8) last 21 11 (inr (omega arith))
+    ∙ row-word-other (set ws (544 + i * 10 + 5) amount) (544 + i * 10 + 7) first 21 11 (inr (omega arith))
+    ∙ row-word-other ws (544 + i * 10 + 5) amount 21 11 (inr (omega arith))
+
 -- Then the stream's amount and its chain's ends, and the totals stored.
 pub record Hung (ws us : List ℕ) (row l p : ℕ) (s : OutgoingStream) (t : Totals) : Type 0 where
   pub long : length us ≡ length ws
@@ -80,6 +94,7 @@ pub record Hung (ws us : List ℕ) (row l p : ℕ) (s : OutgoingStream) (t : Tot
   pub totals : totalsAt us ≡ t
   pub scheduler : schedulerAt us ≡ schedulerAt ws
   pub active : (j : ℕ) → activeAt us j ≡ activeAt ws j
+  pub leasts : leastsAt us ≡ leastsAt ws
   pub known : (j : ℕ) → j < 256 → knownAt us j ≡ knownAt ws j
   pub own-row : streamAt us row ≡ s
   pub other-rows : (r : ℕ) → r < 256 → (row ≡ r → ⊥) → streamAt us r ≡ streamAt ws r
@@ -121,6 +136,7 @@ module _ (F : Totals → Totals) (after-fits : FitsAfter F) (ws vs : List ℕ) (
         totals = Laws.totals-at-put rs t long-r (after-fits (totalsAt rs) (Laws.totals-at-fits rs)) ∙ ap F totals-r;
         scheduler = Laws.scheduler-put-totals rs t ∙ chain.scheduler-put-chain vs row amount first last ∙ v .scheduler;
         active = λ j. Laws.active-put-totals rs t j ∙ chain.active-put-chain vs row amount first last j hr ∙ v .active j;
+        leasts = Laws.leasts-put-totals rs t ∙ leasts-put-chain vs row amount first last ∙ v .leasts;
         known = λ j b. Laws.known-put-totals rs t j ∙ chain.known-put-chain vs row amount first last j b ∙ v .known j b;
         own-row = Laws.stream-put-totals rs t row ∙ chain.stream-put-chain vs row amount first last long-v hr ∙ ap (λ (s : OutgoingStream). withChain s amount first last) (v .streams row hr);
         other-rows = λ r b ne. Laws.stream-put-totals rs t r ∙ chain.stream-put-chain-other vs row amount first last r ne ∙ v .streams r b;

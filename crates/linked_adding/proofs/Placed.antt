@@ -7,6 +7,7 @@ use lib.ListN.{length, take, drop}
 use Rattle.queue_words.specs.Active.{activeAt}
 use Rattle.queue_words.specs.Header.{optionsAt, totalsAt, schedulerAt}
 use Rattle.queue_words.specs.Items.{itemAt, putItem, FitsItem, withPlace, withLength}
+use Rattle.queue_words.specs.Leasts.{leastsAt}
 use Rattle.queue_words.specs.Known.{knownAt}
 use Rattle.queue_words.specs.Streams.{streamAt}
 use Rattle.queue_words.specs.declared.header.Totals.{Totals}
@@ -32,6 +33,7 @@ pub record Placed (ws st : List ℕ) (p : ℕ) (m : Item) (bs us ut : List ℕ) 
   pub used : usedOf us ≡ usedOf ws + length bs
   pub scheduler : schedulerAt us ≡ schedulerAt ws
   pub active : (j : ℕ) → activeAt us j ≡ activeAt ws j
+  pub leasts : leastsAt us ≡ leastsAt ws
   pub known : (j : ℕ) → j < 256 → knownAt us j ≡ knownAt ws j
   pub streams : (j : ℕ) → j < 256 → streamAt us j ≡ streamAt ws j
   pub store : length ut ≡ length st
@@ -159,6 +161,7 @@ module _ (ws st : List ℕ) (p : ℕ) (m : Item) (l : length ws ≡ 20768) (h : 
       used = law .used ∙ ap (λ n. n + length bs) used-kept;
       scheduler = frame .scheduler ∙ Laws.scheduler-put-item ws p m;
       active = λ j. frame .active j ∙ Laws.active-put-item ws p m j h;
+      leasts = frame .leasts ∙ Laws.leasts-put-item ws p m;
       known = λ j b. frame .known j b ∙ Laws.known-put-item ws p m j b;
       streams = λ j b. frame .streams j b ∙ Laws.stream-put-item ws p m j b;
       store = law .same;

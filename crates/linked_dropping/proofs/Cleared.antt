@@ -7,6 +7,7 @@ use lib.ListN.{length}
 use Rattle.queue_words.specs.Header.{optionsAt, totalsAt, schedulerAt}
 use Rattle.queue_words.specs.Active.{activeAt}
 use Rattle.queue_words.specs.Items.{itemAt, putNext}
+use Rattle.queue_words.specs.Leasts.{leastsAt}
 use Rattle.queue_words.specs.Known.{knownAt}
 use Rattle.queue_words.specs.Streams.{streamAt}
 use Rattle.queue_words.specs.declared.header.Totals.{Totals}
@@ -128,6 +129,7 @@ pub record Clear (ws st hd ps us : List ℕ) : Type 0 where
   pub table : (j : ℕ) → j < 256 → knownAt us j ≡ knownAt ws j
   pub streams : (j : ℕ) → j < 256 → streamAt us j ≡ streamAt ws j
   pub active : (j : ℕ) → activeAt us j ≡ activeAt ws j
+  pub leasts : leastsAt us ≡ leastsAt ws
 
 pub clear-none : (ws st : List ℕ) → payload.Good ws st → Clear ws st [] [] ws
 clear-none ws st g = record {
@@ -149,6 +151,7 @@ clear-none ws st g = record {
   table = λ j h. refl;
   streams = λ j h. refl;
   active = λ j. refl;
+  leasts = refl;
 }
 
 -- One message is gone, then those behind it.
@@ -203,6 +206,7 @@ module _ (ws st : List ℕ) (p x : ℕ) (xs : List ℕ) (r : Ready ws st p (x �
       table = λ j h. c .table j h ∙ d .table j h;
       streams = λ j h. c .streams j h ∙ d .streams j h;
       active = λ j. c .active j ∙ d .active j;
+      leasts = c .leasts ∙ d .leasts;
     }
 
 -- THE THEOREM of a chain that is dropped.
@@ -270,4 +274,5 @@ module _ (us st : List ℕ) (x v : ℕ) (long : length us ≡ 20768) (hx : x < 1
     table = λ j h. Laws.known-put-next us x v j h ∙ c .table j h;
     streams = λ j h. Laws.stream-put-next us x v j h ∙ c .streams j h;
     active = λ j. Laws.active-put-next us x v j hx ∙ c .active j;
+    leasts = Laws.leasts-put-next us x v ∙ c .leasts;
   }

@@ -25,7 +25,7 @@ use Rattle.queue_state.proofs.Splits.{free-apart, row-once, total-has}
 use Rattle.queue_state.proofs.Frames.{Same, same-both, row-fits, free-fits, row-below}
 use Rattle.queue_state.proofs.Heads.{stored-places, stored-same}
 use Rattle.queue_state.proofs.Steps.{After, step}
-use Rattle.queue_state.proofs.Singles.{scheduler-same}
+use Rattle.stream_scheduler.proofs.Link.{scheduler-same}
 use Rattle.linked_dropping.proofs.Cleared.{restAt, Clear, count-turned}
 use Rattle.queue_state.proofs.Leaves.{Leaves, leaves-of}
 
@@ -96,6 +96,7 @@ module _ (ws st : List ℕ) (g : Shape ws st) (i : ℕ) (hk : i < totalsAt ws .k
       (Laws.options-put-stream us (rowAt ws i) s ∙ c .options)
       (Laws.scheduler-put-stream us (rowAt ws i) s ∙ c .scheduler)
       (λ j. Laws.active-put-stream us (rowAt ws i) s j row-in ∙ c .active j)
+      (Laws.leasts-put-stream us (rowAt ws i) s ∙ c .leasts)
       (g .schedules)
 
   row-now : Row ws′ (streamAt ws′ (rowAt ws i)) hd

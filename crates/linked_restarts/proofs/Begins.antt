@@ -10,7 +10,8 @@ use Rattle.payload_store.specs.Words.{usedOf, gapsOf}
 use Rattle.stream_scheduler.specs.Link.{modelScheduler}
 use Rattle.queue_state.specs.Model.{streamsIn}
 use Rattle.queue_state.specs.Good.{Shape}
-use Rattle.queue_state.proofs.Singles.{Unmoved, shape-totals, scheduler-same}
+use Rattle.queue_state.proofs.Singles.{Unmoved, shape-totals}
+use Rattle.stream_scheduler.proofs.Link.{scheduler-same}
 use Rattle.queue_state.proofs.Rooms.{AllKnown, Listing}
 
 -- Totals that count the same.
@@ -33,7 +34,7 @@ module _ (ws st : List ℕ) (g : Shape ws st) (t : Totals) (c : Counts ws t) whe
   begun-known = ap (λ (x : Totals). x .known) begun-totals ∙ c .known
 
   pub begun-scheduler : modelScheduler (putTotals ws t) ≡ modelScheduler ws
-  begun-scheduler = scheduler-same ws (putTotals ws t) (Laws.whole-put-totals ws t) (Laws.options-put-totals ws t) (Laws.scheduler-put-totals ws t) (Laws.active-put-totals ws t) (g .schedules) .1
+  begun-scheduler = scheduler-same ws (putTotals ws t) (Laws.whole-put-totals ws t) (Laws.options-put-totals ws t) (Laws.scheduler-put-totals ws t) (Laws.active-put-totals ws t) (Laws.leasts-put-totals ws t) (g .schedules) .1
 
   pub begun-listing : AllKnown ws st → AllKnown (putTotals ws t) st
   begun-listing a =

@@ -27,7 +27,8 @@ use Rattle.queue_state.specs.Model.{nextOf, itemIn, pauseOf, streamOf, rowAt, s
 use Rattle.queue_state.specs.Good.{Shape}
 use Rattle.queue_state.proofs.Frames.{stream-is, row-below, stream-key-in}
 use Rattle.queue_state.proofs.Steps.{After}
-use Rattle.queue_state.proofs.Singles.{shape-row, row-streams, scheduler-same}
+use Rattle.queue_state.proofs.Singles.{shape-row, row-streams}
+use Rattle.stream_scheduler.proofs.Link.{scheduler-same}
 use Rattle.queue_state.proofs.Looks.{found-at}
 use Rattle.queue_state.proofs.Rooms.{AllKnown, KnownTo, Listing, known-put, known-position, listing-streams, streams-rise, Let, head-is, reschedule-sized, reschedule-known}
 use Rattle.linked_restarts.proofs.Sweeps.{Turn}
@@ -110,7 +111,7 @@ module _ (us st : List ℕ) (g : Shape us st) (a : AllKnown us st) (i : ℕ) (hi
     stored-streams = row-streams us st g i hi s fits first-same last-same ∙ ap (λ (x : Stream). put-stream x (streamsIn us st)) new-is
 
     pub stored-scheduler : modelScheduler vs ≡ modelScheduler us
-    stored-scheduler = scheduler-same us vs (Laws.whole-put-stream us (rowAt us i) s) (Laws.options-put-stream us (rowAt us i) s) (Laws.scheduler-put-stream us (rowAt us i) s) (λ j. Laws.active-put-stream us (rowAt us i) s j (row-below us st g i hi)) (g .schedules) .1
+    stored-scheduler = scheduler-same us vs (Laws.whole-put-stream us (rowAt us i) s) (Laws.options-put-stream us (rowAt us i) s) (Laws.scheduler-put-stream us (rowAt us i) s) (λ j. Laws.active-put-stream us (rowAt us i) s j (row-below us st g i hi)) (Laws.leasts-put-stream us (rowAt us i) s) (g .schedules) .1
 
     pub stored-known : AllKnown vs st
     stored-known =

@@ -66,6 +66,7 @@ module _ (ws st : List ℕ) (id : ℕ) (len : length ws ≡ 20768) (small : id <
     long = long;
     few = rw scheduler (omega arith);
     unlike = λ i j h l e. absurd (let z : schedulerAt (emptied ws id) .active ≡ 0 = ap (λ (s : SchedulerState). s .active) scheduler in omega arith);
+    leasts = λ i h j l. absurd (let z : schedulerAt (emptied ws id) .active ≡ 0 = ap (λ (s : SchedulerState). s .active) scheduler in omega arith);
   }
 
   pub empty-shape : Shape (emptied ws id) st

@@ -24,8 +24,8 @@ use Rattle.queue_model.specs.Types.{Stream, Scheduler, Active}
 use Rattle.queue_model.specs.Types as plain
 use Rattle.queue_model.specs.Restore.{half-sent-first, first-half-sent, remember-half-sent}
 use Rattle.stream_scheduler.specs.Link.{GoodScheduler, Unlike, entryAt, tableOf, currentOf, modelScheduler}
-use Rattle.stream_scheduler.proofs.Index.{table-same, unlike-same}
-use Rattle.stream_scheduler.proofs.Link.{make, model-of, entry-state, current-some, current-none}
+use Rattle.stream_scheduler.proofs.Index.{table-same}
+use Rattle.stream_scheduler.proofs.Link.{make, model-of, entry-state, state-good, current-some, current-none}
 use Rattle.stream_scheduler.proofs.Frames.{untouched-state}
 use Rattle.queue_state.specs.Chains.{each}
 use Rattle.queue_state.specs.Model.{nextOf, itemIn, rowAt, streamIn, streamsIn, tab}
@@ -121,12 +121,7 @@ module _ (ws : List ℕ) (g : GoodScheduler ws) (id : Remembered) (f : FitsRemem
   state-is = Laws.scheduler-at-put ws state (g .long) f
 
   pub recalls-good : GoodScheduler us
-  recalls-good = record {
-    long = Laws.whole-put-scheduler ws state ∙ g .long;
-    few = subst (λ (x : SchedulerState). x .active ≤ 256) (sym state-is) (g .few);
-    unlike = subst (λ (x : SchedulerState). Unlike (entryAt us) (x .active)) (sym state-is)
-        (unlike-same (entryAt ws) (entryAt us) (schedulerAt ws .active) (λ j h. ap (λ (a : Active). a .stream-id) (entry-state ws state j)) (g .unlike));
-  }
+  recalls-good = state-good ws g state refl
 
   pub recalls-model : modelScheduler us ≡ make ((modelScheduler ws) .payload-limit) (currentOf id) ((modelScheduler ws) .system-time) ((modelScheduler ws) .active)
   unfolding modelScheduler

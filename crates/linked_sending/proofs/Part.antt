@@ -30,7 +30,8 @@ use Rattle.queue_state.proofs.Chains.{count-head, each-frame}
 use Rattle.queue_state.proofs.Splits.{upd-same}
 use Rattle.queue_state.proofs.Frames.{Same, row-below, row-fits}
 use Rattle.queue_state.proofs.Steps.{After}
-use Rattle.queue_state.proofs.Singles.{Alike, Unmoved, alike-untouched, shape-totals, shape-row, row-streams, scheduler-same}
+use Rattle.queue_state.proofs.Singles.{Alike, Unmoved, alike-untouched, shape-totals, shape-row, row-streams}
+use Rattle.stream_scheduler.proofs.Link.{scheduler-same}
 use Rattle.queue_state.proofs.OneItem.{shape-item, items-first, item-streams, item-scheduler}
 use Rattle.queue_state.proofs.Rooms.{AllKnown, Let, accept-known}
 use Rattle.queue_state.proofs.Twice.{put-twice}
@@ -223,9 +224,9 @@ module _ (ws st : List ℕ) (g : Shape ws st) (known : AllKnown ws st) (at : ℕ
 
   scheduler4 : modelScheduler u4 ≡ accept (entryAt ws at) n (modelScheduler ws)
   scheduler4 =
-      scheduler-same u3 u4 (Laws.whole-put-stream u3 (rowAt u3 (c .pos)) s4) (Laws.options-put-stream u3 (rowAt u3 (c .pos)) s4) (Laws.scheduler-put-stream u3 (rowAt u3 (c .pos)) s4) (λ j. Laws.active-put-stream u3 (rowAt u3 (c .pos)) s4 j (rw row3 in-rows)) (g3 .schedules) .1
+      scheduler-same u3 u4 (Laws.whole-put-stream u3 (rowAt u3 (c .pos)) s4) (Laws.options-put-stream u3 (rowAt u3 (c .pos)) s4) (Laws.scheduler-put-stream u3 (rowAt u3 (c .pos)) s4) (λ j. Laws.active-put-stream u3 (rowAt u3 (c .pos)) s4 j (rw row3 in-rows)) (Laws.leasts-put-stream u3 (rowAt u3 (c .pos)) s4) (g3 .schedules) .1
       ∙ item-scheduler u2 st g2 (c .pos) known2 (c .first) has2 m3 fits3 next3 place3 length3
-      ∙ scheduler-same u1 u2 (Laws.whole-put-totals u1 (lessTotal (totalsAt u1) n)) (Laws.options-put-totals u1 (lessTotal (totalsAt u1) n)) (Laws.scheduler-put-totals u1 (lessTotal (totalsAt u1) n)) (Laws.active-put-totals u1 (lessTotal (totalsAt u1) n)) (g1 .schedules) .1
+      ∙ scheduler-same u1 u2 (Laws.whole-put-totals u1 (lessTotal (totalsAt u1) n)) (Laws.options-put-totals u1 (lessTotal (totalsAt u1) n)) (Laws.scheduler-put-totals u1 (lessTotal (totalsAt u1) n)) (Laws.active-put-totals u1 (lessTotal (totalsAt u1) n)) (Laws.leasts-put-totals u1 (lessTotal (totalsAt u1) n)) (g1 .schedules) .1
       ∙ one .scheduler
 
   options4 : optionsAt u4 ≡ optionsAt ws

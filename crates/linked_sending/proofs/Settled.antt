@@ -2,7 +2,7 @@
 use mathlib.Core.Path.{_≡_, refl, sym, ap, _∙_, subst}
 use mathlib.Core.Bool.{Bool, true, false}
 use mathlib.Core.List.{List}
-use Prim.Native.Nat.{ℕ, zero, suc, _-_, _≤_, _<_}
+use Prim.Native.Nat.{ℕ, zero, suc, _≤_, _<_}
 use native.Mathlib.Omega.{arith}
 use borrow.Author.Tests.{le-ltb, lt-leb, ltb-true, ltb-false, eqb-false}
 use lib.Dec.{ltb, eqb}
@@ -16,12 +16,12 @@ use Rattle.queue_words.specs.declared.active.SchedulingParameters.{SchedulingPa
 use Rattle.queue_words.specs.declared.known.Found.{Found}
 use Rattle.queue_words.specs.declared.known.Found.the-variants as found
 use Rattle.queue_model.specs.Logic.{if_then_else_}
-use Rattle.active_table.specs.Rows.{bestTo}
+use Rattle.active_table.specs.Groups.{leastKnown}
 use Rattle.stream_scheduler.specs.Words.{currentRow, peekAmong, peekWords, acceptAt}
 use Rattle.stream_scheduler.specs.Anew.{acceptLast}
 use Rattle.stream_scheduler.specs.declared.Peeked.{Peeked}
 use Rattle.stream_scheduler.specs.declared.Peeked.the-variants as peeked
-use Rattle.stream_scheduler.proofs.Search.{best-is}
+use Rattle.stream_scheduler.proofs.Search.{known-in}
 use Rattle.queue_sending.specs.Choice.{expiredBy, lookAt, lookIn, lookFor, lookPeeked, lookAhead}
 use Rattle.queue_sending.specs.declared.choice.Look.{Look}
 use Rattle.queue_sending.specs.declared.choice.Look.the-variants as look
@@ -64,7 +64,7 @@ unfolding peekWords peekAmong
 in-table ws at e = go (ltb 256 (schedulerAt ws .active)) refl (eqb (schedulerAt ws .active) 0) refl (ltb (currentRow ws (schedulerAt ws .active) (schedulerAt ws .current)) (schedulerAt ws .active)) refl e
   where
     go : (a : Bool) → ltb 256 (schedulerAt ws .active) ≡ a → (b : Bool) → eqb (schedulerAt ws .active) 0 ≡ b → (c : Bool) → ltb (currentRow ws (schedulerAt ws .active) (schedulerAt ws .current)) (schedulerAt ws .active) ≡ c
-        → (if a then peeked.Broken else if b then peeked.Nothing else if c then peeked.At (currentRow ws (schedulerAt ws .active) (schedulerAt ws .current)) else peeked.At ((bestTo ws (schedulerAt ws .active - 1)) .at)) ≡ peeked.At at → InTable ws at
+        → (if a then peeked.Broken else if b then peeked.Nothing else if c then peeked.At (currentRow ws (schedulerAt ws .active) (schedulerAt ws .current)) else peeked.At ((leastKnown ws (schedulerAt ws .active)) .at)) ≡ peeked.At at → InTable ws at
     go true ea b eb c ec f = let z : _≡_ {A = ℕ} 0 1 = cc in absurd (omega arith)
     go false ea true eb c ec f = let z : _≡_ {A = ℕ} 0 1 = cc in absurd (omega arith)
     go false ea false eb true ec f =
@@ -72,11 +72,10 @@ in-table ws at e = go (ltb 256 (schedulerAt ws .active)) refl (eqb (schedulerAt 
         let l = ltb-true (currentRow ws (schedulerAt ws .active) (schedulerAt ws .current)) (schedulerAt ws .active) ec in
         record { below = subst (λ (x : ℕ). x < schedulerAt ws .active) k l; few = ltb-false 256 (schedulerAt ws .active) ea }
     go false ea false eb false ec f =
-        let k : (bestTo ws (schedulerAt ws .active - 1)) .at ≡ at = cc in
-        let l = best-is ws (schedulerAt ws .active - 1) .best-in in
+        let k : (leastKnown ws (schedulerAt ws .active)) .at ≡ at = cc in
         let p : schedulerAt ws .active ≡ 0 → ⊥ = eqb-false (schedulerAt ws .active) 0 eb in
         let q : 0 < schedulerAt ws .active = above (schedulerAt ws .active) p in
-        record { below = subst (λ (x : ℕ). x < schedulerAt ws .active) k (omega arith); few = ltb-false 256 (schedulerAt ws .active) ea }
+        record { below = subst (λ (x : ℕ). x < schedulerAt ws .active) k (known-in ws (schedulerAt ws .active) q); few = ltb-false 256 (schedulerAt ws .active) ea }
 
 chosen-in : (ws : List ℕ) (time at id row : ℕ) → lookAhead ws time ≡ look.Chosen at id row → InTable ws at
 unfolding lookAhead

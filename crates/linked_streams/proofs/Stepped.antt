@@ -26,7 +26,8 @@ use Rattle.queue_state.specs.Model.{itemIn, streamOf, rowAt, optionsOf, streams
 use Rattle.queue_state.specs.Good.{Shape, Good}
 use Rattle.queue_state.specs.Promise.{callOf, shown, Does}
 use Rattle.queue_state.proofs.Frames.{row-below}
-use Rattle.queue_state.proofs.Singles.{model-is, model-options, model-interleaving, model-total, model-next, model-streams, model-schedules, scheduler-same, shape-row, row-streams}
+use Rattle.queue_state.proofs.Singles.{model-is, model-options, model-interleaving, model-total, model-next, model-streams, model-schedules, shape-row, row-streams}
+use Rattle.stream_scheduler.proofs.Link.{scheduler-same}
 use Rattle.queue_state.proofs.Inserts.{Inserted}
 
 -- The first check refuses.
@@ -76,7 +77,7 @@ module _ (c : run.Call) (ws st : List ℕ) (g : Good ws st) (fine : Fine (model 
       let x : Stream = streamOf (idAt ws i) s (each (itemIn ws st) (g .shape .q i)) in
       let et : totalsAt (putStream ws (rowAt ws i) s) ≡ totalsAt ws = Laws.totals-put-stream ws (rowAt ws i) s in
       let eo : optionsAt (putStream ws (rowAt ws i) s) ≡ optionsAt ws = Laws.options-put-stream ws (rowAt ws i) s in
-      let sc = scheduler-same ws (putStream ws (rowAt ws i) s) (Laws.whole-put-stream ws (rowAt ws i) s) eo (Laws.scheduler-put-stream ws (rowAt ws i) s) (λ j. Laws.active-put-stream ws (rowAt ws i) s j (row-below ws st (g .shape) i hk)) (g .shape .schedules) in
+      let sc = scheduler-same ws (putStream ws (rowAt ws i) s) (Laws.whole-put-stream ws (rowAt ws i) s) eo (Laws.scheduler-put-stream ws (rowAt ws i) s) (λ j. Laws.active-put-stream ws (rowAt ws i) s j (row-below ws st (g .shape) i hk)) (Laws.leasts-put-stream ws (rowAt ws i) s) (g .shape .schedules) in
       shows us x (shape-row ws st (g .shape) i hk s f a b .shape) eo
       (known-model ws st us x eo (ap (λ (t : Totals). t .interleaving) et) (ap (λ (t : Totals). t .total) et) (ap (λ (t : Totals). t .«next_message_id» .0) et) (row-streams ws st (g .shape) i hk s f a b) (sc .1)) e
 

@@ -13,7 +13,7 @@ use Rattle.queue_words.specs.Items.{itemAt, putPlace, putLength, withPlace, wit
 use Rattle.queue_words.specs.declared.items.Item.{Item}
 use Rattle.queue_words.specs.declared.header.Gaps.{Gaps}
 use Rattle.queue_words.specs.declared.header.Totals.{Totals}
-use Rattle.queue_words.proofs.Laws.{item-put-place, item-put-place-other, options-put-place, scheduler-put-place, known-put-place, stream-put-place, active-put-place, item-put-length, item-put-length-other, totals-put-length, options-put-length, scheduler-put-length, known-put-length, stream-put-length, active-put-length, options-put-totals, scheduler-put-totals, known-put-totals, stream-put-totals, active-put-totals}
+use Rattle.queue_words.proofs.Laws.{leasts-put-place, leasts-put-length, leasts-put-totals, item-put-place, item-put-place-other, options-put-place, scheduler-put-place, known-put-place, stream-put-place, active-put-place, item-put-length, item-put-length-other, totals-put-length, options-put-length, scheduler-put-length, known-put-length, stream-put-length, active-put-length, options-put-totals, scheduler-put-totals, known-put-totals, stream-put-totals, active-put-totals}
 use Rattle.payload_store.specs.Words.{usedOf, gapsOf, placeOf, sizeOf, withBytes, putBytes}
 use Rattle.payload_store.specs.Gaps.{gaps, room, gapFor, gapsLeft}
 use Rattle.payload_store.specs.Searching.{lies, found}
@@ -36,6 +36,7 @@ frame-none ws = record {
   known = λ j h. refl;
   streams = λ j h. refl;
   active = λ j. refl;
+  leasts = refl;
 }
 
 pub frame-both : (a b c : List ℕ) → Frame a b → Frame b c → Frame a c
@@ -48,6 +49,7 @@ frame-both a b c f g = record {
   known = λ j h. g .known j h ∙ f .known j h;
   streams = λ j h. g .streams j h ∙ f .streams j h;
   active = λ j. g .active j ∙ f .active j;
+  leasts = g .leasts ∙ f .leasts;
 }
 
 -- a row with another place, or another length, has its other fields
@@ -79,6 +81,7 @@ module _ (ws : List ℕ) (l : length ws ≡ 20768) where
     known = λ j q. known-put-place ws i v j q;
     streams = λ j q. stream-put-place ws i v j q;
     active = λ j. active-put-place ws i v j h;
+    leasts = leasts-put-place ws i v;
   }
 
   length-frame : (i v : ℕ) → i < 1024 → Frame ws (putLength ws i v)
@@ -93,6 +96,7 @@ module _ (ws : List ℕ) (l : length ws ≡ 20768) where
     known = λ j q. known-put-length ws i v j q;
     streams = λ j q. stream-put-length ws i v j q;
     active = λ j. active-put-length ws i v j h;
+    leasts = leasts-put-length ws i v;
   }
 
   bytes-frame : (u : ℕ) (e : Gaps) → Frame ws (putBytes ws u e)
@@ -106,6 +110,7 @@ module _ (ws : List ℕ) (l : length ws ≡ 20768) where
     known = λ j q. known-put-totals ws (withBytes (totalsAt ws) u e) j;
     streams = λ j q. stream-put-totals ws (withBytes (totalsAt ws) u e) j;
     active = λ j. active-put-totals ws (withBytes (totalsAt ws) u e) j;
+    leasts = leasts-put-totals ws (withBytes (totalsAt ws) u e);
   }
 
 -- moving together

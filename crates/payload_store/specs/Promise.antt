@@ -4,6 +4,7 @@ use mathlib.Core.List.{List}
 use Prim.Native.Nat.{ℕ, _+_, _≤_, _<_}
 use lib.ListN.{length}
 use Rattle.queue_words.specs.Header.{optionsAt, totalsAt, schedulerAt}
+use Rattle.queue_words.specs.Leasts.{leastsAt}
 use Rattle.queue_words.specs.Known.{knownAt}
 use Rattle.queue_words.specs.Streams.{streamAt}
 use Rattle.queue_words.specs.Items.{itemAt, withPlace, withLength}
@@ -52,6 +53,7 @@ pub record Frame (ws ws′ : List ℕ) : Type 0 where
   pub known : (j : ℕ) → j < 256 → knownAt ws′ j ≡ knownAt ws j
   pub streams : (j : ℕ) → j < 256 → streamAt ws′ j ≡ streamAt ws j
   pub active : (j : ℕ) → activeAt ws′ j ≡ activeAt ws j
+  pub leasts : leastsAt ws′ ≡ leastsAt ws
 
 -- the payload store's part of the words is the same: what the calls of other crates leave
 pub record SamePlaces (ws ws′ : List ℕ) : Type 0 where

@@ -10,6 +10,7 @@ use Rattle.queue_words.specs.Flags.{pick}
 use Rattle.queue_words.specs.Header.{optionsAt, totalsAt, schedulerAt}
 use Rattle.queue_words.specs.Active.{activeAt}
 use Rattle.queue_words.specs.Items.{itemAt}
+use Rattle.queue_words.specs.Leasts.{leastsAt}
 use Rattle.queue_words.specs.Known.{idAt}
 use Rattle.queue_words.specs.Streams.{streamAt, putStream, FitsStream}
 use Rattle.queue_words.specs.declared.header.Totals.{Totals}
@@ -23,6 +24,7 @@ use Rattle.payload_store.specs.Promise.{SamePlaces}
 use Rattle.payload_store.proofs.Drops.{drop-law}
 use Rattle.payload_store.proofs.Goods.{good-same, payload-kept}
 use Rattle.stream_scheduler.specs.Link.{GoodScheduler, modelScheduler}
+use Rattle.stream_scheduler.proofs.Link.{scheduler-same}
 use Rattle.message_chains.specs.Amounts.{rest}
 use Rattle.message_chains.specs.Heads.{headCode, released, lastBehind, withoutHead, headDropped}
 use Rattle.queue_state.specs.Chains.{Linked, lastOf, count, sumOf, each}
@@ -33,7 +35,6 @@ use Rattle.queue_state.proofs.Splits.{by-index, far-tail, far-free, row
 use Rattle.queue_state.proofs.Frames.{Same, Kept, same-item, same-both, row-fits, free-fits, row-below, items-frame}
 use Rattle.queue_state.proofs.Releases.{Gone, gone}
 use Rattle.queue_state.proofs.Steps.{After, step}
-use Rattle.queue_state.proofs.Singles.{scheduler-same}
 
 -- ---- a row stored: messages, payloads and the rest are the same
 
@@ -70,6 +71,7 @@ pub record HeadLeft (ws st : List ℕ) (g : Shape ws st) (i x : ℕ) (xs : List 
   pub options : optionsAt ws′ ≡ optionsAt ws
   pub scheduler : schedulerAt ws′ ≡ schedulerAt ws
   pub active : (j : ℕ) → activeAt ws′ j ≡ activeAt ws j
+  pub leasts : leastsAt ws′ ≡ leastsAt ws
   pub schedules : modelScheduler ws′ ≡ modelScheduler ws
 
 module _ (ws st : List ℕ) (g : Shape ws st) (i : ℕ) (hk : i < totalsAt ws .known) (x : ℕ) (xs : List ℕ) (eq : g .q i ≡ x ∷ xs) where
@@ -185,6 +187,7 @@ module _ (ws st : List ℕ) (g : Shape ws st) (i : ℕ) (hk : i < totalsAt ws .k
         (Laws.options-put-stream us (rowAt ws i) left ∙ d .options)
         (Laws.scheduler-put-stream us (rowAt ws i) left ∙ d .scheduler)
         (λ j. Laws.active-put-stream us (rowAt ws i) left j row-in ∙ d .active j)
+        (Laws.leasts-put-stream us (rowAt ws i) left ∙ d .leasts)
         (g .schedules)
 
     bare-left : (y : ℕ) → 1 ≤ count y (x ∷ g .fr) → sizeOf ws′ y ≡ 0
@@ -236,6 +239,7 @@ module _ (ws st : List ℕ) (g : Shape ws st) (i : ℕ) (hk : i < totalsAt ws .k
       options = Laws.options-put-stream us (rowAt ws i) left ∙ d .options;
       scheduler = Laws.scheduler-put-stream us (rowAt ws i) left ∙ d .scheduler;
       active = λ j. Laws.active-put-stream us (rowAt ws i) left j row-in ∙ d .active j;
+      leasts = Laws.leasts-put-stream us (rowAt ws i) left ∙ d .leasts;
       schedules = the-scheduler .1;
     }
 

@@ -11,6 +11,7 @@ use Rattle.queue_words.specs.Flags.{pick}
 use Rattle.queue_words.specs.Header.{optionsAt, totalsAt, putTotals, schedulerAt}
 use Rattle.queue_words.specs.Items.{itemAt}
 use Rattle.queue_words.specs.Active.{activeAt}
+use Rattle.queue_words.specs.Leasts.{leastsAt}
 use Rattle.queue_words.specs.Known.{knownAt, putKnown, idAt, RisingKnown}
 use Rattle.queue_words.specs.Streams.{streamAt, putStream, FitsStream}
 use Rattle.queue_words.specs.declared.header.Totals.{Totals}
@@ -24,6 +25,7 @@ use Rattle.payload_store.specs.Promise.{SamePlaces}
 use Rattle.payload_store.proofs.Cases.{by-lt}
 use Rattle.payload_store.proofs.Goods.{good-same, payload-kept}
 use Rattle.stream_scheduler.specs.Link.{GoodScheduler, modelScheduler}
+use Rattle.stream_scheduler.proofs.Link.{scheduler-same}
 use Rattle.queue_streams.specs.Known.{shifted, withKnown, inserted}
 use Rattle.queue_state.specs.Chains.{count, sumOf, sumTo, total, each, Split}
 use Rattle.queue_state.specs.Model.{itemIn, streamOf, rowAt, streamIn, streamsIn, tab}
@@ -32,7 +34,6 @@ use Rattle.queue_state.proofs.Chains.{sum-frame}
 use Rattle.queue_state.proofs.Splits.{by-index, total-upto, total-agree}
 use Rattle.queue_state.proofs.Tabs.{tab-insert}
 use Rattle.queue_state.proofs.Frames.{Same, Kept, same-item, row-frame, free-frame, items-frame, stream-row, free-fits, row-fits, short, stream-key-in}
-use Rattle.queue_state.proofs.Singles.{scheduler-same}
 
 -- ------------------------------------------------------------------ an empty list put between
 
@@ -105,6 +106,7 @@ pub record Beside (ws us : List ℕ) : Type 0 where
   pub streams : (j : ℕ) → streamAt us j ≡ streamAt ws j
   pub items : (j : ℕ) → itemAt us j ≡ itemAt ws j
   pub active : (j : ℕ) → activeAt us j ≡ activeAt ws j
+  pub leasts : leastsAt us ≡ leastsAt ws
 
 pub beside-put : (ws us : List ℕ) (i : ℕ) (k : Known) → i < 256 → Beside ws us → Beside ws (putKnown us i k)
 beside-put ws us i k h b = record {
@@ -115,12 +117,13 @@ beside-put ws us i k h b = record {
   streams = λ j. Laws.stream-put-known us i k j h ∙ b .streams j;
   items = λ j. Laws.item-put-known us i k j h ∙ b .items j;
   active = λ j. Laws.active-put-known us i k j h ∙ b .active j;
+  leasts = Laws.leasts-put-known us i k ∙ b .leasts;
 }
 
 module _ (ws : List ℕ) (n : ℕ) (long : length ws ≡ 20768) (few : n < 256) where
   pub shift-beside : (k : ℕ) → Beside ws (shifted ws n k)
   unfolding shifted
-  shift-beside zero = record { long = refl; options = refl; totals = refl; scheduler = refl; streams = λ j. refl; items = λ j. refl; active = λ j. refl }
+  shift-beside zero = record { long = refl; options = refl; totals = refl; scheduler = refl; streams = λ j. refl; items = λ j. refl; active = λ j. refl; leasts = refl }
   shift-beside (suc k) = beside-put ws (shifted ws n k) (n - k) (knownAt (shifted ws n k) (n - k - 1)) (omega arith) (shift-beside k)
 
   -- The rows that have not moved.
@@ -155,6 +158,7 @@ pub record Stored (ws : List ℕ) (p id : ℕ) (s : OutgoingStream) (us : List �
   pub scheduler : schedulerAt us ≡ schedulerAt ws
   pub items : (x : ℕ) → itemAt us x ≡ itemAt ws x
   pub active : (j : ℕ) → activeAt us j ≡ activeAt ws j
+  pub leasts : leastsAt us ≡ leastsAt ws
   -- the new row is the first that no stream has
   pub row-new : streamAt us (totalsAt ws .known) ≡ s
   pub row-other : (r : ℕ) → (totalsAt ws .known ≡ r → ⊥) → streamAt us r ≡ streamAt ws r
@@ -201,6 +205,7 @@ module _ (ws : List ℕ) (p id : ℕ) (s : OutgoingStream) (long : length ws ≡
     scheduler = Laws.scheduler-put-totals full-words more ∙ Laws.scheduler-put-stream tabled-words n s ∙ tabled .scheduler;
     items = λ x. Laws.item-put-totals full-words more x ∙ Laws.item-put-stream tabled-words n s x few ∙ tabled .items x;
     active = λ j. Laws.active-put-totals full-words more j ∙ Laws.active-put-stream tabled-words n s j few ∙ tabled .active j;
+    leasts = Laws.leasts-put-totals full-words more ∙ Laws.leasts-put-stream tabled-words n s ∙ tabled .leasts;
     row-new = Laws.stream-put-totals full-words more n ∙ Laws.stream-at-put tabled-words n s (tabled .long ∙ long) few fits;
     row-other = λ r ne. Laws.stream-put-totals full-words more r ∙ Laws.stream-at-put-other tabled-words n s r ne ∙ tabled .streams r;
     below = λ j h. late j (omega arith) ∙ other j (λ z. omega arith) ∙ shift-low ws n long few (n - p) j (omega arith) (omega arith);
@@ -368,7 +373,7 @@ module _ (ws st : List ℕ) (g : Shape ws st) (p id : ℕ) (s : OutgoingStream) 
       (λ l. let e : count x (spread (g .q) p j) ≡ 0 = ap (count x) (rest-new j l) in absurd (omega arith))
 
   scheduler-new : GoodScheduler us × (modelScheduler us ≡ modelScheduler ws)
-  scheduler-new = scheduler-same ws us (t .long) (t .options) (t .scheduler) (t .active) (g .schedules)
+  scheduler-new = scheduler-same ws us (t .long) (t .options) (t .scheduler) (t .active) (t .leasts) (g .schedules)
 
   split-new : Split (spread (g .q) p) (g .fr)
   split-new = record {

@@ -18,6 +18,7 @@ use Rattle.payload_store.specs.Good.{payloadOf}
 use Rattle.payload_store.specs.Promise.{SamePlaces}
 use Rattle.payload_store.proofs.Goods.{good-same, payload-kept}
 use Rattle.stream_scheduler.specs.Link.{GoodScheduler, modelScheduler}
+use Rattle.stream_scheduler.proofs.Link.{scheduler-same}
 use Rattle.queue_state.specs.Chains.{count, each}
 use Rattle.queue_state.specs.Model.{nextOf, itemOf, itemIn, streamOf, rowAt, streamsIn}
 use Rattle.queue_state.specs.Good.{Shape}
@@ -25,7 +26,6 @@ use Rattle.queue_state.proofs.Chains.{linked-frame, each-frame, sum-fra
 use Rattle.queue_state.proofs.Splits.{by-index, free-apart, row-once, far-tail}
 use Rattle.queue_state.proofs.Frames.{Same, Kept, same-item, free-frame, row-fits, free-fits, row-below}
 use Rattle.queue_state.proofs.Steps.{After, step}
-use Rattle.queue_state.proofs.Singles.{scheduler-same}
 
 module _ (ws st : List ℕ) (g : Shape ws st) (i : ℕ) (hk : i < totalsAt ws .known) (x : ℕ) (hx : 1 ≤ count x (g .q i)) (m : Item) (fits : FitsItem m)
     (next-same : m .next ≡ itemAt ws x .next) (place-same : m .place ≡ itemAt ws x .place) (length-same : m .length ≡ itemAt ws x .length) where
@@ -84,7 +84,7 @@ module _ (ws st : List ℕ) (g : Shape ws st) (i : ℕ) (hk : i < totalsAt ws .k
   same-row = Laws.stream-put-item ws x m (rowAt ws i) (row-below ws st g i hk)
 
   schedules : GoodScheduler (putItem ws x m) × (modelScheduler (putItem ws x m) ≡ modelScheduler ws)
-  schedules = scheduler-same ws (putItem ws x m) (Laws.whole-put-item ws x m) (Laws.options-put-item ws x m) (Laws.scheduler-put-item ws x m) (λ j. Laws.active-put-item ws x m j in-table) (g .schedules)
+  schedules = scheduler-same ws (putItem ws x m) (Laws.whole-put-item ws x m) (Laws.options-put-item ws x m) (Laws.scheduler-put-item ws x m) (λ j. Laws.active-put-item ws x m j in-table) (Laws.leasts-put-item ws x m) (g .schedules)
 
   pub item-scheduler : modelScheduler (putItem ws x m) ≡ modelScheduler ws
   item-scheduler = schedules .1

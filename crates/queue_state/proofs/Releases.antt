@@ -6,6 +6,7 @@ use lib.ListN.{length}
 use Rattle.queue_words.specs.Header.{optionsAt, totalsAt, putTotals, schedulerAt, FitsTotals}
 use Rattle.queue_words.specs.Items.{itemAt, putNext, withNext}
 use Rattle.queue_words.specs.Active.{activeAt}
+use Rattle.queue_words.specs.Leasts.{leastsAt}
 use Rattle.queue_words.specs.Known.{knownAt}
 use Rattle.queue_words.specs.Streams.{streamAt}
 use Rattle.queue_words.specs.declared.header.Totals.{Totals}
@@ -46,6 +47,7 @@ pub record Gone (ws st : List ℕ) (x n : ℕ) (us : List ℕ) : Type 0 where
   pub table : (j : ℕ) → j < 256 → knownAt us j ≡ knownAt ws j
   pub streams : (j : ℕ) → j < 256 → streamAt us j ≡ streamAt ws j
   pub active : (j : ℕ) → activeAt us j ≡ activeAt ws j
+  pub leasts : leastsAt us ≡ leastsAt ws
 
 module _ (ws st : List ℕ) (x n : ℕ) (long : length ws ≡ 20768) (ds : List ℕ) (hx : x < 1024) (d : Dropped ws st x ds) (f : Frame ws ds) where
   abbrev vs : List ℕ
@@ -117,6 +119,7 @@ module _ (ws st : List ℕ) (x n : ℕ) (long : length ws ≡ 20768) (ds : List 
     table = λ j h. Laws.known-put-totals vs (withoutMessage (totalsAt ds) x n) j ∙ Laws.known-put-next ds x (totalsAt ds .free) j h ∙ f .known j h;
     streams = λ j h. Laws.stream-put-totals vs (withoutMessage (totalsAt ds) x n) j ∙ Laws.stream-put-next ds x (totalsAt ds .free) j h ∙ f .streams j h;
     active = λ j. Laws.active-put-totals vs (withoutMessage (totalsAt ds) x n) j ∙ Laws.active-put-next ds x (totalsAt ds .free) j hx ∙ f .active j;
+    leasts = Laws.leasts-put-totals vs (withoutMessage (totalsAt ds) x n) ∙ Laws.leasts-put-next ds x (totalsAt ds .free) ∙ f .leasts;
   }
 
 -- THE THEOREM of a message that is gone.

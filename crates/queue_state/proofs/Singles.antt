@@ -27,7 +27,7 @@ use Rattle.payload_store.specs.Good as payload
 use Rattle.payload_store.specs.Promise.{SamePlaces}
 use Rattle.payload_store.proofs.Goods.{good-same, payload-kept}
 use Rattle.stream_scheduler.specs.Link.{GoodScheduler, Untouched, entryAt, modelScheduler, tableOf, currentOf}
-use Rattle.stream_scheduler.proofs.Index.{table-same, unlike-same}
+use Rattle.stream_scheduler.proofs.Link.{scheduler-same}
 use Rattle.queue_state.specs.Chains.{Linked, count, sumOf, total, upd, each, Split}
 use Rattle.queue_state.specs.Model.{nextOf, itemIn, streamOf, rowAt, optionsOf, streamIn, streamsIn, model, tab}
 use Rattle.queue_state.specs.Good.{Row, Shape}
@@ -179,27 +179,13 @@ alike-untouched ws us l u = record {
 pub shape-scheduler : (ws st us : List ℕ) (g : Shape ws st) → Untouched ws us → GoodScheduler us → Unmoved ws st g us
 shape-scheduler ws st us g u sc = unmoved ws st g us (alike-untouched ws us (sc .long ∙ sym (g .long)) u) sc
 
--- ---- a good scheduler and its model, where its words are the same
-
-pub scheduler-same : (ws us : List ℕ) → length us ≡ length ws → optionsAt us ≡ optionsAt ws → schedulerAt us ≡ schedulerAt ws → ((j : ℕ) → activeAt us j ≡ activeAt ws j)
-    → GoodScheduler ws → GoodScheduler us × (modelScheduler us ≡ modelScheduler ws)
-unfolding modelScheduler entryAt
-scheduler-same ws us l eo es ea g = (
-  record {
-    long = l ∙ g .long;
-    few = rw es (g .few);
-    unlike = rw es (unlike-same (entryAt ws) (entryAt us) (schedulerAt ws .active) (λ i h. rw (ea i)) (g .unlike));
-  },
-  rw (eo, es, table-same (entryAt ws) (entryAt us) (schedulerAt ws .active) (λ i h. rw (ea i))),
-)
-
 -- ---- the totals alone
 
 pub shape-totals : (ws st : List ℕ) (t : Totals) (g : Shape ws st) → FitsTotals t → t .known ≡ totalsAt ws .known → t .waiting ≡ totalsAt ws .waiting → t .free ≡ totalsAt ws .free → t .used ≡ usedOf ws → t .gaps ≡ gapsOf ws
     → Unmoved ws st g (putTotals ws t)
 shape-totals ws st t g f a b c d e =
     let p : totalsAt (putTotals ws t) ≡ t = Laws.totals-at-put ws t (g .long) f in
-    let s = scheduler-same ws (putTotals ws t) (Laws.whole-put-totals ws t) (Laws.options-put-totals ws t) (Laws.scheduler-put-totals ws t) (Laws.active-put-totals ws t) (g .schedules) in
+    let s = scheduler-same ws (putTotals ws t) (Laws.whole-put-totals ws t) (Laws.options-put-totals ws t) (Laws.scheduler-put-totals ws t) (Laws.active-put-totals ws t) (Laws.leasts-put-totals ws t) (g .schedules) in
     unmoved ws st g (putTotals ws t) (record {
       long = Laws.whole-put-totals ws t;
       known = ap (λ (x : Totals). x .known) p ∙ a;
@@ -265,7 +251,7 @@ module _ (ws st : List ℕ) (g : Shape ws st) (i : ℕ) (hk : i < totalsAt ws .k
     others′ = λ r h ne. Laws.stream-at-put-other ws (rowAt ws i) s r ne;
     only = λ x h a b. row-same x h;
     lay′ = good-same ws (putStream ws (rowAt ws i) s) st row-places (g .lay);
-    schedules′ = scheduler-same ws (putStream ws (rowAt ws i) s) (Laws.whole-put-stream ws (rowAt ws i) s) (Laws.options-put-stream ws (rowAt ws i) s) (Laws.scheduler-put-stream ws (rowAt ws i) s) (λ j. Laws.active-put-stream ws (rowAt ws i) s j (row-below ws st g i hk)) (g .schedules) .0;
+    schedules′ = scheduler-same ws (putStream ws (rowAt ws i) s) (Laws.whole-put-stream ws (rowAt ws i) s) (Laws.options-put-stream ws (rowAt ws i) s) (Laws.scheduler-put-stream ws (rowAt ws i) s) (λ j. Laws.active-put-stream ws (rowAt ws i) s j (row-below ws st g i hk)) (Laws.leasts-put-stream ws (rowAt ws i) s) (g .schedules) .0;
   })
 
   -- What the model's streams are then, by the stream's new row.

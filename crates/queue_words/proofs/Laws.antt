@@ -5,10 +5,10 @@
 use mathlib.Core.Path.{_≡_, refl, ap, _∙_}
 use mathlib.Core.Logic.{inl, inr}
 use mathlib.Core.List.{List}
-use Prim.Native.Nat.{ℕ, _+_, _*_, _<_}
+use Prim.Native.Nat.{ℕ, _+_, _*_, _/_, _<_, min}
 use native.Mathlib.Omega.{arith, ne-cases}
 use native.Mathlib.Nat.{mod-eq-of-lt, mod-lt}
-use lib.ListN.{length, length-set, getD}
+use lib.ListN.{length, length-set, getD, set}
 use lib.Seq.{getD-set-other}
 use Rattle.queue_words.specs.declared.header.Options.{Options}
 use Rattle.queue_words.specs.declared.header.Totals.{Totals}
@@ -25,9 +25,10 @@ use Rattle.queue_words.specs.Known.{knownOf, knownWords, knownAt, putKno
 use Rattle.queue_words.specs.Streams.{streamOf, streamWords, streamAt, putStream, FitsStream}
 use Rattle.queue_words.specs.Items.{itemOf, itemWords, itemAt, putItem, FitsItem}
 use Rattle.queue_words.specs.Items.{putNext, putPlace, putLength, withNext, withPlace, withLength}
-use Rattle.queue_words.specs.Active.{activeOf, activeWords, activeAt, putActive, FitsActive}
+use Rattle.queue_words.specs.Active.{activeOf, activeWords, activeIn, activeAt, putActive, FitsActive}
+use Rattle.queue_words.specs.Leasts.{groupOf, stale, leastsAt, putLeast}
 use Rattle.queue_words.proofs.Numbers.{flag-bit, pause-state-of-word, remembered-of-word, remembered-of-fits, expiry-of-words, numbers-of-words, mid-of-fits, ssn-of-fits}
-use Rattle.queue_words.proofs.Rows.{row-put-same, row-put-other, row-put-length, rows-apart, row-set-word, row-word-other}
+use Rattle.queue_words.proofs.Rows.{Apart, row-put-same, row-put-other, row-put-length, rows-apart, row-set-word, row-word-other}
 
 -- each struct survives its words
 options-words : (o : Options) → FitsOptions o → optionsOf (optionsWords o) ≡ o
@@ -165,9 +166,13 @@ pub whole-put-item : (ws : List ℕ) (i : ℕ) (m : Item) → length (putItem ws
 unfolding putItem
 whole-put-item ws i m = row-put-length ws (3104 + i * 16) (itemWords m)
 
+pub whole-put-least : (ws : List ℕ) (g v : ℕ) → length (putLeast ws g v) ≡ length ws
+unfolding putLeast
+whole-put-least ws g v = length-set ws (21 + g) v
+
 pub whole-put-active : (ws : List ℕ) (i : ℕ) (a : ActiveStreamInfo) → length (putActive ws i a) ≡ length ws
 unfolding putActive
-whole-put-active ws i a = row-put-length ws (19488 + i * 5) (activeWords a)
+whole-put-active ws i a = whole-put-least (activeIn ws i a) (groupOf i) stale ∙ row-put-length ws (19488 + i * 5) (activeWords a)
 
 pub whole-put-next : (ws : List ℕ) (i v : ℕ) → length (putNext ws i v) ≡ length ws
 unfolding putNext
@@ -180,6 +185,23 @@ whole-put-place ws i v = length-set ws (3104 + i * 16 + 11) v
 pub whole-put-length : (ws : List ℕ) (i v : ℕ) → length (putLength ws i v) ≡ length ws
 unfolding putLength
 whole-put-length ws i v = length-set ws (3104 + i * 16 + 12) v
+
+-- ANY ROW OF WORDS AFTER A STORE OF A GROUP'S LEAST ROW, AND OF AN ACTIVE STREAM, which makes its group stale
+
+row-put-least : (ws : List ℕ) (g v b n : ℕ) → Apart (21 + g) 1 b n → row (putLeast ws g v) b n ≡ row ws b n
+unfolding putLeast
+row-put-least ws g v b n o = row-word-other ws (21 + g) v b n o
+
+row-put-active : (ws : List ℕ) (i : ℕ) (a : ActiveStreamInfo) (b n : ℕ) → Apart (21 + groupOf i) 1 b n → Apart (19488 + i * 5) 5 b n → row (putActive ws i a) b n ≡ row ws b n
+unfolding putActive
+row-put-active ws i a b n o p = row-put-least (activeIn ws i a) (groupOf i) stale b n o ∙ row-put-other ws (19488 + i * 5) (activeWords a) b n p
+
+-- the group of a row that there is
+pub active-stored : (ws : List ℕ) (i : ℕ) (a : ActiveStreamInfo) (l m : List ℕ) → i < 256 → l ≡ activeIn ws i a → m ≡ putLeast l (i / 24) stale → m ≡ putActive ws i a
+unfolding putActive
+active-stored ws i a l m h el em =
+    let e : i / 24 ≡ groupOf i = omega arith in
+    em ∙ ap (λ g. putLeast l g stale) e ∙ ap (λ vs. putLeast vs (groupOf i) stale) el
 
 -- THE SAME ROW
 
@@ -216,7 +238,7 @@ item-at-put ws i m l h f = ap itemOf (row-put-same ws (3104 + i * 16) (itemWords
 pub active-at-put : (ws : List ℕ) (i : ℕ) (a : ActiveStreamInfo) → length ws ≡ 20768 → i < 256 → FitsActive a
     → activeAt (putActive ws i a) i ≡ a
 unfolding activeAt putActive
-active-at-put ws i a l h f = ap activeOf (row-put-same ws (19488 + i * 5) (activeWords a) (omega arith)) ∙ active-words a f
+active-at-put ws i a l h f = ap activeOf (row-put-least (activeIn ws i a) (groupOf i) stale (19488 + i * 5) 5 (inl (omega arith)) ∙ row-put-same ws (19488 + i * 5) (activeWords a) (omega arith)) ∙ active-words a f
 
 -- ANOTHER ROW OF THE SAME TABLE
 
@@ -236,9 +258,9 @@ item-at-put-other ws i m j ne =
     ap itemOf (row-put-other ws (3104 + i * 16) (itemWords m) (3104 + j * 16) 15 (rows-apart 3104 16 15 15 i j (omega arith) (omega arith) ne))
 
 pub active-at-put-other : (ws : List ℕ) (i : ℕ) (a : ActiveStreamInfo) (j : ℕ) → (i ≡ j → ⊥) → activeAt (putActive ws i a) j ≡ activeAt ws j
-unfolding activeAt putActive
+unfolding activeAt
 active-at-put-other ws i a j ne =
-    ap activeOf (row-put-other ws (19488 + i * 5) (activeWords a) (19488 + j * 5) 5 (rows-apart 19488 5 5 5 i j (omega arith) (omega arith) ne))
+    ap activeOf (row-put-active ws i a (19488 + j * 5) 5 (inl (omega arith)) (rows-apart 19488 5 5 5 i j (omega arith) (omega arith) ne))
 
 -- AFTER A STORE OF THE OPTIONS
 
@@ -399,28 +421,106 @@ active-put-item ws i m j h = ap activeOf (row-put-other ws (3104 + i * 16) (item
 -- AFTER A STORE OF AN ACTIVE STREAM
 
 pub options-put-active : (ws : List ℕ) (i : ℕ) (a : ActiveStreamInfo) → optionsAt (putActive ws i a) ≡ optionsAt ws
-unfolding optionsAt putActive
-options-put-active ws i a = ap optionsOf (row-put-other ws (19488 + i * 5) (activeWords a) 0 7 (inr (omega arith)))
+unfolding optionsAt
+options-put-active ws i a = ap optionsOf (row-put-active ws i a 0 7 (inr (omega arith)) (inr (omega arith)))
 
 pub totals-put-active : (ws : List ℕ) (i : ℕ) (a : ActiveStreamInfo) → totalsAt (putActive ws i a) ≡ totalsAt ws
-unfolding totalsAt putActive
-totals-put-active ws i a = ap totalsOf (row-put-other ws (19488 + i * 5) (activeWords a) 7 11 (inr (omega arith)))
+unfolding totalsAt
+totals-put-active ws i a = ap totalsOf (row-put-active ws i a 7 11 (inr (omega arith)) (inr (omega arith)))
 
 pub scheduler-put-active : (ws : List ℕ) (i : ℕ) (a : ActiveStreamInfo) → schedulerAt (putActive ws i a) ≡ schedulerAt ws
-unfolding schedulerAt putActive
-scheduler-put-active ws i a = ap schedulerOf (row-put-other ws (19488 + i * 5) (activeWords a) 18 3 (inr (omega arith)))
+unfolding schedulerAt
+scheduler-put-active ws i a = ap schedulerOf (row-put-active ws i a 18 3 (inr (omega arith)) (inr (omega arith)))
 
 pub known-put-active : (ws : List ℕ) (i : ℕ) (a : ActiveStreamInfo) (j : ℕ) → j < 256 → knownAt (putActive ws i a) j ≡ knownAt ws j
-unfolding knownAt putActive
-known-put-active ws i a j h = ap knownOf (row-put-other ws (19488 + i * 5) (activeWords a) (32 + j * 2) 2 (inr (omega arith)))
+unfolding knownAt
+known-put-active ws i a j h = ap knownOf (row-put-active ws i a (32 + j * 2) 2 (inl (omega arith)) (inr (omega arith)))
 
 pub stream-put-active : (ws : List ℕ) (i : ℕ) (a : ActiveStreamInfo) (j : ℕ) → j < 256 → streamAt (putActive ws i a) j ≡ streamAt ws j
-unfolding streamAt putActive
-stream-put-active ws i a j h = ap streamOf (row-put-other ws (19488 + i * 5) (activeWords a) (544 + j * 10) 9 (inr (omega arith)))
+unfolding streamAt
+stream-put-active ws i a j h = ap streamOf (row-put-active ws i a (544 + j * 10) 9 (inl (omega arith)) (inr (omega arith)))
 
 pub item-put-active : (ws : List ℕ) (i : ℕ) (a : ActiveStreamInfo) (j : ℕ) → j < 1024 → itemAt (putActive ws i a) j ≡ itemAt ws j
-unfolding itemAt putActive
-item-put-active ws i a j h = ap itemOf (row-put-other ws (19488 + i * 5) (activeWords a) (3104 + j * 16) 15 (inr (omega arith)))
+unfolding itemAt
+item-put-active ws i a j h = ap itemOf (row-put-active ws i a (3104 + j * 16) 15 (inl (omega arith)) (inr (omega arith)))
+
+-- AFTER A STORE OF A GROUP'S LEAST ROW
+
+pub options-put-least : (ws : List ℕ) (g v : ℕ) → optionsAt (putLeast ws g v) ≡ optionsAt ws
+unfolding optionsAt
+options-put-least ws g v = ap optionsOf (row-put-least ws g v 0 7 (inr (omega arith)))
+
+pub totals-put-least : (ws : List ℕ) (g v : ℕ) → totalsAt (putLeast ws g v) ≡ totalsAt ws
+unfolding totalsAt
+totals-put-least ws g v = ap totalsOf (row-put-least ws g v 7 11 (inr (omega arith)))
+
+pub scheduler-put-least : (ws : List ℕ) (g v : ℕ) → schedulerAt (putLeast ws g v) ≡ schedulerAt ws
+unfolding schedulerAt
+scheduler-put-least ws g v = ap schedulerOf (row-put-least ws g v 18 3 (inr (omega arith)))
+
+pub known-put-least : (ws : List ℕ) (g v j : ℕ) → g < 11 → knownAt (putLeast ws g v) j ≡ knownAt ws j
+unfolding knownAt
+known-put-least ws g v j h = ap knownOf (row-put-least ws g v (32 + j * 2) 2 (inl (omega arith)))
+
+pub stream-put-least : (ws : List ℕ) (g v j : ℕ) → g < 11 → streamAt (putLeast ws g v) j ≡ streamAt ws j
+unfolding streamAt
+stream-put-least ws g v j h = ap streamOf (row-put-least ws g v (544 + j * 10) 9 (inl (omega arith)))
+
+pub item-put-least : (ws : List ℕ) (g v j : ℕ) → g < 11 → itemAt (putLeast ws g v) j ≡ itemAt ws j
+unfolding itemAt
+item-put-least ws g v j h = ap itemOf (row-put-least ws g v (3104 + j * 16) 15 (inl (omega arith)))
+
+pub active-put-least : (ws : List ℕ) (g v j : ℕ) → g < 11 → activeAt (putLeast ws g v) j ≡ activeAt ws j
+unfolding activeAt
+active-put-least ws g v j h = ap activeOf (row-put-least ws g v (19488 + j * 5) 5 (inl (omega arith)))
+
+-- THE LEAST ROWS: one group's is stored, by itself or as stale with a row of it; no other store changes them
+
+pub leasts-at-put : (ws : List ℕ) (g v : ℕ) → length ws ≡ 20768 → g < 11 → leastsAt (putLeast ws g v) ≡ set (leastsAt ws) g v
+unfolding leastsAt putLeast
+leasts-at-put ws g v l h = row-set-word ws 21 11 g v (omega arith) h
+
+pub leasts-put-active : (ws : List ℕ) (i : ℕ) (a : ActiveStreamInfo) → length ws ≡ 20768 → leastsAt (putActive ws i a) ≡ set (leastsAt ws) (groupOf i) stale
+unfolding leastsAt putActive
+leasts-put-active ws i a l =
+    leasts-at-put (activeIn ws i a) (groupOf i) stale (row-put-length ws (19488 + i * 5) (activeWords a) ∙ l) (omega arith)
+    ∙ ap (λ vs. set vs (groupOf i) stale) (row-put-other ws (19488 + i * 5) (activeWords a) 21 11 (inr (omega arith)))
+
+pub leasts-put-options : (ws : List ℕ) (o : Options) → leastsAt (putOptions ws o) ≡ leastsAt ws
+unfolding leastsAt putOptions
+leasts-put-options ws o = row-put-other ws 0 (optionsWords o) 21 11 (inl (omega arith))
+
+pub leasts-put-totals : (ws : List ℕ) (t : Totals) → leastsAt (putTotals ws t) ≡ leastsAt ws
+unfolding leastsAt putTotals
+leasts-put-totals ws t = row-put-other ws 7 (totalsWords t) 21 11 (inl (omega arith))
+
+pub leasts-put-scheduler : (ws : List ℕ) (s : SchedulerState) → leastsAt (putScheduler ws s) ≡ leastsAt ws
+unfolding leastsAt putScheduler
+leasts-put-scheduler ws s = row-put-other ws 18 (schedulerWords s) 21 11 (inl (omega arith))
+
+pub leasts-put-known : (ws : List ℕ) (i : ℕ) (k : Known) → leastsAt (putKnown ws i k) ≡ leastsAt ws
+unfolding leastsAt putKnown
+leasts-put-known ws i k = row-put-other ws (32 + i * 2) (knownWords k) 21 11 (inr (omega arith))
+
+pub leasts-put-stream : (ws : List ℕ) (i : ℕ) (s : OutgoingStream) → leastsAt (putStream ws i s) ≡ leastsAt ws
+unfolding leastsAt putStream
+leasts-put-stream ws i s = row-put-other ws (544 + i * 10) (streamWords s) 21 11 (inr (omega arith))
+
+pub leasts-put-item : (ws : List ℕ) (i : ℕ) (m : Item) → leastsAt (putItem ws i m) ≡ leastsAt ws
+unfolding leastsAt putItem
+leasts-put-item ws i m = row-put-other ws (3104 + i * 16) (itemWords m) 21 11 (inr (omega arith))
+
+pub leasts-put-next : (ws : List ℕ) (i v : ℕ) → leastsAt (putNext ws i v) ≡ leastsAt ws
+unfolding leastsAt putNext
+leasts-put-next ws i v = row-word-other ws (3104 + i * 16 + 14) v 21 11 (inr (omega arith))
+
+pub leasts-put-place : (ws : List ℕ) (i v : ℕ) → leastsAt (putPlace ws i v) ≡ leastsAt ws
+unfolding leastsAt putPlace
+leasts-put-place ws i v = row-word-other ws (3104 + i * 16 + 11) v 21 11 (inr (omega arith))
+
+pub leasts-put-length : (ws : List ℕ) (i v : ℕ) → leastsAt (putLength ws i v) ≡ leastsAt ws
+unfolding leastsAt putLength
+leasts-put-length ws i v = row-word-other ws (3104 + i * 16 + 12) v 21 11 (inr (omega arith))
 
 -- AFTER A STORE OF ONE WORD OF A MESSAGE: as if the whole row had been stored with that field changed
 

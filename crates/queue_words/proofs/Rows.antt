@@ -1,5 +1,5 @@
 -- Laws of rows: what is read of a list of words after a row, or one word, was put into it. Every table's laws follow from these. Assumes nothing.
-use mathlib.Core.Path.{_≡_, refl, _∙_}
+use mathlib.Core.Path.{_≡_, refl, ap, _∙_}
 use mathlib.Core.Logic.{_⊎_, inl, inr, ⊎-elim}
 use mathlib.Core.List.{List, [], _∷_}
 use Prim.Native.Nat.{ℕ, zero, suc, _+_, _*_, _≤_, _<_}
@@ -60,6 +60,21 @@ pub rows-apart : (base stride n m i j : ℕ) → n ≤ stride → m ≤ stride �
 rows-apart base stride n m i j hn hm ne = ne-cases i j _ ne
     (λ lt. let k : suc i * stride ≤ j * stride = mul-le-mul-right stride lt in inl (omega (arith, suc-mul i stride)))
     (λ lt. let k : suc j * stride ≤ i * stride = mul-le-mul-right stride lt in inr (omega (arith, suc-mul j stride)))
+
+-- one word of what is read
+read-from : (n k d : ℕ) (ws : List ℕ) (at : ℕ) → d < n → getD (rowFrom ws at k n) d 0 ≡ getD ws (at + k + d) 0
+read-from zero k d ws at h = absurd (omega arith)
+read-from (suc n) k zero ws at h =
+    let z : at + k ≡ at + k + 0 = omega arith in
+    ap (λ i. getD ws i 0) z
+read-from (suc n) k (suc d) ws at h =
+    let z : at + suc k + d ≡ at + k + suc d = omega arith in
+    read-from n (suc k) d ws at (omega arith) ∙ ap (λ i. getD ws i 0) z
+
+pub row-word : (ws : List ℕ) (at n k : ℕ) → k < n → getD (row ws at n) k 0 ≡ getD ws (at + k) 0
+row-word ws at n k h =
+    let z : at + 0 + k ≡ at + k = omega arith in
+    read-from n 0 k ws at h ∙ ap (λ i. getD ws i 0) z
 
 -- one word of a row
 before-from : (n j : ℕ) (ws : List ℕ) (at p v : ℕ) → p < at + j → rowFrom (set ws p v) at j n ≡ rowFrom ws at j n

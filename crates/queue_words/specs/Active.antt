@@ -5,6 +5,7 @@ use lib.Dec.{ltb}
 use lib.ListN.{getD}
 use Rattle.queue_words.specs.Rows.{row, putRow}
 use Rattle.queue_words.specs.Flags.{pick}
+use Rattle.queue_words.specs.Leasts.{groupOf, stale, putLeast}
 use Rattle.queue_words.specs.declared.active.ActiveStreamInfo.{ActiveStreamInfo}
 use Rattle.queue_words.specs.declared.active.SchedulingParameters.{SchedulingParameters}
 use Rattle.queue_words.specs.declared.active.SchedulingParameters.the-variants.{RoundRobin, WeightedFairQueuing}
@@ -34,9 +35,9 @@ activeIn ws i a = putRow ws (19488 + i * 5) (activeWords a)
 unfoldable pub activeAt : List ℕ → ℕ → ActiveStreamInfo
 activeAt ws i = activeOut ws i
 
--- the words with a in row i
+-- the words with a in row i; which row of its group is the least is not known then
 unfoldable pub putActive : List ℕ → ℕ → ActiveStreamInfo → List ℕ
-putActive ws i a = activeIn ws i a
+putActive ws i a = putLeast (activeIn ws i a) (groupOf i) stale
 
 -- every narrow field is a value of its type
 pub record FitsActive (a : ActiveStreamInfo) : Type 0 where

@@ -5,5 +5,6 @@ pub mod Header
 pub mod Known
 pub mod Streams
 pub mod Items
+pub mod Leasts
 pub mod Active
 pub mod Find

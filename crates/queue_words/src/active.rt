@@ -4,6 +4,9 @@ ghost use Prim.Native.Nat.{_<_};
 ghost use Rattle.queue_words.specs.Active.{activeOut, activeIn, activeAt, putActive};
 ghost use Rattle.queue_words.specs.Active.{parametersOf, parametersWord};
 use crate::QUEUE_WORDS;
+use crate::leasts::GROUP;
+use crate::leasts::STALE;
+use crate::leasts::store_least;
 use types::StreamId;
 
 const BASE: usize = 19488;
@@ -50,11 +53,13 @@ pub fn load_active(queue: &[u64; QUEUE_WORDS], i: usize) -> ActiveStreamInfo
     active_out(queue, i)
 }
 
+// A store makes the row's group stale.
 pub fn store_active(queue: &mut [u64; QUEUE_WORDS], i: usize, a: ActiveStreamInfo)
     requires { ⌜ i < 256 ⌝ }
     ensures { λ _. ⌜ now (queue .exit) ≡ putActive (now (queue .entry)) i a ⌝ }
 {
-    active_in(queue, i, a)
+    active_in(queue, i, a);
+    store_least(queue, i / GROUP, STALE);
 }
 
 // How a stream's cost is counted: without interleaving each fragment costs 1, with it bytes by the stream's weight.

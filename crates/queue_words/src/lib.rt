@@ -4,7 +4,7 @@
 //         0 to     6      Options, what the queue was created with     1       7   7
 //         7 to    17      Totals                                       1      11  11
 //        18 to    20      SchedulerState                               1       3   3
-//        21 to    31      nothing
+//        21 to    31      the least of each 24 active streams         11       1   1
 //        32 to   543      Known, the known streams by rising id      256       2   2
 //       544 to  3103      OutgoingStream, the streams                256      10   9
 //      3104 to 19487      Item, the messages                        1024      16  15
@@ -21,6 +21,7 @@ pub mod active;
 pub mod header;
 pub mod items;
 pub mod known;
+pub mod leasts;
 pub mod limits;
 pub mod streams;
 
@@ -61,6 +62,8 @@ pub use known::find_stream;
 pub use known::known_fits;
 pub use known::load_known;
 pub use known::store_known;
+pub use leasts::load_least;
+pub use leasts::store_least;
 pub use streams::OutgoingStream;
 pub use streams::PauseState;
 pub use streams::load_stream;

@@ -17,14 +17,15 @@ use Rattle.queue_words.specs.Header.{optionsAt, schedulerAt, putScheduler}
 use Rattle.queue_words.specs.declared.active.ActiveStreamInfo.{ActiveStreamInfo}
 use Rattle.queue_words.specs.declared.active.SchedulingParameters.{SchedulingParameters}
 use Rattle.queue_words.specs.declared.header.Remembered.the-variants.{NoStream}
+use Rattle.active_table.specs.Groups.{refreshed}
 use Rattle.stream_scheduler.specs.Rows.{weightOf, advanced, scheduledRow}
 use Rattle.stream_scheduler.specs.Words.{outcome, rested, stateOf, droppedRow}
 use Rattle.stream_scheduler.specs.Anew.{begunAnew, lastRow, acceptLast}
 use Rattle.stream_scheduler.specs.Link.{entryAt, tableOf, modelScheduler, GoodScheduler, Steps, FitsParameters, Untouched}
 use Rattle.stream_scheduler.proofs.Index.{rising-table, put-without, without-twice}
-use Rattle.stream_scheduler.proofs.Link.{make, id-fits, current-none, forget-own, forget-none, start-none, dropped-rest, count, none-there, some-there, row-link, row-fits, row-entry}
+use Rattle.stream_scheduler.proofs.Link.{make, id-fits, current-none, forget-own, forget-none, start-none, dropped-rest, count, none-there, some-there, row-link, refreshed-steps, row-fits, row-entry}
 use Rattle.stream_scheduler.proofs.Handing.{moved-is, last-is, accept-last-link}
-use Rattle.stream_scheduler.proofs.Frames.{Kept, kept-done, kept-if, kept-refused, untouched-same, untouched-both, untouched-if, outcome-if, untouched-dropped}
+use Rattle.stream_scheduler.proofs.Frames.{Kept, kept-done, kept-if, kept-refused, untouched-same, untouched-both, untouched-if, untouched-refreshed, outcome-if, untouched-dropped}
 
 -- ---- the model's scheduler without the stream
 
@@ -110,13 +111,13 @@ module _ (ws : List ℕ) (g : GoodScheduler ws) (at sent : ℕ) (h : at < (sched
       | more l ↦ (let ne : bytes ≡ 0 → ⊥ = λ f. omega arith in rw (eqb-false ne) (anew-link l))
     ]
 
-    accepted : acceptLast ws at id sent bytes p ≡ outcome true (lastRow ws at id sent bytes (parametersWord p) ((schedulerAt ws) .active))
+    accepted : acceptLast ws at id sent bytes p ≡ outcome true (refreshed (lastRow ws at id sent bytes (parametersWord p) ((schedulerAt ws) .active)))
     unfolding acceptLast
     accepted = rw (ltb-false (g .few), leb-false h)
 
     pub last-link : (entryAt ws at) .bytes-remaining ≤ sent → Steps ws (acceptLast ws at ((entryAt ws at) .stream-id) sent bytes p) (set-bytes-remaining ((entryAt ws at) .stream-id) bytes (weightOf p) (accept (entryAt ws at) sent (modelScheduler ws)))
     unfolding accept
-    last-link le = rw (accepted, leb-true le) row-ended
+    last-link le = rw (accepted, leb-true le) (refreshed-steps ws (lastRow ws at id sent bytes (parametersWord p) ((schedulerAt ws) .active)) _ row-ended)
 
 -- ---- what it leaves alone, for any words
 
@@ -130,4 +131,4 @@ untouched-ended ws at id sent bytes w n = untouched-if ws (eqb bytes 0) _ _ (unt
 
 pub untouched-last : (ws : List ℕ) (at id sent bytes : ℕ) (p : SchedulingParameters) → Untouched ws ((acceptLast ws at id sent bytes p) .next)
 unfolding acceptLast
-untouched-last ws at id sent bytes p = outcome-if ws (ltb 256 ((schedulerAt ws) .active)) _ _ (untouched-same ws) (outcome-if ws (leb ((schedulerAt ws) .active) at) _ _ (untouched-same ws) (untouched-ended ws at id sent bytes _ _))
+untouched-last ws at id sent bytes p = outcome-if ws (ltb 256 ((schedulerAt ws) .active)) _ _ (untouched-same ws) (outcome-if ws (leb ((schedulerAt ws) .active) at) _ _ (untouched-same ws) (untouched-refreshed ws _ (untouched-ended ws at id sent bytes _ _)))

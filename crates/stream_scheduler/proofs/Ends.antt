@@ -11,6 +11,7 @@ use Rattle.queue_words.specs.declared.active.SchedulingParameters.{SchedulingPa
 use Rattle.queue_words.specs.declared.header.Options.{Options}
 use Rattle.queue_words.specs.declared.header.Remembered.the-variants.{NoStream}
 use Rattle.queue_words.specs.declared.header.SchedulerState.{SchedulerState}
+use Rattle.active_table.specs.Groups.{refreshed}
 use Rattle.stream_scheduler.specs.Rows.{advanced, scheduledRow}
 use Rattle.stream_scheduler.specs.Words.{outcome, rested, stateOf, droppedRow}
 use Rattle.stream_scheduler.specs.Anew.{begunAnew, lastRow, acceptLast}
@@ -31,10 +32,10 @@ module _ (ws : List ℕ) (at id sent bytes : ℕ) (p : SchedulingParameters) (s 
     last-no-row g = rw (← es, le-ltb _ _ h, le-leb _ _ g)
 
     module _ (f : at < s .active) (a : ActiveStreamInfo) (ea : a ≡ activeAt ws at) (t : ℕ) (et : t ≡ advanced (a .parameters) (a .«virtual_start_time») sent) where
-      pub last-none : (l : List ℕ) → bytes ≡ 0 → l ≡ droppedRow ws at NoStream t (s .active) → outcome true l ≡ acceptLast ws at id sent bytes p
+      pub last-none : (l r : List ℕ) → bytes ≡ 0 → l ≡ droppedRow ws at NoStream t (s .active) → r ≡ refreshed l → outcome true r ≡ acceptLast ws at id sent bytes p
       unfolding acceptLast lastRow
-      last-none l z el = rw (← es, le-ltb _ _ h, lt-leb _ _ f, ← ea, eq-eqb _ _ z, el, et)
+      last-none l r z el er = rw (← es, le-ltb _ _ h, lt-leb _ _ f, ← ea, eq-eqb _ _ z, er, el, et)
 
-      pub last-anew : (w : ℕ) (l : List ℕ) → (bytes ≡ 0 → ⊥) → w ≡ parametersWord p → l ≡ begunAnew ws at id t bytes w (s .active) → outcome true l ≡ acceptLast ws at id sent bytes p
+      pub last-anew : (w : ℕ) (l r : List ℕ) → (bytes ≡ 0 → ⊥) → w ≡ parametersWord p → l ≡ begunAnew ws at id t bytes w (s .active) → r ≡ refreshed l → outcome true r ≡ acceptLast ws at id sent bytes p
       unfolding acceptLast lastRow
-      last-anew w l z ew el = rw (← es, le-ltb _ _ h, lt-leb _ _ f, ← ea, ne-eqb _ _ z, el, et, ew)
+      last-anew w l r z ew el er = rw (← es, le-ltb _ _ h, lt-leb _ _ f, ← ea, ne-eqb _ _ z, er, el, et, ew)

@@ -18,7 +18,8 @@ use Rattle.queue_words.specs.declared.header.Options.{Options}
 use Rattle.queue_words.specs.declared.header.Remembered.{Remembered}
 use Rattle.queue_words.specs.declared.header.Remembered.the-variants.{NoStream, Stream}
 use Rattle.queue_words.specs.declared.header.SchedulerState.{SchedulerState}
-use Rattle.active_table.specs.Rows.{seek, bestTo}
+use Rattle.active_table.specs.Groups.{leastKnown, refreshed}
+use Rattle.active_table.specs.Rows.{seek}
 use Rattle.active_table.specs.declared.Best.{Best}
 use Rattle.stream_scheduler.specs.Rows.{advanced, scheduledRow}
 use Rattle.stream_scheduler.specs.Words.{outcome, currentRow, peekAmong, peekWords, waitsIn, forgotten, rested, stateOf, droppedRow, takenOut, removeStream, setIn, setBytesRemaining, beginWaiting, rememberedBy, acceptRow, acceptAt}
@@ -79,7 +80,7 @@ module _ (ws : List ℕ) (n : ℕ) (current : Remembered) (i : ℕ) (ei : i ≡ 
   unfolding peekAmong
   front-current l = rw (← ei, lt-ltb _ _ l)
 
-  pub front-least : (b : Best) → n ≤ i → b ≡ bestTo ws (n - 1) → At (b .at) ≡ peekAmong ws n (currentRow ws n current)
+  pub front-least : (b : Best) → n ≤ i → b ≡ leastKnown ws n → At (b .at) ≡ peekAmong ws n (currentRow ws n current)
   unfolding peekAmong
   front-least b g eb = rw (← ei, le-ltb _ _ g, eb)
 
@@ -163,15 +164,15 @@ module _ (ws : List ℕ) (at bytes : ℕ) (s : SchedulerState) (es : s ≡ sched
     accept-no-row g = rw (← es, le-ltb _ _ h, le-leb _ _ g)
 
     module _ (f : at < s .active) (a : ActiveStreamInfo) (ea : a ≡ activeAt ws at) (t : ℕ) (et : t ≡ advanced (a .parameters) (a .«virtual_start_time») bytes) where
-      pub accept-last : (l : List ℕ) → a .«bytes_remaining» ≤ bytes → l ≡ droppedRow ws at NoStream t (s .active) → outcome true l ≡ acceptAt ws at bytes
+      pub accept-last : (l r : List ℕ) → a .«bytes_remaining» ≤ bytes → l ≡ droppedRow ws at NoStream t (s .active) → r ≡ refreshed l → outcome true r ≡ acceptAt ws at bytes
       unfolding acceptAt acceptRow
-      accept-last l g el = rw (← es, le-ltb _ _ h, lt-leb _ _ f, ← ea, le-leb _ _ g, el, et)
+      accept-last l r g el er = rw (← es, le-ltb _ _ h, lt-leb _ _ f, ← ea, le-leb _ _ g, er, el, et)
 
-      pub accept-part : (o : Options) (row : ActiveStreamInfo) (c : Remembered) (l m : List ℕ) → bytes < a .«bytes_remaining» → o ≡ optionsAt ws
+      pub accept-part : (o : Options) (row : ActiveStreamInfo) (c : Remembered) (l m r : List ℕ) → bytes < a .«bytes_remaining» → o ≡ optionsAt ws
           → row ≡ scheduledRow (o .«payload_limit») (a .«stream_id» .0) (a .parameters) t (a .«bytes_remaining» - bytes) → l ≡ putActive ws at row
-          → c ≡ rememberedBy (a .«stream_id» .0) (a .parameters) → m ≡ putScheduler l (stateOf c t (s .active)) → outcome true m ≡ acceptAt ws at bytes
+          → c ≡ rememberedBy (a .«stream_id» .0) (a .parameters) → m ≡ putScheduler l (stateOf c t (s .active)) → r ≡ refreshed m → outcome true r ≡ acceptAt ws at bytes
       unfolding acceptAt acceptRow
-      accept-part o row c l m g eo er el ec em = rw (← es, le-ltb _ _ h, lt-leb _ _ f, ← ea, lt-leb _ _ g, ← eo, em, el, er, ec, et)
+      accept-part o row c l m r g eo er el ec em ef = rw (← es, le-ltb _ _ h, lt-leb _ _ f, ← ea, lt-leb _ _ g, ← eo, ef, em, el, er, ec, et)
 
 module _ (id w : ℕ) (p : SchedulingParameters) (ep : p ≡ parametersOf w) where
   pub remembered-turns : p ≡ RoundRobin → Stream (record { 0 = id }) ≡ rememberedBy id w

@@ -16,8 +16,10 @@ use Rattle.queue_words.specs.Streams.{streamAt}
 use Rattle.queue_words.specs.declared.active.ActiveStreamInfo.{ActiveStreamInfo}
 use Rattle.queue_words.specs.declared.active.SchedulingParameters.{SchedulingParameters}
 use Rattle.queue_words.specs.declared.header.SchedulerState.{SchedulerState}
-use Rattle.queue_words.proofs.Laws.{options-put-scheduler, totals-put-scheduler, known-put-scheduler, stream-put-scheduler, item-put-scheduler, options-put-active, totals-put-active, known-put-active, stream-put-active, item-put-active}
+use Rattle.queue_words.proofs.Laws.{options-put-least, totals-put-least, known-put-least, stream-put-least, item-put-least, options-put-scheduler, totals-put-scheduler, known-put-scheduler, stream-put-scheduler, item-put-scheduler, options-put-active, totals-put-active, known-put-active, stream-put-active, item-put-active}
+use Rattle.active_table.specs.Groups.{refreshed}
 use Rattle.active_table.specs.Rows.{seek}
+use Rattle.active_table.proofs.Choice.{refreshed-puts}
 use Rattle.queue_words.specs.declared.header.Remembered.{Remembered}
 use Rattle.stream_scheduler.specs.Rows.{advanced, scheduledRow}
 use Rattle.stream_scheduler.specs.Words.{Outcome, outcome, forgotten, rested, stateOf, droppedRow, takenOut, removeStream, setIn, setBytesRemaining, rememberedBy, partRow, acceptRow, acceptAt}
@@ -89,6 +91,16 @@ untouched-row ws i a = record {
   same-items = λ j h. item-put-active ws i a j h;
 }
 
+-- A group made fresh changes no other part.
+pub untouched-refreshed : (ws us : List ℕ) → Untouched ws us → Untouched ws (refreshed us)
+untouched-refreshed ws us u = untouched-then ws us (refreshed us) u (refreshed-puts us (Untouched us) (untouched-same us) (λ g v h. record {
+  same-options = options-put-least us g v;
+  same-totals = totals-put-least us g v;
+  same-known = λ j k. known-put-least us g v j h;
+  same-streams = λ j k. stream-put-least us g v j h;
+  same-items = λ j k. item-put-least us g v j h;
+}))
+
 pub untouched-both : (ws : List ℕ) (i : ℕ) (a : ActiveStreamInfo) (s : SchedulerState) → Untouched ws (putScheduler (putActive ws i a) s)
 untouched-both ws i a s = untouched-then ws (putActive ws i a) (putScheduler (putActive ws i a) s) (untouched-row ws i a) (untouched-state (putActive ws i a) s)
 
@@ -126,7 +138,7 @@ untouched-handed ws at bytes n = untouched-if ws (leb ((activeAt ws at) .«bytes
 
 pub untouched-accept : (ws : List ℕ) (at bytes : ℕ) → Untouched ws ((acceptAt ws at bytes) .next)
 unfolding acceptAt
-untouched-accept ws at bytes = outcome-if ws (ltb 256 ((schedulerAt ws) .active)) _ _ (untouched-same ws) (outcome-if ws (leb ((schedulerAt ws) .active) at) _ _ (untouched-same ws) (untouched-handed ws at bytes _))
+untouched-accept ws at bytes = outcome-if ws (ltb 256 ((schedulerAt ws) .active)) _ _ (untouched-same ws) (outcome-if ws (leb ((schedulerAt ws) .active) at) _ _ (untouched-same ws) (untouched-refreshed ws _ (untouched-handed ws at bytes _)))
 
 -- ---- good again, done or refused
 

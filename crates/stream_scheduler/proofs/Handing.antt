@@ -21,13 +21,14 @@ use Rattle.queue_words.proofs.Laws.{active-at-fits}
 use Rattle.stream_scheduler.specs.declared.Peeked.{Peeked}
 use Rattle.stream_scheduler.specs.declared.Peeked.the-variants.{At, Nothing, Broken}
 use Rattle.queue_words.specs.declared.active.SchedulingParameters.the-variants.{RoundRobin, WeightedFairQueuing}
-use Rattle.active_table.specs.Rows.{seek, bestTo}
+use Rattle.active_table.specs.Groups.{leastKnown, refreshed}
+use Rattle.active_table.specs.Rows.{seek}
 use Rattle.stream_scheduler.specs.Rows.{weightOf, weightAt, advanced, scheduledRow}
 use Rattle.stream_scheduler.specs.Words.{Outcome, outcome, currentRow, peekAmong, peekWords, stateOf, droppedRow, rememberedIn, rememberedBy, partRow, acceptRow, acceptAt}
 use Rattle.stream_scheduler.specs.Link.{entryOf, entryAt, tableOf, currentOf, modelScheduler, GoodScheduler, Steps, Chooses, row-chosen, none-chosen}
 use Rattle.stream_scheduler.proofs.Index.{table-nil, table-at, table-none, table-least}
-use Rattle.stream_scheduler.proofs.Search.{Sought, hit, miss, sought, best-is}
-use Rattle.stream_scheduler.proofs.Link.{make, current-some, current-none, forget-own, dropped-good, dropped-count, dropped-model, none-there, some-there, count, row-link, scheduled-row}
+use Rattle.stream_scheduler.proofs.Search.{Sought, hit, miss, sought, known-in, known-least}
+use Rattle.stream_scheduler.proofs.Link.{make, current-some, current-none, forget-own, dropped-good, dropped-count, dropped-model, none-there, some-there, count, row-link, refreshed-steps, scheduled-row}
 
 -- ---- accept
 
@@ -131,9 +132,10 @@ module _ (ws : List ℕ) (g : GoodScheduler ws) (at bytes : ℕ) (h : at < (sche
   unfolding acceptAt acceptRow
   accept-link =
       let n : ℕ = (schedulerAt ws) .active in
-      subst (λ (b : Bool). Steps ws (if b then outcome false ws else if leb n at then outcome false ws else outcome true (acceptRow ws at bytes n)) (accept (entryAt ws at) bytes (modelScheduler ws))) (sym (ltb-false (g .few)))
-      (subst (λ (b : Bool). Steps ws (if b then outcome false ws else outcome true (acceptRow ws at bytes n)) (accept (entryAt ws at) bytes (modelScheduler ws))) (sym (leb-false h))
-      (subst (Steps ws (outcome true (acceptRow ws at bytes n))) (sym accept-is) (by-size (leb ((activeAt ws at) .«bytes_remaining») bytes) refl)))
+      subst (λ (b : Bool). Steps ws (if b then outcome false ws else if leb n at then outcome false ws else outcome true (refreshed (acceptRow ws at bytes n))) (accept (entryAt ws at) bytes (modelScheduler ws))) (sym (ltb-false (g .few)))
+      (subst (λ (b : Bool). Steps ws (if b then outcome false ws else outcome true (refreshed (acceptRow ws at bytes n))) (accept (entryAt ws at) bytes (modelScheduler ws))) (sym (leb-false h))
+      (refreshed-steps ws (acceptRow ws at bytes n) (accept (entryAt ws at) bytes (modelScheduler ws))
+      (subst (Steps ws (outcome true (acceptRow ws at bytes n))) (sym accept-is) (by-size (leb ((activeAt ws at) .«bytes_remaining») bytes) refl))))
 
 -- ---- peek
 
@@ -180,24 +182,24 @@ module _ (ws : List ℕ) (g : GoodScheduler ws) where
       ∙ ap (λ (x : ℕ). find-active x t) (sym e) ∙ table-at (entryAt ws) ((schedulerAt ws) .active) i (g .unlike) h) ∙ or-some (entryAt ws i) (least-of t)
 
   -- The least row, where none is remembered that waits.
-  peek-least : (m : ℕ) → (schedulerAt ws) .active ≡ suc m → remembered (currentOf ((schedulerAt ws) .current)) (tableOf (entryAt ws) ((schedulerAt ws) .active)) ≡ none → peek (modelScheduler ws) ≡ some (entryAt ws ((bestTo ws m) .at))
-  peek-least m z r =
-      let b = best-is ws m in let o = b .best-in in
-      peek-is ∙ ap (λ (x : Option Active). or-else x (least-of (tableOf (entryAt ws) ((schedulerAt ws) .active)))) r ∙ or-none (least-of (tableOf (entryAt ws) ((schedulerAt ws) .active)))
-      ∙ table-least (entryAt ws) ((schedulerAt ws) .active) ((bestTo ws m) .at) (g .unlike) (omega arith) (λ j l. b .best-least j (omega arith))
+  peek-least : 0 < (schedulerAt ws) .active → remembered (currentOf ((schedulerAt ws) .current)) (tableOf (entryAt ws) ((schedulerAt ws) .active)) ≡ none → peek (modelScheduler ws) ≡ some (entryAt ws ((leastKnown ws ((schedulerAt ws) .active)) .at))
+  peek-least pos r =
+      let n : ℕ = (schedulerAt ws) .active in
+      peek-is ∙ ap (λ (x : Option Active). or-else x (least-of (tableOf (entryAt ws) n))) r ∙ or-none (least-of (tableOf (entryAt ws) n))
+      ∙ table-least (entryAt ws) n ((leastKnown ws n) .at) (g .unlike) (known-in ws n pos) (known-least ws n pos (g .leasts))
 
   among : (i : ℕ) → i < (schedulerAt ws) .active → peekAmong ws ((schedulerAt ws) .active) i ≡ At i
   unfolding peekAmong
-  among i h = ap (λ (b : Bool). if b then At i else At ((bestTo ws ((schedulerAt ws) .active - 1)) .at)) (ltb-true h)
+  among i h = ap (λ (b : Bool). if b then At i else At ((leastKnown ws ((schedulerAt ws) .active)) .at)) (ltb-true h)
 
-  among-least : (i m : ℕ) → (schedulerAt ws) .active ≡ suc m → (schedulerAt ws) .active ≤ i → peekAmong ws ((schedulerAt ws) .active) i ≡ At ((bestTo ws m) .at)
+  among-least : (i : ℕ) → (schedulerAt ws) .active ≤ i → peekAmong ws ((schedulerAt ws) .active) i ≡ At ((leastKnown ws ((schedulerAt ws) .active)) .at)
   unfolding peekAmong
-  among-least i m z h =
-      let k : (schedulerAt ws) .active - 1 ≡ m = omega arith in
-      ap (λ (b : Bool). if b then At i else At ((bestTo ws ((schedulerAt ws) .active - 1)) .at)) (ltb-false h) ∙ ap (λ (x : ℕ). At ((bestTo ws x) .at)) k
+  among-least i h = ap (λ (b : Bool). if b then At i else At ((leastKnown ws ((schedulerAt ws) .active)) .at)) (ltb-false h)
 
   least-chosen : (i m : ℕ) → (schedulerAt ws) .active ≡ suc m → (schedulerAt ws) .active ≤ i → remembered (currentOf ((schedulerAt ws) .current)) (tableOf (entryAt ws) ((schedulerAt ws) .active)) ≡ none → Chooses ws (peek (modelScheduler ws)) (peekAmong ws ((schedulerAt ws) .active) i)
-  least-chosen i m z h r = let o = (best-is ws m) .best-in in subst (Chooses ws (peek (modelScheduler ws))) (sym (among-least i m z h)) (row-chosen ((bestTo ws m) .at) (omega arith) (peek-least m z r))
+  least-chosen i m z h r =
+      let pos : 0 < (schedulerAt ws) .active = omega arith in
+      subst (Chooses ws (peek (modelScheduler ws))) (sym (among-least i h)) (row-chosen ((leastKnown ws ((schedulerAt ws) .active)) .at) (known-in ws ((schedulerAt ws) .active) pos) (peek-least pos r))
 
   chooses-some : (m : ℕ) → (schedulerAt ws) .active ≡ suc m → (c : StreamId) → (schedulerAt ws) .current ≡ Stream c → (i : ℕ) → Sought ws (c .0) ((schedulerAt ws) .active) i → Chooses ws (peek (modelScheduler ws)) (peekAmong ws ((schedulerAt ws) .active) i)
   chooses-some m z c ec i (hit h e) = subst (Chooses ws (peek (modelScheduler ws))) (sym (among i h)) (row-chosen i h (peek-current c i ec h e))

@@ -24,15 +24,18 @@ use Rattle.queue_words.specs.declared.header.Options.{Options}
 use Rattle.queue_words.specs.declared.header.Remembered.{Remembered}
 use Rattle.queue_words.specs.declared.header.Remembered.the-variants.{NoStream, Stream}
 use Rattle.queue_words.specs.declared.header.SchedulerState.{SchedulerState}
-use Rattle.queue_words.proofs.Laws.{active-at-fits, active-at-put, active-at-put-other, active-put-scheduler, scheduler-put-active, scheduler-at-put, active-count-put, remembered-at-fits, options-put-active, options-put-scheduler, whole-put-active, whole-put-scheduler}
+use Rattle.queue_words.specs.Leasts.{leastsAt}
+use Rattle.queue_words.proofs.Laws.{leasts-put-active, leasts-put-scheduler, active-at-fits, active-at-put, active-at-put-other, active-put-scheduler, scheduler-put-active, scheduler-at-put, active-count-put, remembered-at-fits, options-put-active, options-put-scheduler, whole-put-active, whole-put-scheduler}
 use Rattle.stream_scheduler.specs.declared.Peeked.{Peeked}
 use Rattle.stream_scheduler.specs.declared.Peeked.the-variants.{At, Nothing, Broken}
-use Rattle.active_table.specs.Rows.{seek, bestTo}
+use Rattle.active_table.specs.Groups.{refreshed, Leasts}
+use Rattle.active_table.specs.Rows.{seek}
+use Rattle.active_table.proofs.Choice.{leasts-same, leasts-stored, refreshed-whole, refreshed-options, refreshed-scheduler, refreshed-rows, refreshed-leasts}
 use Rattle.stream_scheduler.specs.Rows.{weightOf, weightAt, advanced, scheduledRow}
 use Rattle.stream_scheduler.specs.Words.{Outcome, outcome, currentRow, peekAmong, peekWords, forgotten, rested, stateOf, droppedRow, takenOut, removeStream, setIn, setBytesRemaining, rememberedBy, partRow, acceptRow, acceptAt}
 use Rattle.stream_scheduler.specs.Link.{entryOf, entryAt, tableOf, currentOf, modelScheduler, Unlike, GoodScheduler, Steps, FitsParameters, Room, listed, free}
 use Rattle.stream_scheduler.proofs.Index.{table-nil, table-suc, table-at, table-none, table-same, table-set, table-add, unlike-same, unlike-add, unlike-drop, table-drop, table-without, table-least}
-use Rattle.stream_scheduler.proofs.Search.{Sought, hit, miss, sought, best-is}
+use Rattle.stream_scheduler.proofs.Search.{Sought, hit, miss, sought}
 
 -- ---- the scheduler by its parts
 
@@ -75,6 +78,58 @@ entry-state ws s j = ap entryOf (active-put-scheduler ws s j)
 pub entry-row : (ws : List ℕ) (i : ℕ) → entryAt ws i ≡ entryOf (activeAt ws i)
 unfolding entryAt
 entry-row ws i = refl
+
+-- ---- the groups' words after a store
+
+module _ (ws : List ℕ) (at : ℕ) (row : ActiveStreamInfo) (n n′ : ℕ) (long : length ws ≡ 20768) (fits : at < 256) (down : (j : ℕ) → j < n′ → (at ≡ j → ⊥) → j < n) (l : Leasts ws n) where
+  -- A row, of n′ rows that but for it were among n before.
+  store-leasts : Leasts (putActive ws at row) n′
+  store-leasts = leasts-stored ws (putActive ws at row) at n n′ fits (leasts-put-active ws at row long) (active-at-put-other ws at row) down l
+
+state-leasts : (ws : List ℕ) (v : SchedulerState) (n : ℕ) → Leasts ws n → Leasts (putScheduler ws v) n
+state-leasts ws v n l = leasts-same ws (putScheduler ws v) n (leasts-put-scheduler ws v) (active-put-scheduler ws v) l
+
+-- ---- other words with the same rows
+
+pub scheduler-kept : (ws us : List ℕ) → length us ≡ length ws → optionsAt us ≡ optionsAt ws → schedulerAt us ≡ schedulerAt ws → ((j : ℕ) → activeAt us j ≡ activeAt ws j) → Leasts us ((schedulerAt ws) .active)
+    → GoodScheduler ws → GoodScheduler us × (modelScheduler us ≡ modelScheduler ws)
+unfolding modelScheduler entryAt
+scheduler-kept ws us l eo es ea w g = (
+  record {
+    long = l ∙ g .long;
+    few = rw es (g .few);
+    unlike = rw es (unlike-same (entryAt ws) (entryAt us) (schedulerAt ws .active) (λ i h. rw (ea i)) (g .unlike));
+    leasts = rw es w;
+  },
+  rw (eo, es, table-same (entryAt ws) (entryAt us) (schedulerAt ws .active) (λ i h. rw (ea i))),
+)
+
+pub scheduler-same : (ws us : List ℕ) → length us ≡ length ws → optionsAt us ≡ optionsAt ws → schedulerAt us ≡ schedulerAt ws → ((j : ℕ) → activeAt us j ≡ activeAt ws j) → leastsAt us ≡ leastsAt ws
+    → GoodScheduler ws → GoodScheduler us × (modelScheduler us ≡ modelScheduler ws)
+scheduler-same ws us l eo es ea el g = scheduler-kept ws us l eo es ea (leasts-same ws us (schedulerAt ws .active) el ea (g .leasts)) g
+
+-- Another state with as many rows.
+pub state-good : (ws : List ℕ) → GoodScheduler ws → (v : SchedulerState) → v .active ≡ (schedulerAt ws) .active → GoodScheduler (putScheduler ws v)
+state-good ws g v e =
+    let c : (schedulerAt (putScheduler ws v)) .active ≡ (schedulerAt ws) .active = active-count-put ws v (g .long) ∙ e in
+    record {
+      long = whole-put-scheduler ws v ∙ g .long;
+      few = subst (λ (x : ℕ). x ≤ 256) (sym c) (g .few);
+      unlike = subst (Unlike (entryAt (putScheduler ws v))) (sym c) (unlike-same (entryAt ws) (entryAt (putScheduler ws v)) ((schedulerAt ws) .active) (λ j h. ap (λ (x : Active). x .stream-id) (entry-state ws v j)) (g .unlike));
+      leasts = subst (Leasts (putScheduler ws v)) (sym c) (state-leasts ws v ((schedulerAt ws) .active) (g .leasts));
+    }
+
+-- A group made fresh changes no row.
+pub refreshed-steps : (ws us : List ℕ) (sc : Scheduler) → Steps ws (outcome true us) sc → Steps ws (outcome true (refreshed us)) sc
+refreshed-steps ws us sc s =
+    let g = s .step-good in
+    let k = scheduler-kept us (refreshed us) (refreshed-whole us) (refreshed-options us) (refreshed-scheduler us) (refreshed-rows us) (refreshed-leasts us (g .long) (g .leasts)) g in
+    record {
+      step-done = refl;
+      step-good = k .0;
+      step-model = k .1 ∙ s .step-model;
+      step-count = subst (λ (x : SchedulerState). x .active ≤ suc ((schedulerAt ws) .active)) (sym (refreshed-scheduler us)) (s .step-count);
+    }
 
 -- ---- numbers
 
@@ -195,6 +250,8 @@ module _ (ws : List ℕ) (g : GoodScheduler ws) where
       long = dropped-whole ws at m c t ∙ g .long;
       few = subst (λ (x : ℕ). x ≤ 256) (sym left-is) (omega arith);
       unlike = subst (Unlike (entryAt (droppedRow ws at c t (suc m)))) (sym left-is) (unlike-drop (entryAt ws) (entryAt (droppedRow ws at c t (suc m))) m at unlike-n h here there);
+      leasts = subst (λ (x : List ℕ). Leasts x (schedulerAt (droppedRow ws at c t (suc m)) .active)) (sym (dropped-is ws at m c t)) (subst (Leasts (putScheduler (putActive ws at (activeAt ws m)) (stateOf c (rested t m) m))) (sym left-is)
+          (state-leasts (putActive ws at (activeAt ws m)) (stateOf c (rested t m) m) m (store-leasts ws at (activeAt ws m) (suc m) m (g .long) (omega arith) (λ j o ne. omega arith) (subst (Leasts ws) en (g .leasts)))));
     }
 
     pub dropped-count : (schedulerAt (droppedRow ws at c t (suc m))) .active ≤ suc ((schedulerAt ws) .active)
@@ -263,11 +320,7 @@ module _ (ws : List ℕ) (g : GoodScheduler ws) (id : ℕ) (fits : id < 65536) w
       let ew : without-active id (tableOf (entryAt ws) (s .active)) ≡ tableOf (entryAt ws) (s .active) = table-without (entryAt ws) (s .active) id none-has in
       record {
         step-done = refl;
-        step-good = subst GoodScheduler (sym q) (record {
-          long = whole-put-scheduler ws v ∙ g .long;
-          few = subst (λ (x : SchedulerState). x .active ≤ 256) (sym ev) (g .few);
-          unlike = subst (λ (x : SchedulerState). Unlike (entryAt (putScheduler ws v)) (x .active)) (sym ev) (unlike-same (entryAt ws) (entryAt (putScheduler ws v)) (s .active) (λ i l. ap (λ (x : Active). x .stream-id) (same-rows i)) (g .unlike));
-        });
+        step-good = subst GoodScheduler (sym q) (state-good ws g v refl);
         step-model = ap modelScheduler q
             ∙ model-of (putScheduler ws v) ((optionsAt ws) .«payload_limit») v (tableOf (entryAt ws) (s .active)) (ap (λ (o : Options). o .«payload_limit») (options-put-scheduler ws v)) ev et
             ∙ ap₂ (λ (x : Option ℕ) (y : ℕ). make ((optionsAt ws) .«payload_limit») x y (tableOf (entryAt ws) (s .active))) (forgotten-current (s .current) id) (rested-table (s .«system_virtual_time») (entryAt ws) (s .active))
@@ -312,12 +365,17 @@ module _ (ws : List ℕ) (g : GoodScheduler ws) (at : ℕ) (h : at < (schedulerA
           long = whole-put-scheduler us v ∙ whole-put-active ws at row ∙ g .long;
           few = subst (λ (x : SchedulerState). x .active ≤ 256) (sym ev) (g .few);
           unlike = subst (λ (x : SchedulerState). Unlike (entryAt ws′) (x .active)) (sym ev) (unlike-same (entryAt ws) (entryAt ws′) (s .active) (λ j o. ids j) (g .unlike));
+          leasts = subst (λ (x : SchedulerState). Leasts ws′ (x .active)) (sym ev) (state-leasts us v (s .active) (store-leasts ws at row (s .active) (s .active) (g .long) (omega arith) (λ j o ne. o) (g .leasts)));
         };
         step-model = model-of ws′ ((optionsAt ws) .«payload_limit») v (put-active (entryOf row) (tableOf (entryAt ws) (s .active))) (ap (λ (o : Options). o .«payload_limit») (options-put-scheduler us v ∙ options-put-active ws at row)) ev et;
         step-count = subst (λ (x : SchedulerState). x .active ≤ suc (s .active)) (sym ev) (omega arith);
       }
 
 -- ---- set_bytes_remaining
+
+-- Of one row more, all but the last were there.
+but-last : (n j : ℕ) → j < n + 1 → (n ≡ j → ⊥) → j < n
+but-last n j h ne = elim (tri j n) [ less o ↦ o | same q ↦ absurd (ne (sym q)) | more o ↦ absurd (omega arith) ]
 
 pub word-fits : (p : SchedulingParameters) → FitsParameters p → parametersWord p < 4294967296
 word-fits RoundRobin f = omega arith
@@ -375,6 +433,7 @@ module _ (ws : List ℕ) (g : GoodScheduler ws) (id bytes : ℕ) (p : Scheduling
           long = whole-put-active ws at (row-at t) ∙ g .long;
           few = subst (λ (x : SchedulerState). x .active ≤ 256) (sym es) (g .few);
           unlike = subst (λ (x : SchedulerState). Unlike (entryAt ws′) (x .active)) (sym es) (unlike-same (entryAt ws) (entryAt ws′) (s .active) (λ j o. ids j) (g .unlike));
+          leasts = subst (λ (x : SchedulerState). Leasts ws′ (x .active)) (sym es) (store-leasts ws at (row-at t) (s .active) (s .active) (g .long) (omega arith) (λ j o ne. o) (g .leasts));
         };
         step-model =
             model-of ws′ l s (put-active (entryOf (row-at t)) (tableOf (entryAt ws) (s .active))) (ap (λ (o : Options). o .«payload_limit») (options-put-active ws at (row-at t))) es et
@@ -408,6 +467,7 @@ module _ (ws : List ℕ) (g : GoodScheduler ws) (id bytes : ℕ) (p : Scheduling
           few = subst (λ (x : SchedulerState). x .active ≤ 256) (sym ev) (omega arith);
           unlike = subst (λ (x : SchedulerState). Unlike (entryAt ws′) (x .active)) (sym ev) (subst (Unlike (entryAt ws′)) (sym one)
               (unlike-add (entryAt ws) (entryAt ws′) (s .active) (g .unlike) (λ i o f. none-has i o (f ∙ ap (λ (x : Active). x .stream-id) here)) there));
+          leasts = subst (λ (x : SchedulerState). Leasts ws′ (x .active)) (sym ev) (state-leasts us v (s .active + 1) (store-leasts ws (s .active) (row-at t) (s .active) (s .active + 1) (g .long) h (but-last (s .active)) (g .leasts)));
         };
         step-model =
             model-of ws′ l v (put-active (entryOf (row-at t)) (tableOf (entryAt ws) (s .active))) (ap (λ (o : Options). o .«payload_limit») (options-put-scheduler us v ∙ options-put-active ws (s .active) (row-at t))) ev et

@@ -1,18 +1,20 @@
 -- What the searches over rows find: the row of a stream, and the least row. Assumes nothing.
-use mathlib.Core.Path.{_≡_, refl, sym, ap, ap₂, _∙_, subst}
-use mathlib.Core.Bool.{Bool, true, false, _&&_, _||_}
+use mathlib.Core.Path.{_≡_, sym, ap, _∙_, subst}
+use mathlib.Core.Bool.{Bool}
 use mathlib.Core.List.{List}
 use Prim.Native.Nat.{ℕ, zero, suc, _+_, _-_, _≤_, _<_}
 use native.Mathlib.Omega.{arith}
-use lib.Dec.{eqb, ltb}
+use lib.Dec.{eqb}
 use Rattle.queue_model.specs.Logic.{if_then_else_}
 use Rattle.queue_model.specs.Types.{Active}
-use Rattle.queue_model.proofs.Tests.{Tri, ltb-true, ltb-false, eqb-true, eqb-false, less, same, more, tri}
-use Rattle.queue_model.proofs.Choice.{AtMost, sooner, level, at-most-trans}
+use Rattle.queue_model.proofs.Tests.{Tri, eqb-true, eqb-false, less, same, more, tri}
+use Rattle.queue_model.proofs.Choice.{AtMost, sooner, level}
 use Rattle.queue_words.specs.Active.{activeAt}
-use Rattle.active_table.specs.Rows.{seekFrom, seek, bestOf, better, bestTo}
+use Rattle.active_table.specs.Groups as groups
+use Rattle.active_table.specs.Groups.{leastKnown, Leasts}
+use Rattle.active_table.specs.Rows.{seekFrom, seek, bestOf}
 use Rattle.active_table.specs.declared.Best.{Best}
-use Rattle.active_table.proofs.Laws.{best-zero, best-suc}
+use Rattle.active_table.proofs.Choice.{known-is}
 use Rattle.stream_scheduler.specs.Link.{entryAt}
 
 -- ---- the row of a stream
@@ -54,63 +56,16 @@ sought ws id n = seek-from ws id 0 n n (omega arith) (λ j l f. omega arith)
 abbrev rowAt : List ℕ → ℕ → Best
 rowAt ws i = bestOf (activeAt ws i) i
 
--- The better of two rows is one of them, and at most both.
-data Chosen (ws : List ℕ) (i j : ℕ) (b : Best) : Type 0 where
-  first : b ≡ rowAt ws i → AtMost (entryAt ws i) (entryAt ws j) → Chosen ws i j b
-  second : b ≡ rowAt ws j → AtMost (entryAt ws j) (entryAt ws i) → Chosen ws i j b
+-- The least of n rows is one of them, whatever the words; where the groups' words are right it is at most each.
+entry-at-most : (ws : List ℕ) (i j : ℕ) → groups.AtMost (rowAt ws i) (rowAt ws j) → AtMost (entryAt ws i) (entryAt ws j)
+unfolding entryAt
+entry-at-most ws i j (groups.sooner h) = sooner h
+entry-at-most ws i j (groups.level e h) = level e h
 
-chosen : (ws : List ℕ) (i j : ℕ) → Chosen ws i j (better (rowAt ws i) (rowAt ws j))
-unfolding better entryAt
-chosen ws i j =
-    let a : Best = rowAt ws i in let b : Best = rowAt ws j in
-    let f : Bool → Best = λ t. if t then rowAt ws j else rowAt ws i in
-    elim (tri (b .finish) (a .finish)) [
-      | less l ↦ second (ap (λ (x : Bool). f (x || (eqb (b .finish) (a .finish) && ltb (b .id) (a .id)))) (ltb-true l)) (sooner l)
-      | more l ↦ (let h : a .finish ≤ b .finish = omega arith in
-          let n : b .finish ≡ a .finish → ⊥ = λ g. omega arith in
-          first (ap₂ (λ (x y : Bool). f (x || (y && ltb (b .id) (a .id)))) (ltb-false h) (eqb-false n)) (sooner l))
-      | same g ↦ (let h : a .finish ≤ b .finish = omega arith in
-          let c : better (rowAt ws i) (rowAt ws j) ≡ f (ltb (b .id) (a .id)) = ap₂ (λ (x y : Bool). f (x || (y && ltb (b .id) (a .id)))) (ltb-false h) (eqb-true g) in
-          elim (tri (b .id) (a .id)) [
-            | less l ↦ second (c ∙ ap f (ltb-true l)) (level g (omega arith))
-            | same k ↦ (let m : a .id ≤ b .id = omega arith in first (c ∙ ap f (ltb-false m)) (level (sym g) m))
-            | more l ↦ (let m : a .id ≤ b .id = omega arith in first (c ∙ ap f (ltb-false m)) (level (sym g) m))
-          ])
-    ]
+pub known-in : (ws : List ℕ) (n : ℕ) → 0 < n → (leastKnown ws n) .at < n
+known-in ws n pos = (known-is ws n pos) .least-in
 
--- The best of the rows 0 to k stands among them and is at most each.
-pub record BestIs (ws : List ℕ) (k : ℕ) (b : Best) : Type 0 where
-  pub best-in : b .at ≤ k
-  pub best-row : b ≡ rowAt ws (b .at)
-  pub best-least : (j : ℕ) → j ≤ k → AtMost (entryAt ws (b .at)) (entryAt ws j)
-
-pub best-is : (ws : List ℕ) (k : ℕ) → BestIs ws k (bestTo ws k)
-best-is ws zero = subst (BestIs ws 0) (sym (best-zero ws)) (record {
-  best-in = omega arith;
-  best-row = refl;
-  best-least = λ j h. let z : j ≡ 0 = omega arith in subst (λ (x : ℕ). AtMost (entryAt ws 0) (entryAt ws x)) (sym z) (level refl (omega arith));
-})
-best-is ws (suc k) = subst (BestIs ws (suc k)) (sym (best-suc ws k)) (go (bestTo ws k) (best-is ws k))
-  where
-    go : (b : Best) → BestIs ws k b → BestIs ws (suc k) (better b (rowAt ws (suc k)))
-    go b w = subst (λ (x : Best). BestIs ws (suc k) (better x (rowAt ws (suc k)))) (sym (w .best-row)) (one (chosen ws (b .at) (suc k)))
-      where
-        one : Chosen ws (b .at) (suc k) (better (rowAt ws (b .at)) (rowAt ws (suc k))) → BestIs ws (suc k) (better (rowAt ws (b .at)) (rowAt ws (suc k)))
-        one (first e h) = let l = w .best-in in subst (BestIs ws (suc k)) (sym e) (record {
-          best-in = omega arith;
-          best-row = refl;
-          best-least = λ j m. elim (tri j (suc k)) [
-            | less o ↦ w .best-least j (omega arith)
-            | same f ↦ subst (λ (x : ℕ). AtMost (entryAt ws (b .at)) (entryAt ws x)) (sym f) h
-            | more o ↦ absurd (omega arith)
-          ];
-        })
-        one (second e h) = subst (BestIs ws (suc k)) (sym e) (record {
-          best-in = omega arith;
-          best-row = refl;
-          best-least = λ j m. elim (tri j (suc k)) [
-            | less o ↦ at-most-trans (entryAt ws (suc k)) (entryAt ws (b .at)) (entryAt ws j) h (w .best-least j (omega arith))
-            | same f ↦ subst (λ (x : ℕ). AtMost (entryAt ws (suc k)) (entryAt ws x)) (sym f) (level refl (omega arith))
-            | more o ↦ absurd (omega arith)
-          ];
-        })
+pub known-least : (ws : List ℕ) (n : ℕ) → 0 < n → Leasts ws n → (j : ℕ) → j < n → AtMost (entryAt ws ((leastKnown ws n) .at)) (entryAt ws j)
+known-least ws n pos w j h =
+    let l = known-is ws n pos in
+    entry-at-most ws ((leastKnown ws n) .at) j (subst (λ (b : Best). groups.AtMost b (rowAt ws j)) (l .least-row) (l .least-first w j h h))

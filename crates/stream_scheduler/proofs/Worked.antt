@@ -188,7 +188,7 @@ starts ws o l f =
     let p : (optionsAt (putScheduler (putOptions ws o) at-rest)) .«payload_limit» ≡ o .«payload_limit» = ap (λ (x : Options). x .«payload_limit») (options-put-scheduler (putOptions ws o) at-rest ∙ options-at-put ws o l f) in
     let z : (schedulerAt (putScheduler (putOptions ws o) at-rest)) .active ≡ 0 = ap (λ (x : SchedulerState). x .active) s in
     record {
-      start-good = record { long = whole-put-scheduler (putOptions ws o) at-rest ∙ l'; few = omega arith; unlike = λ i j h k q. omega arith };
+      start-good = record { long = whole-put-scheduler (putOptions ws o) at-rest ∙ l'; few = omega arith; unlike = λ i j h k q. omega arith; leasts = λ i h j k. absurd (omega arith) };
       start-none = z;
       start-model = ap₂ (seen (putScheduler (putOptions ws o) at-rest)) p s;
     }

@@ -8,6 +8,7 @@ use Rattle.queue_words.specs.Active.{activeAt, putActive, parametersWord}
 use Rattle.queue_words.specs.Header.{optionsAt, schedulerAt, putScheduler}
 use Rattle.queue_words.specs.declared.active.SchedulingParameters.{SchedulingParameters}
 use Rattle.queue_words.specs.declared.header.Remembered.the-variants.{NoStream}
+use Rattle.active_table.specs.Groups.{refreshed}
 use Rattle.stream_scheduler.specs.Rows.{advanced, scheduledRow}
 use Rattle.stream_scheduler.specs.Words.{Outcome, outcome, rested, stateOf, droppedRow}
 
@@ -29,4 +30,4 @@ lastRow ws at id sent bytes w n =
 unfoldable pub acceptLast : List ℕ → ℕ → ℕ → ℕ → ℕ → SchedulingParameters → Outcome
 acceptLast ws at id sent bytes p =
     let n = (schedulerAt ws) .active in
-    if ltb 256 n then outcome false ws else if leb n at then outcome false ws else outcome true (lastRow ws at id sent bytes (parametersWord p) n)
+    if ltb 256 n then outcome false ws else if leb n at then outcome false ws else outcome true (refreshed (lastRow ws at id sent bytes (parametersWord p) n))

@@ -18,6 +18,7 @@ use Rattle.queue_words.specs.declared.active.SchedulingParameters.the-variants.
 use Rattle.queue_words.specs.declared.header.Remembered.{Remembered}
 use Rattle.queue_words.specs.declared.header.Remembered.the-variants.{NoStream, Stream}
 use Rattle.queue_words.specs.declared.header.SchedulerState.{SchedulerState}
+use Rattle.active_table.specs.Groups.{Leasts}
 use Rattle.stream_scheduler.specs.Rows.{weightAt}
 use Rattle.stream_scheduler.specs.Words.{Outcome}
 use Rattle.stream_scheduler.specs.declared.Peeked.{Peeked}
@@ -54,6 +55,7 @@ pub record GoodScheduler (ws : List ℕ) : Type 0 where
   pub long : length ws ≡ 20768
   pub few : (schedulerAt ws) .active ≤ 256
   pub unlike : Unlike (entryAt ws) ((schedulerAt ws) .active)
+  pub leasts : Leasts ws ((schedulerAt ws) .active)
 
 -- The state of a new scheduler: nothing remembered, no time, no row.
 abbrev pub at-rest : SchedulerState

@@ -12,7 +12,8 @@ use Rattle.queue_words.specs.declared.active.SchedulingParameters.the-variants.
 use Rattle.queue_words.specs.declared.header.Remembered.{Remembered}
 use Rattle.queue_words.specs.declared.header.Remembered.the-variants.{NoStream, Stream}
 use Rattle.queue_words.specs.declared.header.SchedulerState.{SchedulerState}
-use Rattle.active_table.specs.Rows.{seek, bestTo}
+use Rattle.active_table.specs.Groups.{leastKnown, refreshed}
+use Rattle.active_table.specs.Rows.{seek}
 use Rattle.stream_scheduler.specs.Rows.{advanced, scheduledRow}
 use Rattle.stream_scheduler.specs.declared.Peeked.{Peeked}
 use Rattle.stream_scheduler.specs.declared.Peeked.the-variants.{At, Nothing, Broken}
@@ -33,7 +34,7 @@ currentRow ws n NoStream = n
 currentRow ws n (Stream id) = seek ws (id .0) n
 
 unfoldable pub peekAmong : List ℕ → ℕ → ℕ → Peeked
-peekAmong ws n i = if ltb i n then At i else At ((bestTo ws (n - 1)) .at)
+peekAmong ws n i = if ltb i n then At i else At ((leastKnown ws n) .at)
 
 unfoldable pub peekWords : List ℕ → Peeked
 unfolding peekAmong
@@ -115,6 +116,7 @@ acceptRow ws at bytes n =
     let t = advanced (a .parameters) (a .«virtual_start_time») bytes in
     if leb (a .«bytes_remaining») bytes then droppedRow ws at NoStream t n else putScheduler (putActive ws at (partRow ws a t bytes)) (stateOf (rememberedBy (a .«stream_id» .0) (a .parameters)) t n)
 
+-- The next choice finds one stale group fewer.
 unfoldable pub acceptAt : List ℕ → ℕ → ℕ → Outcome
 unfolding acceptRow
-acceptAt ws at bytes = let n = (schedulerAt ws) .active in if ltb 256 n then outcome false ws else if leb n at then outcome false ws else outcome true (acceptRow ws at bytes n)
+acceptAt ws at bytes = let n = (schedulerAt ws) .active in if ltb 256 n then outcome false ws else if leb n at then outcome false ws else outcome true (refreshed (acceptRow ws at bytes n))

@@ -7,6 +7,7 @@ use crate::calculate_vt;
 use crate::drop_row;
 use crate::rest_time;
 use crate::schedule_next_chunk;
+use active_table::groups::refresh;
 use queue_words::QUEUE_WORDS;
 use queue_words::active::SchedulingParameters;
 use queue_words::active::load_active;
@@ -71,9 +72,11 @@ pub fn accept_last(
     let time = calculate_vt(a.parameters, a.virtual_start_time, sent);
     if bytes == 0 {
         drop_row(queue, at, Remembered::NoStream, time, n);
+        refresh(queue);
         return true;
     }
     let parameters = parameters_word(priority);
     begin_anew(queue, at, stream_id, time, bytes, parameters, n);
+    refresh(queue);
     true
 }

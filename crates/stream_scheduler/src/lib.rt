@@ -15,7 +15,8 @@ ghost use Rattle.queue_model.specs.Types.{weighted};
 ghost use Rattle.stream_scheduler.specs.Rows.{advanced, scheduledRow};
 ghost use Rattle.stream_scheduler.specs.declared.Peeked.the-variants.{At};
 ghost use Rattle.stream_scheduler.specs.Words.{outcome, forgotten, rested, rememberedBy, keptUnless, currentRow, peekAmong, peekWords, waitsIn, droppedRow, takenOut, removeStream, setIn, setBytesRemaining, beginWaiting, acceptAt};
-use active_table::least_row;
+use active_table::groups::least_known;
+use active_table::groups::refresh;
 use active_table::seek;
 use queue_words::QUEUE_WORDS;
 use queue_words::active::ActiveStreamInfo;
@@ -134,7 +135,7 @@ fn front_row(queue: &[u64; QUEUE_WORDS], n: usize, current: Remembered) -> usize
     if i < n {
         return i;
     }
-    let best = least_row(queue, n);
+    let best = least_known(queue, n);
     best.at
 }
 
@@ -362,6 +363,7 @@ pub fn accept(queue: &mut [u64; QUEUE_WORDS], at: usize, bytes: u64) -> bool
     let time = calculate_vt(a.parameters, a.virtual_start_time, bytes);
     if a.bytes_remaining <= bytes {
         drop_row(queue, at, Remembered::NoStream, time, n);
+        refresh(queue);
         return true;
     }
     let o = load_options(&*queue);
@@ -383,5 +385,6 @@ pub fn accept(queue: &mut [u64; QUEUE_WORDS], at: usize, bytes: u64) -> bool
             active: n as u64,
         },
     );
+    refresh(queue);
     true
 }

@@ -11,8 +11,9 @@ use lib.ListN.{length, getD, set, drop, length-set, length-drop}
 use lib.Seq.{getD-set-other, getD-drop, ext-getD}
 use Rattle.queue_words.specs.Flags.{pick}
 use Rattle.queue_words.specs.Header.{totalsAt, totalsWords, putTotals, schedulerAt, schedulerWords, putScheduler}
-use Rattle.queue_words.specs.Active.{activeAt, activeWords, putActive, parametersWord}
+use Rattle.queue_words.specs.Active.{activeAt, activeWords, activeIn, putActive, parametersWord}
 use Rattle.queue_words.specs.Items.{putNext, putLength}
+use Rattle.queue_words.specs.Leasts.{groupOf, stale, putLeast}
 use Rattle.queue_words.specs.Rows.{row, putRow}
 use Rattle.queue_words.specs.Streams.{isPending, streamWords, putStream}
 use Rattle.queue_words.specs.declared.active.ActiveStreamInfo.{ActiveStreamInfo}
@@ -132,6 +133,13 @@ module _ (row place at : ℕ) where
   unfolding putScheduler
   near-scheduler ws s = near-header scheduler (schedulerWords s) ws (omega arith)
 
+  near-least : (ws : List ℕ) (g v : ℕ) → g < 11 → Near row place at ws (putLeast ws g v)
+  unfolding putLeast
+  near-least ws g v h = record {
+    long = length-set ws (21 + g) v;
+    far = λ j f. getD-set-other ws (21 + g) j v 0 (λ e. omega (arith, h, f .1 .1 .1));
+  }
+
   near-stream : (ws : List ℕ) (s : OutgoingStream) → Near row place at ws (putStream ws row s)
   unfolding putStream
   near-stream ws s = record {
@@ -141,10 +149,12 @@ module _ (row place at : ℕ) where
 
   near-active : (ws : List ℕ) (a : ActiveStreamInfo) → Near row place at ws (putActive ws at a)
   unfolding putActive
-  near-active ws a = record {
-    long = row-put-length ws (19488 + at * 5) (activeWords a);
-    far = λ j f. out-getD (activeWords a) ws (19488 + at * 5) 0 j (⊎-elim (λ l. inl (omega arith)) (λ l. inr (omega arith)) (f .1 .1 .0));
-  }
+  near-active ws a = near-both ws (activeIn ws at a) (putActive ws at a)
+      (record {
+        long = row-put-length ws (19488 + at * 5) (activeWords a);
+        far = λ j f. out-getD (activeWords a) ws (19488 + at * 5) 0 j (⊎-elim (λ l. inl (omega arith)) (λ l. inr (omega arith)) (f .1 .1 .0));
+      })
+      (near-least (activeIn ws at a) (groupOf at) stale (omega arith))
 
   near-next : (ws : List ℕ) (v : ℕ) → Near row place at ws (putNext ws place v)
   unfolding putNext

@@ -8,7 +8,7 @@ returns : tie.Need-returns
 returns c = front-current _ _ _ _ (c .before .current-row .ensures) (c .if1 .taken)
 
 returns-2 : tie.Need-returns-2
-returns-2 c = front-least _ _ _ _ (c .before .before .current-row .ensures) _ (c .before .if1 .left) (c .least-row .ensures)
+returns-2 c = front-least _ _ _ _ (c .before .before .current-row .ensures) _ (c .before .if1 .left) (c .least-known .ensures)
 
 pub front-row-spec : {M : Type 1} → statement M
 front-row-spec = tie.close (tie.spec (λ c κs. search needs) returns (λ c κs. search needs) returns-2)

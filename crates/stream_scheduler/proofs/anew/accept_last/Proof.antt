@@ -12,11 +12,11 @@ returns-2 c = last-no-row _ _ _ _ _ _ _ (c .before .before .before .load-schedul
 
 returns-3 : tie.Need-returns-3
 returns-3 c =
-    last-none _ _ _ _ _ _ _ (c .before .before .before .before .before .before .before .before .before .load-scheduler-state .ensures) (c .before .before .before .before .before .before .before .if1 .left) (c .before .before .before .before .before .before .if2 .left) _ (c .before .before .before .before .load-active .ensures) _ (c .before .before .before .calculate-vt .ensures) _ (c .before .before .if3 .taken) (c .drop-row .ensures)
+    last-none _ _ _ _ _ _ _ (c .before .before .before .before .before .before .before .before .before .before .before .load-scheduler-state .ensures) (c .before .before .before .before .before .before .before .before .before .if1 .left) (c .before .before .before .before .before .before .before .before .if2 .left) _ (c .before .before .before .before .before .before .load-active .ensures) _ (c .before .before .before .before .before .calculate-vt .ensures) _ _ (c .before .before .before .before .if3 .taken) (c .before .before .drop-row .ensures) (c .refresh .ensures)
 
 returns-4 : tie.Need-returns-4
 returns-4 c =
-    last-anew _ _ _ _ _ _ _ (c .before .before .before .before .before .before .before .before .before .before .load-scheduler-state .ensures) (c .before .before .before .before .before .before .before .before .if1 .left) (c .before .before .before .before .before .before .before .if2 .left) _ (c .before .before .before .before .before .load-active .ensures) _ (c .before .before .before .before .calculate-vt .ensures) _ _ (c .before .before .before .if3 .left) (c .before .before .parameters-word .ensures) (c .begin-anew .ensures)
+    last-anew _ _ _ _ _ _ _ (c .before .before .before .before .before .before .before .before .before .before .before .before .load-scheduler-state .ensures) (c .before .before .before .before .before .before .before .before .before .before .if1 .left) (c .before .before .before .before .before .before .before .before .before .if2 .left) _ (c .before .before .before .before .before .before .before .load-active .ensures) _ (c .before .before .before .before .before .before .calculate-vt .ensures) _ _ _ (c .before .before .before .before .before .if3 .left) (c .before .before .before .before .parameters-word .ensures) (c .before .before .begin-anew .ensures) (c .refresh2 .ensures)
 
 pub accept-last-spec : {M : Type 1} → statement M
 accept-last-spec =
@@ -28,7 +28,9 @@ accept-last-spec =
     (λ c κs. search needs)
     (λ c κs. search needs)
     (λ c κs. search needs)
+    (λ c κs. search needs)
     returns-3
+    (λ c κs. search needs)
     (λ c κs. search needs)
     (λ c κs. search needs)
     returns-4)
