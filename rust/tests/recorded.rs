@@ -1,6 +1,6 @@
 //! The repository's recorded traces, with the answers of dcSCTP's own code and the amounts that document 02 adds to its events (after an
 //! expiry as in request 3/13 or a restoring as in 10/13, and on queues of the strict rule of 6/13, the reference's), played on a
-//! `SendQueue`: every answer must be the same.
+//! `SendQueue` and a `Receiver`: every answer must be the same.
 
 mod player;
 
@@ -68,6 +68,7 @@ fn play_all(folder: &Path) -> u64 {
 #[test]
 fn the_small_traces() {
     play_all(&repository("tests/traces"));
+    play_all(&repository("tests/receiver"));
 }
 
 /// Traces made for the purpose, with the reference's answers beside them, in the folder $DSQ_TRACES.

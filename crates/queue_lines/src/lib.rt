@@ -32,6 +32,7 @@ use trace_answers::marks::EVENT_BUFFER;
 use trace_answers::marks::clear_store;
 use trace_answers::marks::event_words;
 use trace_answers::marks::keep_words;
+use trace_answers::marks::mark_bytes;
 use trace_answers::settle::events_of;
 use trace_answers::settle::refusal_number;
 use trace_answers::settle::refusal_of;
@@ -57,7 +58,6 @@ use trace_text::state::CREATED_RULE;
 use trace_text::state::CREATED_STORE;
 use trace_text::state::CREATED_THRESHOLD;
 use trace_text::state::CREATED_TOTAL;
-use trace_text::state::FRAGMENT;
 use trace_text::state::LENT_EVENTS;
 use trace_text::state::LENT_FRAGMENT;
 use trace_text::state::LENT_IMAGE;
@@ -127,8 +127,9 @@ pub fn answer_create(
 ) {
     begin(state);
     keep_arguments(state);
-    clear_store(store, 2100000);
-    clear_store(kept_store, 2100000);
+    let n = state[CREATED_STORE] as usize;
+    clear_store(store, n);
+    clear_store(kept_store, n);
     let c = create_kept(queue, &*store, &*state);
     let refusal = refusal_of(c);
     state[QUEUES] = bit(refusal == 0);
@@ -244,7 +245,7 @@ struct Wrote {
     bytes: u64,
 }
 
-fn put_produced(fragment: &[u8; FRAGMENT], output: &mut [u64; ANSWERS], p: Produced) -> Wrote {
+fn put_produced(fragment: &[u8; PAYLOAD], output: &mut [u64; ANSWERS], p: Produced) -> Wrote {
     match p {
         Produced::Nothing(n) => {
             put_text(output, b"p 0 0\n");
@@ -282,7 +283,7 @@ fn produce_line(
     queue: &mut [u64; QUEUE_WORDS],
     store: &[u8; STORE],
     events: &mut [u64; EVENT_BUFFER],
-    fragment: &mut [u8; FRAGMENT],
+    fragment: &mut [u8; PAYLOAD],
     state: &[u64; STATE],
 ) -> Produced {
     lent_produce(
@@ -298,19 +299,21 @@ fn produce_line(
     )
 }
 
+// The fragment buffer is the array of the payloads, which a line `a` fills anew: so it is marked before each call.
 pub fn answer_produce(
     queue: &mut [u64; QUEUE_WORDS],
     kept: &mut [u64; QUEUE_WORDS],
     store: &[u8; STORE],
     events: &mut [u64; EVENT_BUFFER],
-    fragment: &mut [u8; FRAGMENT],
+    fragment: &mut [u8; PAYLOAD],
     output: &mut [u64; ANSWERS],
     state: &[u64; STATE],
 ) {
+    mark_bytes(fragment, 300000);
     let p = produce_line(queue, store, events, fragment, state);
     let w = put_produced(&*fragment, output, p);
     settle_events(events, w.events, output);
-    settle_fragment(fragment, w.bytes, output);
+    settle_fragment(&*fragment, w.bytes, output);
     settle_words(&*queue, kept, w.refusal, output);
 }
 

@@ -13,6 +13,8 @@ use queue_lines::answer_produce;
 use queue_lines::answer_questions;
 use queue_lines::answer_ready;
 use queue_lines::put_alike;
+use receiver_lines::answer_receiver;
+use receiver_words::RECEIVER_WORDS;
 use request_lines::packet::answer_fill;
 use request_lines::plan::answer_plan;
 use request_lines::resets::answer_request;
@@ -24,7 +26,6 @@ use request_lines::wire::answer_write;
 use send_queue::QUEUE_WORDS;
 use trace_answers::marks::EVENT_BUFFER;
 use trace_text::output::ANSWERS;
-use trace_text::state::FRAGMENT;
 use trace_text::state::IMAGE;
 use trace_text::state::LETTER;
 use trace_text::state::PAYLOAD;
@@ -88,7 +89,7 @@ fn answer_events(
     kept: &mut [u64; QUEUE_WORDS],
     store: &[u8; STORE],
     events: &mut [u64; EVENT_BUFFER],
-    fragment: &mut [u8; FRAGMENT],
+    fragment: &mut [u8; PAYLOAD],
     output: &mut [u64; ANSWERS],
     state: &[u64; STATE],
     letter: u8,
@@ -141,15 +142,18 @@ pub(crate) fn answer(
     store: &mut [u8; STORE],
     kept_store: &mut [u8; STORE],
     events: &mut [u64; EVENT_BUFFER],
-    fragment: &mut [u8; FRAGMENT],
     payload: &mut [u8; PAYLOAD],
     image: &mut [u8; IMAGE],
+    head: &mut [u64; RECEIVER_WORDS],
     output: &mut [u64; ANSWERS],
     state: &mut [u64; STATE],
 ) {
     let letter = low8(state[LETTER]);
     match letter {
         b'W' | b'R' | b'P' | b'S' | b'v' => answer_alone(payload, output, state, letter),
+        b'H' | b'V' | b'D' | b'G' => {
+            answer_receiver(head, store, kept_store, &*payload, output, state, letter)
+        }
         b'h' | b'x' | b'l' => answer_image(image, output, state, letter),
         b'p' | b'F' | b'd' | b'c' | b't' => {
             answer_events(
@@ -157,7 +161,7 @@ pub(crate) fn answer(
                 kept,
                 &*store,
                 events,
-                fragment,
+                payload,
                 output,
                 &*state,
                 letter,

@@ -1,14 +1,15 @@
-// Runs a trace of calls, read from standard input, on the send queue, and writes the answers. Where the queue breaks what a
-// trace cannot show, or a line is malformed, a line of the answers begins with BROKEN.
+// Runs a trace of calls, read from standard input, on the send queue and the receiving head, and writes the answers. Where one breaks
+// what a trace cannot show, or a line is malformed, a line of the answers begins with BROKEN.
 mod lines;
 mod ranges;
 
 use lines::answer;
-use ranges::has_handler;
 use ranges::is_call;
+use ranges::is_started;
+use receiver_lines::keep_sum;
+use receiver_words::RECEIVER_WORDS;
 use send_queue::QUEUE_WORDS;
 use trace_answers::marks::EVENT_BUFFER;
-use trace_answers::marks::mark_bytes;
 use trace_answers::marks::mark_events;
 use trace_text::given::parse_bytes;
 use trace_text::input::BAD_LINE;
@@ -20,7 +21,6 @@ use trace_text::output::flush;
 use trace_text::output::put_broken;
 use trace_text::parse::parse;
 use trace_text::state::BUFFER;
-use trace_text::state::FRAGMENT;
 use trace_text::state::IMAGE;
 use trace_text::state::LINE_BYTES;
 use trace_text::state::PAYLOAD;
@@ -49,7 +49,28 @@ fn next_call(
     false
 }
 
-// The bytes of a line `R` or `A` go to the payload.
+// A line of a letter and bytes, which go to the payload.
+fn is_bytes_line(
+    line: &[u8; LINE_BYTES],
+    n: usize,
+    payload: &mut [u8; PAYLOAD],
+    state: &mut [u64; STATE],
+) -> bool {
+    let parsed = parse_bytes(line, n, payload, state);
+    if parsed {
+        return is_started(&*state, line[0]);
+    }
+    false
+}
+
+fn is_numbers_line(line: &[u8; LINE_BYTES], n: usize, state: &mut [u64; STATE]) -> bool {
+    let parsed = parse(line, n, state);
+    if parsed {
+        return is_call(&*state);
+    }
+    false
+}
+
 fn is_line(
     line: &[u8; LINE_BYTES],
     n: usize,
@@ -59,30 +80,11 @@ fn is_line(
     if n == BAD_LINE {
         return false;
     }
-    if line[0] == b'R' {
-        return parse_bytes(line, n, payload, state);
+    let letter = line[0];
+    match letter {
+        b'R' | b'A' | b'D' => is_bytes_line(line, n, payload, state),
+        _ => is_numbers_line(line, n, state),
     }
-    if line[0] == b'A' {
-        return is_response(line, n, payload, state);
-    }
-    let parsed = parse(line, n, state);
-    if parsed {
-        return is_call(&*state);
-    }
-    false
-}
-
-fn is_response(
-    line: &[u8; LINE_BYTES],
-    n: usize,
-    payload: &mut [u8; PAYLOAD],
-    state: &mut [u64; STATE],
-) -> bool {
-    let parsed = parse_bytes(line, n, payload, state);
-    if parsed {
-        return has_handler(&*state, b'A');
-    }
-    false
 }
 
 // A proved loop has to end, and nothing says that a trace does. So the loop counts down from a number that no run uses up.
@@ -92,9 +94,9 @@ fn run(
     store: &mut [u8; STORE],
     kept_store: &mut [u8; STORE],
     events: &mut [u64; EVENT_BUFFER],
-    fragment: &mut [u8; FRAGMENT],
     payload: &mut [u8; PAYLOAD],
     image: &mut [u8; IMAGE],
+    head: &mut [u64; RECEIVER_WORDS],
     input: &mut [u8; BUFFER],
     output: &mut [u64; ANSWERS],
     state: &mut [u64; STATE],
@@ -111,18 +113,14 @@ fn run(
             store,
             kept_store,
             events,
-            fragment,
             payload,
             image,
+            head,
             output,
             state,
         );
         left -= 1;
     }
-}
-
-fn mark_fragment(fragment: &mut [u8; FRAGMENT]) {
-    mark_bytes(fragment, 300000);
 }
 
 fn main() {
@@ -131,23 +129,23 @@ fn main() {
     let mut store = [0u8; STORE];
     let mut kept_store = [0u8; STORE];
     let mut events = [0u64; EVENT_BUFFER];
-    let mut fragment = [0u8; FRAGMENT];
     let mut payload = [0u8; PAYLOAD];
     let mut image = [0u8; IMAGE];
+    let mut head = [0u64; RECEIVER_WORDS];
     let mut input = [0u8; BUFFER];
     let mut output = [0u64; ANSWERS];
     let mut state = [0u64; STATE];
     mark_events(&mut events, EVENT_BUFFER);
-    mark_fragment(&mut fragment);
+    keep_sum(&head, &mut state);
     run(
         &mut queue,
         &mut kept,
         &mut store,
         &mut kept_store,
         &mut events,
-        &mut fragment,
         &mut payload,
         &mut image,
+        &mut head,
         &mut input,
         &mut output,
         &mut state,

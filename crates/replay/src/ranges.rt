@@ -1,4 +1,5 @@
 // How many numbers each line has, and their ranges.
+use receiver_lines::HEADS;
 use request_lines::plan::is_plan;
 use trace_text::state::BITS16;
 use trace_text::state::COUNT;
@@ -28,9 +29,9 @@ const MOST_NUMBERS: u64 = 13;
 fn count_of(letter: u8) -> u64 {
     match letter {
         b'g' | b'k' | b'b' | b'r' | b'Z' => 0,
-        b'c' | b'i' | b'q' | b's' | b'o' | b'w' | b'l' | b'S' => 1,
+        b'c' | b'i' | b'q' | b's' | b'o' | b'w' | b'l' | b'S' | b'V' | b'G' => 1,
         b'p' | b'd' | b't' | b'y' | b'h' | b'x' => 2,
-        b'Q' => 3,
+        b'Q' | b'H' => 3,
         b'v' => 4,
         b'n' => NEW,
         b'F' => 7,
@@ -94,6 +95,14 @@ fn most_request(k: usize) -> u64 {
     }
 }
 
+fn most_head(k: usize) -> u64 {
+    match k {
+        0 => FLAG,
+        1 => BITS32,
+        _ => 2100000,
+    }
+}
+
 fn most_discard(k: usize) -> u64 {
     match k {
         0 => BITS16,
@@ -123,13 +132,14 @@ fn most(letter: u8, k: usize) -> u64 {
         b'W' => most_write(k),
         b'F' => most_fill(k),
         b'Q' => most_request(k),
+        b'H' => most_head(k),
         b'S' => BITS32,
         b'd' => most_discard(k),
         b't' => most_threshold(k),
         b'c' | b'q' | b'y' => BITS16,
         b'i' => FLAG,
         b'x' => most_change(k),
-        b'l' => 2100000,
+        b'l' | b'V' | b'G' => 2100000,
         _ => ANY,
     }
 }
@@ -137,7 +147,7 @@ fn most(letter: u8, k: usize) -> u64 {
 // Whether the line may come while there is no queue.
 fn needs_no_queue(letter: u8) -> bool {
     match letter {
-        b'n' | b'v' | b'h' | b'x' | b'l' | b'W' => true,
+        b'n' | b'v' | b'h' | b'x' | b'l' | b'W' | b'H' | b'V' | b'G' => true,
         _ => false,
     }
 }
@@ -149,10 +159,11 @@ fn has_queue(state: &[u64; STATE], letter: u8) -> bool {
     needs_no_queue(letter)
 }
 
-// A line of the stream reset handler wants its start.
-pub(crate) fn has_handler(state: &[u64; STATE], letter: u8) -> bool {
+// A line of the stream reset handler wants its start, and one of the receiving head wants a head.
+pub(crate) fn is_started(state: &[u64; STATE], letter: u8) -> bool {
     match letter {
         b'Q' | b'A' | b'Z' => state[STARTED] == 1,
+        b'V' | b'D' | b'G' => state[HEADS] == 1,
         _ => true,
     }
 }
@@ -193,7 +204,7 @@ fn is_short_call(state: &[u64; STATE], letter: u8) -> bool {
     if fit {
         let queued = has_queue(state, letter);
         if queued {
-            return has_handler(state, letter);
+            return is_started(state, letter);
         }
     }
     false

@@ -4,7 +4,6 @@ use crate::marks::bytes_marked;
 use crate::marks::events_marked;
 use crate::marks::keep_store;
 use crate::marks::keep_words;
-use crate::marks::mark_bytes;
 use crate::marks::mark_events;
 use crate::marks::store_same;
 use crate::marks::words_same;
@@ -15,9 +14,9 @@ use trace_text::output::ANSWERS;
 use trace_text::output::put_broken;
 use trace_text::output::put_byte;
 use trace_text::output::put_number;
-use trace_text::state::FRAGMENT;
 use trace_text::state::IMAGE;
 use trace_text::state::MOST_PLACES;
+use trace_text::state::PAYLOAD;
 use trace_text::state::STORE;
 
 // A refusal's number, which is above 0.
@@ -124,19 +123,16 @@ pub fn settle_events(events: &mut [u64; EVENT_BUFFER], n: usize, output: &mut [u
 }
 
 // The fragment buffer: n bytes, and then nothing but marks.
-pub fn settle_fragment(fragment: &mut [u8; FRAGMENT], n: u64, output: &mut [u64; ANSWERS]) {
+pub fn settle_fragment(fragment: &[u8; PAYLOAD], n: u64, output: &mut [u64; ANSWERS]) {
     if n > 300000 {
         put_broken(output, b"fragment longer than its buffer");
-        mark_bytes(fragment, 300000);
         return;
     }
-    let marked = bytes_marked(&*fragment, n as usize);
+    let marked = bytes_marked(fragment, n as usize);
     if marked {
-        mark_bytes(fragment, n as usize);
         return;
     }
     put_broken(output, b"fragment buffer changed past the fragment");
-    mark_bytes(fragment, 300000);
 }
 
 // The image buffer: n bytes, and then nothing but marks.

@@ -12,6 +12,7 @@
 //     148           the interleaving choice, 0 or 1
 //     149           1 if there is a stream reset handler
 //     150 to 152    its next number, 1 if a request is underway, and that one's number
+//     153 to 156    of the receiving head (crate receiver_lines)
 ghost use mathlib.Core.Path.{_≡_};
 ghost use Prim.Native.Nat.{_%_};
 
@@ -72,9 +73,7 @@ pub const NEW_WITH_RULE: u64 = 7;
 // The largest number of 16 bits.
 pub const BITS16: u64 = 65535;
 
-// The lengths of the arrays.
-pub const FRAGMENT: usize = 300000;
-
+// The lengths of the arrays. A fragment is written where the payload of the line `a` was.
 pub const PAYLOAD: usize = 300000;
 
 pub const STORE: usize = 2100000;

@@ -1,13 +1,16 @@
-//! Plays a trace of calls on a `SendQueue` and writes the answers, in the format of the reference's trace tool.
+//! Plays a trace of calls on a `SendQueue` and a `Receiver` and writes the answers, in the format of the reference's trace tool.
 //!
 //! A trace can lend buffers of a wrong length. A `SendQueue` has a store and an event list of its own, and takes a fragment's size from the
-//! buffer, so a call with those wrong lengths cannot be made with it. The player answers such a call by the rule (2, 3 or 10) and counts it.
+//! buffer, and a `Receiver` has a store of its own, so a call with those wrong lengths cannot be made with them. The player answers such a
+//! call by the rule (2, 3 or 10) and counts it.
 
+mod head;
 mod line;
 mod payload;
 mod wire;
 
 use desqariy::*;
+use head::Head;
 use line::Line;
 use line::sum;
 use payload::payload;
@@ -43,6 +46,7 @@ pub struct Player {
     interleaving: bool,
     queue: Option<SendQueue>,
     resets: Option<StreamResetHandler>,
+    head: Option<Head>,
     lent: Lent,
     image: Vec<u8>,
     buffer: Vec<u8>,
@@ -105,6 +109,7 @@ impl Player {
             interleaving: false,
             queue: None,
             resets: None,
+            head: None,
             lent: Lent { events: 0, fragment: 0, image: 0, store: 0 },
             image: Vec::new(),
             buffer: vec![FILL; MAX_PAYLOAD],
@@ -121,6 +126,24 @@ impl Player {
     fn by_rule(&mut self, letter: &str, refusal: Refusal) -> String {
         self.answered_by_rule += 1;
         format!("{letter} {}\n", refusal.number())
+    }
+
+    fn head(&mut self) -> &mut Head {
+        self.head.as_mut().expect("there is a receiving head")
+    }
+
+    fn receive(&mut self, bytes: &[u8]) -> String {
+        if self.head().other_store() {
+            return self.by_rule("D", Refusal::StoreWrong);
+        }
+        self.head().receive(bytes)
+    }
+
+    fn fetch(&mut self, line: Line) -> String {
+        if self.head().other_store() {
+            return self.by_rule("G", Refusal::StoreWrong);
+        }
+        self.head().fetch(line)
     }
 
     fn other_store(&self) -> bool {
@@ -151,6 +174,9 @@ impl Player {
         }
         if let Some(bytes) = text.strip_prefix("A ") {
             return self.response(&wire::given(bytes));
+        }
+        if let Some(bytes) = text.strip_prefix("D ") {
+            return self.receive(&wire::given(bytes));
         }
         let mut line = Line::new(text);
         let (letter, by_rule) = (line.letter, self.answered_by_rule);
@@ -205,6 +231,16 @@ impl Player {
                 resets.reset(self.queue.as_mut().expect("there is a queue"));
                 "Z 0\n".into()
             }
+            "H" => {
+                let (head, answer) = Head::new(line);
+                self.head = head;
+                answer
+            }
+            "V" => {
+                self.head().lent = line.take();
+                "V\n".into()
+            }
+            "G" => self.fetch(line),
             "q" => self.questions(StreamId(line.take())),
             "s" => self.save(SocketTime(line.take())),
             "h" => self.show(line),

@@ -4,10 +4,10 @@ use Rattle.replay.proofs.run.Statement.{statement}
 use Rattle.replay.proofs.run.Tie as tie
 
 abbrev Inv-loop : tie.InvT-loop
-Inv-loop queue₀ kept₀ store₀ keptStore₀ events₀ fragment₀ payload₀ image₀ input₀ output₀ state₀ left₀ queue kept store keptStore events fragment payload image input output state left = Unit {0}
+Inv-loop queue₀ kept₀ store₀ keptStore₀ events₀ payload₀ image₀ head₀ input₀ output₀ state₀ left₀ queue kept store keptStore events payload image head input output state left = Unit {0}
 
 abbrev μ-loop : tie.MeasureT-loop
-μ-loop queue₀ kept₀ store₀ keptStore₀ events₀ fragment₀ payload₀ image₀ input₀ output₀ state₀ left₀ queue kept store keptStore events fragment payload image input output state left = left
+μ-loop queue₀ kept₀ store₀ keptStore₀ events₀ payload₀ image₀ head₀ input₀ output₀ state₀ left₀ queue kept store keptStore events payload image head input output state left = left
 
 pub run-spec : {M : Type 1} → statement M
 run-spec = tie.close (tie.spec Inv-loop μ-loop (λ c. search needs) (λ c κs. search needs) (λ c. search needs) (λ c κs. search needs) (λ c. search needs) (λ c. search needs) (λ c. search needs) (λ c. search needs))
