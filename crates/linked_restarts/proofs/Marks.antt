@@ -155,7 +155,7 @@ module _ (ws st : List ℕ) (g : Good ws st) where
   unfolding model
   model-ids = refl
 
-  accepted : ready ws ≡ readied (collected ws (totalsAt ws .known)) done-words
+  pub accepted : ready ws ≡ readied (collected ws (totalsAt ws .known)) done-words
   unfolding ready
   accepted = rw places-fit
 

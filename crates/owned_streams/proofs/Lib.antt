@@ -1,0 +1,2 @@
+-- Questions and settings without the test for 16. Assumes nothing.
+pub mod Own
