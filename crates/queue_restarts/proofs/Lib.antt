@@ -2,3 +2,4 @@
 pub mod Loops
 pub mod Few
 pub mod Settled
+pub mod Resets

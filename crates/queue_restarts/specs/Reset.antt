@@ -114,11 +114,15 @@ withTotal t n = record {
 abbrev pub sumOf : List ℕ → Sum
 sumOf ws = sumAll ws (totalsAt ws .total) (totalsAt ws .known)
 
+-- What is written, with this total.
+abbrev pub resetWith : List ℕ → ℕ → List ℕ
+resetWith ws total = resetAll (optionsAt ws .«strict_restart») (totalsAt ws .interleaving) (putTotals ws (withTotal (totalsAt ws) total)) (totalsAt ws .known)
+
 -- 16 where a place lies outside its table, the scheduler's rows do not suffice, or an amount would pass 2^64 - 1; nothing is then changed.
 unfoldable pub resetQueue : List ℕ → Called
 resetQueue ws =
     pick (roomFor ws true)
     (pick (sumOf ws .fits)
-    (called (Accepted 0) (resetAll (optionsAt ws .«strict_restart») (totalsAt ws .interleaving) (putTotals ws (withTotal (totalsAt ws) (sumOf ws .total))) (totalsAt ws .known)))
+    (called (Accepted 0) (resetWith ws (sumOf ws .total)))
     (called (Refused 16) ws))
     (called (Refused 16) ws)

@@ -88,7 +88,7 @@ fn mark(queue: &mut [u64; QUEUE_WORDS], place: u64)
     }
 }
 
-fn mark_all(queue: &mut [u64; QUEUE_WORDS], n: usize)
+pub fn mark_all(queue: &mut [u64; QUEUE_WORDS], n: usize)
     requires { ⌜ n ≤ 256 ⌝ }
     ensures { λ _. ⌜ now (queue .exit) ≡ markedAll (now (queue .entry)) n ⌝ }
 {

@@ -1,8 +1,12 @@
 // The whole-queue reset.
 ghost use mathlib.Core.Path.{_≡_};
 ghost use Prim.Native.Nat.{_<_, _≤_};
+ghost use mathlib.Core.Bool.{true};
+ghost use Rattle.queue_words.specs.Header.{totalsAt};
 ghost use Rattle.queue_streams.specs.Settings.{called};
-ghost use Rattle.queue_restarts.specs.Reset.{putBack, sumStream, sumKnown, sumAll, wholeStream, wholeItem, wholeHead, resetIn, resetAt, resetAll, resetQueue};
+ghost use Rattle.queue_streams.specs.Waiting.{roomFor};
+ghost use Rattle.queue_streams.specs.declared.answers.Call.the-variants.{Accepted};
+ghost use Rattle.queue_restarts.specs.Reset.{putBack, sumStream, sumKnown, sumAll, wholeStream, wholeItem, wholeHead, resetIn, resetAt, resetAll, sumOf, resetWith, resetQueue};
 use message_chains::amounts::minus;
 use message_chains::amounts::plus;
 use message_chains::amounts::remaining;
@@ -11,6 +15,7 @@ use queue_streams::answers::Call;
 use queue_streams::waiting::reschedule;
 use queue_streams::waiting::room_for;
 use queue_words::QUEUE_WORDS;
+use queue_words::header::Totals;
 use queue_words::header::load_options;
 use queue_words::header::load_totals;
 use queue_words::header::store_totals;
@@ -178,19 +183,38 @@ fn reset_all(queue: &mut [u64; QUEUE_WORDS], strict: bool, interleaving: bool, n
     }
 }
 
+// What is written: the total, and every known stream.
+fn reset_to(queue: &mut [u64; QUEUE_WORDS], t: Totals, total: u64)
+    requires { ⌜ (t ≡ totalsAt (now queue)) × (t .known ≤ 256) ⌝ }
+    ensures { λ _. ⌜ now (queue .exit) ≡ resetWith (now (queue .entry)) total ⌝ }
+{
+    let o = load_options(&*queue);
+    let mut risen = t;
+    risen.total = total;
+    store_totals(queue, risen);
+    reset_all(queue, o.strict_restart, t.interleaving, t.known as usize);
+}
+
+// The reset where the places are in their tables, the rows suffice and no amount passes 2^64 - 1.
+pub fn reset_own(queue: &mut [u64; QUEUE_WORDS])
+    requires { ⌜ (roomFor (now queue) true ≡ true) × (sumOf (now queue) .fits ≡ true) ⌝ }
+    ensures { λ _. ⌜ called (Accepted 0) (now (queue .exit)) ≡ resetQueue (now (queue .entry)) ⌝ }
+{
+    let t = load_totals(&*queue);
+    let sum = sum_all(&*queue, t.total, t.known as usize);
+    reset_to(queue, t, sum.total);
+}
+
 // "every stream with messages then waits".
 pub fn reset(queue: &mut [u64; QUEUE_WORDS]) -> Call
     ensures { λ r. ⌜ called r (now (queue .exit)) ≡ resetQueue (now (queue .entry)) ⌝ }
 {
     let room = room_for(&*queue, true);
     if room {
-        let mut t = load_totals(&*queue);
+        let t = load_totals(&*queue);
         let sum = sum_all(&*queue, t.total, t.known as usize);
         if sum.fits {
-            let o = load_options(&*queue);
-            t.total = sum.total;
-            store_totals(queue, t);
-            reset_all(queue, o.strict_restart, t.interleaving, t.known as usize);
+            reset_to(queue, t, sum.total);
             return Call::Accepted(0);
         }
     }
