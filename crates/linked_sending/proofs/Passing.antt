@@ -86,12 +86,12 @@ turn-chosen again size q vs a s i is = refl
 
 -- ---- one turn of the words
 
-turn-expired : (n : ℕ) (ws st es bs us es′ : List ℕ) (time size k j id row : ℕ) → lookAhead ws time ≡ words-look.Expired id row → expiredDropped ws es k id row ≡ calledWith (call.Accepted j) us es′
+pub turn-expired : (n : ℕ) (ws st es bs us es′ : List ℕ) (time size k j id row : ℕ) → lookAhead ws time ≡ words-look.Expired id row → expiredDropped ws es k id row ≡ calledWith (call.Accepted j) us es′
     → passOver (suc n) ws st es bs time size k ≡ passOver n us st es′ bs time size j
 unfolding passOver
 turn-expired n ws st es bs us es′ time size k j id row e d = rw (e, d)
 
-called-is : (d : CalledWith) (a : Call) (es : List ℕ) → d .answer ≡ a → d .events ≡ es → d ≡ calledWith a (d .next) es
+pub called-is : (d : CalledWith) (a : Call) (es : List ℕ) → d .answer ≡ a → d .events ≡ es → d ≡ calledWith a (d .next) es
 called-is d a es e f = rw (← e, ← f)
 
 -- ---- the theorem
@@ -103,7 +103,7 @@ pub record Passes (st es₀ bs : List ℕ) (x : Option Step) (p : ProducedWith) 
   pub answered : refusal (p .answer) ≡ false
 
 -- a dropped head's look
-drops : (ws st : List ℕ) (g : Good ws st) (at : ℕ) (c : Choice ws st (g .shape) at) (time : ℕ)
+pub drops : (ws st : List ℕ) (g : Good ws st) (at : ℕ) (c : Choice ws st (g .shape) at) (time : ℕ)
     → look time (model ws st) ≡ look-expired (model ws st) (streamIn ws st (c .pos)) (itemIn ws st (c .first)) (each (itemIn ws st) (c .rest))
     → look time (model ws st) ≡ dropped (drop-in ((streamIn ws st (c .pos)) .pause-state) (model ws st) (streamIn ws st (c .pos)) (itemIn ws st (c .first)) (each (itemIn ws st) (c .rest))) (drop-head-events (model ws st) (streamIn ws st (c .pos)) (itemIn ws st (c .first)))
 unfolding look-expired short-of
@@ -117,12 +117,12 @@ pub model-waits : (ws st : List ℕ) → Shape ws st → waiting ((model ws st) 
 model-waits ws st g = ap waiting (model-streams ws st) ∙ waiting-is ws st g
 
 -- what an expired head leaves is good, with one message fewer and events that are paid for
-record Next (ws st : List ℕ) (us : List ℕ) (ds : List Event) : Type 0 where
-  next-good : Good us st
-  next-waits : suc (totalsAt us .waiting) ≡ totalsAt ws .waiting
-  next-pays : length ds + potential (model us st) ≤ potential (model ws st)
+pub record Next (ws st : List ℕ) (us : List ℕ) (ds : List Event) : Type 0 where
+  pub next-good : Good us st
+  pub next-waits : suc (totalsAt us .waiting) ≡ totalsAt ws .waiting
+  pub next-pays : length ds + potential (model us st) ≤ potential (model ws st)
 
-next-of : (ws st es : List ℕ) (g : Good ws st) (at : ℕ) (c : Choice ws st (g .shape) at) (time k : ℕ) (d : CalledWith) → HeadExpired ws st g at c es k d
+pub next-of : (ws st es : List ℕ) (g : Good ws st) (at : ℕ) (c : Choice ws st (g .shape) at) (time k : ℕ) (d : CalledWith) → HeadExpired ws st g at c es k d
     → look time (model ws st) ≡ dropped (drop-in ((streamIn ws st (c .pos)) .pause-state) (model ws st) (streamIn ws st (c .pos)) (itemIn ws st (c .first)) (each (itemIn ws st) (c .rest))) (drop-head-events (model ws st) (streamIn ws st (c .pos)) (itemIn ws st (c .first)))
     → Next ws st (d .next) (drop-head-events (model ws st) (streamIn ws st (c .pos)) (itemIn ws st (c .first)))
 next-of ws st es g at c time k d h e =

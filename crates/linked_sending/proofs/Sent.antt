@@ -41,7 +41,7 @@ use Rattle.message_chains.specs.Heads.{headCode, withoutHead, sentNotes}
 use Rattle.message_chains.specs.Notes.{Notes, notes}
 use Rattle.queue_sending.specs.Data.{dataToSend, ProducedWith, producedWith, refusedWith}
 use Rattle.message_chains.specs.Dropping.{endPending}
-use Rattle.queue_sending.specs.Fragment.{leastOf, sendCode, finished, lessTotal, lessAmount, wentOn, writtenSent, sent, handedOut}
+use Rattle.queue_sending.specs.Fragment.{leastOf, sendCode, finished, lessTotal, lessAmount, wentOn, writtenSent, sent, chosenCode, handedOut}
 use Rattle.queue_sending.specs.Produce.{refusal}
 use Rattle.queue_sending.specs.Numbers.{numberedItem, numberedStream, movedOn}
 use Rattle.queue_sending.specs.declared.data.Produced.{Produced}
@@ -301,6 +301,18 @@ module _ (ws st : List ℕ) (g : Good ws st) (at : ℕ) (c : Choice ws st (g .sh
       let e : leastOf (activeAt ws at .«bytes_remaining») size ≡ bytes size = least-is (activeAt ws at .«bytes_remaining») size ∙ ap (λ b. min b size) (sym (entry-bytes ws at)) in
       rw (le-ltb 2303 k hk, le-ltb 255 at ha, le-ltb 255 (rowAt ws (c .pos)) hr, le-ltb 1023 (s .first) hf, e, ap (itemAt ws) (c .first-is))
       (sent-is (bytes size) (bytes-fit size h) es bs k l he (omega arith))
+
+  -- the test of handing out passes
+  pub may-hand : (bs : List ℕ) (k size : ℕ) → Chosen (model ws st) (entryAt ws at) (streamIn ws st (c .pos)) (itemIn ws st (c .first)) (each (itemIn ws st) (c .rest)) → k ≤ 2303 → size ≤ length bs
+      → chosenCode ws (length st) (length bs) size k at (rowAt ws (c .pos)) ≡ 0
+  unfolding chosenCode
+  may-hand bs k size h hk hb =
+      let ha : at ≤ 255 = omega (arith, c .listed, sh .schedules .few) in
+      let hr : rowAt ws (c .pos) ≤ 255 = omega (arith, in-rows) in
+      let hf : s .first ≤ 1023 = omega (arith, c .first-fits, c .first-is) in
+      let e : leastOf (activeAt ws at .«bytes_remaining») size ≡ bytes size = least-is (activeAt ws at .«bytes_remaining») size ∙ ap (λ b. min b size) (sym (entry-bytes ws at)) in
+      rw (le-ltb 2303 k hk, le-ltb 255 at ha, le-ltb 255 (rowAt ws (c .pos)) hr, le-ltb 1023 (s .first) hf, e, ap (itemAt ws) (c .first-is))
+      (code-is (bytes size) (bytes-fit size h) bs (omega arith))
 
   pub hands-out : (es₀ bs : List ℕ) (vs : List Event) (size : ℕ) → Chosen (model ws st) (entryAt ws at) (streamIn ws st (c .pos)) (itemIn ws st (c .first)) (each (itemIn ws st) (c .rest))
       → eventWords ≤ length es₀ → length vs ≤ 2303 → length vs + length (sent-events (model ws st) (streamIn ws st (c .pos)) (min ((entryAt ws at) .bytes-remaining) size)) ≤ 2305 → size ≤ length bs

@@ -3,3 +3,4 @@ pub mod Counts
 pub mod Passes
 pub mod Logged
 pub mod Nexts
+pub mod Ahead

@@ -6,3 +6,4 @@ pub mod Fragment
 pub mod Produce
 pub mod Next
 pub mod Passing
+pub mod Own

@@ -21,17 +21,19 @@ use Rattle.queue_sending.specs.declared.choice.Look.the-variants as look
 use Rattle.queue_sending.specs.declared.data.Produced.{Produced}
 use Rattle.queue_sending.specs.declared.data.Produced.the-variants as produced
 
--- The refusals that the arguments decide. 2: "The store is [..] not of its creation length later." 3: "the event list has fewer than 2,305 places."
--- 4: "A time or lifetime is above 4,611,686,018,427,387,903." 9: "The size asked for is outside 1 to 262,144." 10: "The fragment buffer is shorter than the size asked for."
-unfoldable pub produceCode : List ℕ → ℕ → ℕ → ℕ → ℕ → ℕ → ℕ
-produceCode ws len places room time size =
-    pick (eqb (optionsAt ws .«store_length») len)
-    (pick (ltb places eventWords) 3
+-- The refusals that what is lent and asked for decides. 3: "the event list has fewer than 2,305 places." 4: "A time or lifetime is above 4,611,686,018,427,387,903."
+-- 9: "The size asked for is outside 1 to 262,144." 10: "The fragment buffer is shorter than the size asked for."
+abbrev pub lentCode : ℕ → ℕ → ℕ → ℕ → ℕ
+lentCode places room time size =
+    pick (ltb places eventWords) 3
     (pick (ltb 4611686018427387903 time) 4
     (pick (eqb size 0) 9
     (pick (ltb 262144 size) 9
-    (pick (ltb room size) 10 0)))))
-    2
+    (pick (ltb room size) 10 0))))
+
+-- The refusals that the arguments decide. 2: "The store is [..] not of its creation length later."
+unfoldable pub produceCode : List ℕ → ℕ → ℕ → ℕ → ℕ → ℕ → ℕ
+produceCode ws len places room time size = pick (eqb (optionsAt ws .«store_length») len) (lentCode places room time size) 2
 
 -- "An expired head of the chosen stream is dropped, half-sent or not"; "A stream stays as it was when its half-sent message expires", but document 02, 3/13: "When a pending
 -- stream's half-sent head expires, the stream becomes paused". After k events.

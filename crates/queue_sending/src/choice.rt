@@ -25,7 +25,7 @@ pub enum Look {
 }
 
 // "A message expires exactly if its time is at or before now".
-fn expired(m: Item, time: u64) -> bool
+pub fn expired(m: Item, time: u64) -> bool
     ensures { λ r. ⌜ r ≡ expiredBy m time ⌝ }
 {
     let e = m.expires_at;

@@ -3,7 +3,9 @@ ghost use mathlib.Core.Path.{_≡_};
 ghost use Prim.Native.Nat.{_<_};
 ghost use lib.ListN.{length};
 ghost use Rattle.queue_sending.specs.Data.{producedWith};
+ghost use Rattle.queue_sending.specs.declared.data.Produced.the-variants.{Fragment};
 ghost use Rattle.queue_sending.specs.Fragment.{leastOf, sendCode, nextFirst, finished, wentOn, writtenSent, sent, chosenCode, handedOut};
+use crate::data::DataToSend;
 use crate::data::Produced;
 use crate::data::data_to_send;
 use crate::numbers::moved_on;
@@ -17,7 +19,7 @@ use message_chains::heads::release;
 use message_chains::heads::sent_events;
 use message_chains::heads::without_head;
 use payload_store::read_code;
-use payload_store::read_payload;
+use payload_store::read_own;
 use queue_streams::events::EVENT_PLACES;
 use queue_streams::waiting::head_size;
 use queue_streams::waiting::parameters_for;
@@ -146,6 +148,12 @@ fn write_sent(
     go_on(queue, row, s, m, n);
 }
 
+// A fragment handed out: how many events are written then, and what goes with it.
+pub struct Handed {
+    pub count: usize,
+    pub fragment: DataToSend,
+}
+
 // The fragment of n bytes of the head m of the stream s.
 fn send(
     queue: &mut [u64; QUEUE_WORDS],
@@ -159,17 +167,20 @@ fn send(
     s: OutgoingStream,
     m: Item,
     n: u64,
-) -> Produced
+) -> Handed
     requires { ⌜ (row < 256) × (s .first < 1024) × (sendCode (now queue) (length (now store)) s m n (length (now buffer)) ≡ 0) ⌝ }
-    ensures { λ r. ⌜ producedWith r (now (queue .exit)) (now (events .exit)) (now (buffer .exit)) ≡ sent (now (queue .entry)) (now (store .entry)) (now (events .entry)) (now (buffer .entry)) k at id row s m n ⌝ }
+    ensures { λ r. ⌜ producedWith (Fragment (r .count) (r .fragment)) (now (queue .exit)) (now (events .exit)) (now (buffer .exit)) ≡ sent (now (queue .entry)) (now (store .entry)) (now (events .entry)) (now (buffer .entry)) k at id row s m n ⌝ }
 {
-    read_payload(&*queue, store, s.first as usize, m.offset, n, buffer);
+    read_own(&*queue, store, s.first as usize, m.offset, n, buffer);
     let k1 = sent_events(&*queue, events, k, id, s, n);
     let item = numbered_item(s, m);
     let stream = numbered_stream(s, m);
     write_sent(queue, at, id, row, stream, item, n);
     let d = data_to_send(id, item, n);
-    Produced::Fragment(k1, d)
+    Handed {
+        count: k1,
+        fragment: d,
+    }
 }
 
 // May at most `size` bytes of the chosen head be handed out after k events: 0, else 16. Reads only.
@@ -203,6 +214,29 @@ pub fn chosen_code(
     send_code(queue, len, s, m, n, room)
 }
 
+// Hands out at most `size` bytes of the chosen head, after k events, where the test says that they may be handed out: nothing is tested
+// again.
+pub fn hand_own(
+    queue: &mut [u64; QUEUE_WORDS],
+    store: &[u8],
+    events: &mut [u64],
+    buffer: &mut [u8],
+    size: u64,
+    k: usize,
+    at: usize,
+    id: u16,
+    row: usize,
+) -> Handed
+    requires { ⌜ chosenCode (now queue) (length (now store)) (length (now buffer)) size k at row ≡ 0 ⌝ }
+    ensures { λ r. ⌜ producedWith (Fragment (r .count) (r .fragment)) (now (queue .exit)) (now (events .exit)) (now (buffer .exit)) ≡ handedOut (now (queue .entry)) (now (store .entry)) (now (events .entry)) (now (buffer .entry)) size k at id row ⌝ }
+{
+    let s = load_stream(&*queue, row);
+    let m = load_item(&*queue, s.first as usize);
+    let a = load_active(&*queue, at);
+    let n = least(a.bytes_remaining, size);
+    send(queue, store, events, buffer, k, at, id, row, s, m, n)
+}
+
 // Hands out at most `size` bytes of the chosen head, after k events. It has one caller, which answers what it answers: so what goes with
 // a fragment is written once.
 pub fn hand_out(
@@ -230,9 +264,7 @@ pub fn hand_out(
     if code > 0 {
         return Produced::Refused(code);
     }
-    let s = load_stream(&*queue, row);
-    let m = load_item(&*queue, s.first as usize);
-    let a = load_active(&*queue, at);
-    let n = least(a.bytes_remaining, size);
-    send(queue, store, events, buffer, k, at, id, row, s, m, n)
+    let h = hand_own(queue, store, events, buffer, size, k, at, id, row);
+    let d = h.fragment;
+    Produced::Fragment(h.count, d)
 }

@@ -6,6 +6,7 @@ pub mod fragment;
 pub mod next;
 pub mod next_fragment;
 pub mod numbers;
+pub mod own;
 pub mod passing;
 pub mod past;
 

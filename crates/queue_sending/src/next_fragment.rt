@@ -6,7 +6,7 @@ ghost use Rattle.queue_streams.specs.Events.{eventWords};
 ghost use Rattle.queue_sending.specs.Choice.{lookAhead};
 ghost use Rattle.queue_sending.specs.Data.{producedWith};
 ghost use Rattle.queue_sending.specs.Next.{sentNext, Leads};
-ghost use Rattle.queue_sending.specs.Produce.{produceCode, producedPast, afterLook, producedAfter, produceNext};
+ghost use Rattle.queue_sending.specs.Produce.{lentCode, produceCode, producedPast, afterLook, producedAfter, produceNext};
 ghost use Rattle.queue_sending.specs.declared.choice.Look.the-variants.{Expired};
 use crate::choice::Look;
 use crate::choice::look_ahead;
@@ -23,21 +23,10 @@ use queue_words::limits::MAX_PAYLOAD;
 use queue_words::limits::MAX_TIME;
 use queue_words::limits::MESSAGES;
 
-// The refusals that the arguments decide: 2, 3, 4, 9, 10, or 0.
-fn produce_code(
-    queue: &[u64; QUEUE_WORDS],
-    len: u64,
-    places: u64,
-    room: u64,
-    time: u64,
-    size: u64,
-) -> u8
-    ensures { λ r. ⌜ r ≡ produceCode (now (queue .entry)) len places room time size ⌝ }
+// The refusals that what is lent and asked for decides: 3, 4, 9, 10, or 0.
+pub fn lent_code(places: u64, room: u64, time: u64, size: u64) -> u8
+    ensures { λ r. ⌜ r ≡ lentCode places room time size ⌝ }
 {
-    let o = load_options(queue);
-    if o.store_length != len {
-        return 2;
-    }
     if places < EVENT_WORDS as u64 {
         return 3;
     }
@@ -54,6 +43,24 @@ fn produce_code(
         return 10;
     }
     0
+}
+
+// The refusals that the arguments decide: 2, 3, 4, 9, 10, or 0.
+fn produce_code(
+    queue: &[u64; QUEUE_WORDS],
+    len: u64,
+    places: u64,
+    room: u64,
+    time: u64,
+    size: u64,
+) -> u8
+    ensures { λ r. ⌜ r ≡ produceCode (now (queue .entry)) len places room time size ⌝ }
+{
+    let o = load_options(queue);
+    if o.store_length != len {
+        return 2;
+    }
+    lent_code(places, room, time, size)
 }
 
 // Passes over as many messages as wait, after k events.

@@ -1,9 +1,13 @@
 -- `queue_sending::fragment::send` meets its contract: each return is what its definition says, by what the calls ensure and the test that was passed before. Assumes nothing.
 use borrow.Author.Needs.{needs}
 use Rattle.queue_sending.specs.Fragment.{sent}
+use Rattle.queue_sending.proofs.Ahead.{send-reads}
 use Rattle.queue_sending.proofs.Passes.{first-fits}
 use Rattle.queue_sending.proofs.fragment.send.Statement.{statement}
 use Rattle.queue_sending.proofs.fragment.send.Tie as tie
+
+read-own-requires : tie.Need-read-own-requires
+read-own-requires c κs = send-reads _ _ _ _ _ _ (c .before .before .before .before .before .pre .2)
 
 write-sent-requires : tie.Need-write-sent-requires
 write-sent-requires c κs = ((c .before .before .before .before .before .before .before .before .before .before .before .before .before .before .before .before .pre .0), first-fits _ _ _ (c .before .numbered-stream .ensures) (c .before .before .before .before .before .before .before .before .before .before .before .before .before .before .before .before .pre .1))
@@ -16,27 +20,7 @@ same-length-2 c = search (needs, (c .before .before .before .before .before .bef
 
 returns : tie.Need-returns
 unfolding sent
-returns c =
-    rw (
-      (c .before .before .before .before .before .before .before .before .before .before .before .before .before .before .before .before .before .before .pre .2),
-      ← (c .before .before .before .before .before .before .before .before .before .before .before .before .read-payload .ensures .1),
-      ← (c .before .before .before .before .before .before .before .sent-events .ensures),
-      ← (c .before .before .before .before .numbered-item .ensures),
-      ← (c .before .before .before .numbered-stream .ensures),
-      ← (c .before .write-sent .ensures),
-      ← (c .data-to-send .ensures),
-    )
+returns c = rw ((c .before .before .before .before .before .before .before .before .before .before .before .before .before .before .before .before .before .before .pre .2), ← (c .before .before .before .before .before .before .before .before .before .before .before .before .read-own .ensures), ← (c .before .before .before .before .before .before .before .sent-events .ensures), ← (c .before .before .before .before .numbered-item .ensures), ← (c .before .before .before .numbered-stream .ensures), ← (c .before .write-sent .ensures), ← (c .data-to-send .ensures))
 
 pub send-spec : {M : Type 1} → statement M
-send-spec =
-    tie.close
-    (tie.spec
-    (λ c. search needs)
-    (λ c. search needs)
-    (λ c. search needs)
-    (λ c. search needs)
-    write-sent-requires
-    (λ c. search needs)
-    same-length
-    same-length-2
-    returns)
+send-spec = tie.close (tie.spec read-own-requires (λ c κs. search needs) (λ c κs. search needs) (λ c κs. search needs) write-sent-requires (λ c κs. search needs) same-length same-length-2 returns)

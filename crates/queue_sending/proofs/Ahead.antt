@@ -1,0 +1,109 @@
+-- A look in words that are not broken, and the parts of a fragment whose test has passed. Assumes nothing.
+use mathlib.Core.Path.{_≡_, sym, ap, _∙_}
+use mathlib.Core.Bool.{Bool, true, false}
+use mathlib.Core.List.{List}
+use Prim.Native.Nat.{ℕ, _≤_, _<_}
+use native.Mathlib.Omega.{arith}
+use borrow.Author.Tests.{lt-ltb, le-ltb, ltb-false}
+use lib.Dec.{ltb}
+use Rattle.queue_words.specs.Flags.{pick}
+use Rattle.queue_words.specs.Active.{activeAt}
+use Rattle.queue_words.specs.Find.{findStream, Findable}
+use Rattle.queue_words.specs.Header.{schedulerAt}
+use Rattle.queue_words.specs.Items.{itemAt}
+use Rattle.queue_words.specs.Streams.{streamAt}
+use Rattle.queue_words.specs.declared.active.ActiveStreamInfo.{ActiveStreamInfo}
+use Rattle.queue_words.specs.declared.items.Item.{Item}
+use Rattle.queue_words.specs.declared.known.Found.the-variants as found
+use Rattle.queue_words.specs.declared.streams.OutgoingStream.{OutgoingStream}
+use Rattle.queue_words.proofs.Finds.{find-hit}
+use Rattle.payload_store.specs.Reading.{readCode}
+use Rattle.payload_store.proofs.Cases.{by-lt, pick-else}
+use Rattle.stream_scheduler.specs.Words.{peekWords}
+use Rattle.stream_scheduler.specs.declared.Peeked.the-variants as peeked
+use Rattle.message_chains.specs.Amounts.{rest}
+use Rattle.queue_sending.specs.Choice.{expiredBy, lookAt, lookFor, lookAhead}
+use Rattle.queue_sending.specs.Fragment.{sendCode}
+use Rattle.queue_sending.specs.Own.{Unbroken}
+use Rattle.queue_sending.specs.declared.choice.Look.{Look}
+use Rattle.queue_sending.specs.declared.choice.Look.the-variants as look
+
+-- the bytes of a fragment that may be sent may be read
+pub send-reads : (ws : List ℕ) (len : ℕ) (s : OutgoingStream) (m : Item) (n room : ℕ) → sendCode ws len s m n room ≡ 0 → readCode ws len (s .first) (m .offset) n room ≡ 0
+unfolding sendCode
+send-reads ws len s m n room e =
+    let t1 = pick-else (ltb (rest m) n) 16 _ 0 (λ z. omega arith) e in
+    let t2 = pick-else (ltb 0 (readCode ws len (s .first) (m .offset) n room)) 16 _ 0 (λ z. omega arith) (t1 .1) in
+    omega (arith, ltb-false 0 (readCode ws len (s .first) (m .offset) n room) (t2 .0))
+
+-- ---- the head of the stream in a row
+
+pub look-is : (ws : List ℕ) (time at id row : ℕ) (s : OutgoingStream) (m : Item) (gone : Bool) → streamAt ws row .first < 1024 → s ≡ streamAt ws row → m ≡ itemAt ws (s .first) → gone ≡ expiredBy m time
+    → pick gone (look.Expired id row) (look.Chosen at id row) ≡ lookAt ws time at id row
+unfolding lookAt
+look-is ws time at id row s m gone hf es em eg = rw (le-ltb 1023 (streamAt ws row .first) (omega arith), eg, em, es)
+
+-- ---- the stream that is looked for
+
+module _ (ws : List ℕ) (time at id : ℕ) (y : Unbroken (lookFor ws time at id)) where
+  pub may-find : Findable ws id
+  unfolding lookFor
+  may-find z = y (broken z)
+    where
+      broken : findStream ws id ≡ found.Broken → lookFor ws time at id ≡ look.Broken
+      broken e = rw e
+
+  pub not-gap : (p : ℕ) → found.Gap p ≡ findStream ws id → ⊥
+  unfolding lookFor
+  not-gap p e = y (broken e)
+    where
+      broken : found.Gap p ≡ findStream ws id → lookFor ws time at id ≡ look.Broken
+      broken z = rw (← z)
+
+  module _ (p row : ℕ) (e : found.At p row ≡ findStream ws id) where
+    looks-at : lookFor ws time at id ≡ lookAt ws time at id row
+    unfolding lookFor
+    looks-at = rw (← e)
+
+    pub row-fits : (row < 256) × (streamAt ws row .first < 1024)
+    unfolding lookAt
+    row-fits = (find-hit ws id p row (sym e) .place-fits, by-lt 1023 (streamAt ws row .first) (λ h. absurd (y (looks-at ∙ broken h))) (λ h. omega arith))
+      where
+        broken : 1023 < streamAt ws row .first → lookAt ws time at id row ≡ look.Broken
+        broken h = rw (lt-ltb 1023 (streamAt ws row .first) h)
+
+    pub at-looked : (l : Look) → l ≡ lookAt ws time at id row → l ≡ lookFor ws time at id
+    at-looked l el = el ∙ sym looks-at
+
+-- ---- the scheduler's choice
+
+module _ (ws : List ℕ) (time : ℕ) (y : Unbroken (lookAhead ws time)) where
+  pub rows-few : schedulerAt ws .active ≤ 256
+  unfolding lookAhead peekWords
+  rows-few = by-lt 256 (schedulerAt ws .active) (λ h. absurd (y (broken h))) (λ h. h)
+    where
+      broken : 256 < schedulerAt ws .active → lookAhead ws time ≡ look.Broken
+      broken h = rw (lt-ltb 256 (schedulerAt ws .active) h)
+
+  module _ (at : ℕ) (e : peeked.At at ≡ peekWords ws) where
+    pub at-row : at < 256
+    unfolding lookAhead
+    at-row = by-lt 255 at (λ h. absurd (y (broken h))) (λ h. omega arith)
+      where
+        broken : 255 < at → lookAhead ws time ≡ look.Broken
+        broken h = rw (← e, lt-ltb 255 at h)
+
+    looks-on : lookAhead ws time ≡ lookFor ws time at (activeAt ws at .«stream_id» .0)
+    unfolding lookAhead
+    looks-on = let h : at ≤ 255 = omega (arith, at-row) in rw (← e, le-ltb 255 at h)
+
+    module _ (a : ActiveStreamInfo) (ea : a ≡ activeAt ws at) where
+      pub row-unbroken : Unbroken (lookFor ws time at (a .«stream_id» .0))
+      row-unbroken z = y (looks-on ∙ rw ea at z)
+
+      pub row-looked : (l : Look) → l ≡ lookFor ws time at (a .«stream_id» .0) → l ≡ lookAhead ws time
+      row-looked l el = el ∙ ap (λ (x : ActiveStreamInfo). lookFor ws time at (x .«stream_id» .0)) ea ∙ sym looks-on
+
+  pub none-looked : peeked.Nothing ≡ peekWords ws → look.Nothing ≡ lookAhead ws time
+  unfolding lookAhead
+  none-looked e = rw (← e)
