@@ -23,7 +23,7 @@ static struct host first, second;
 static uint8_t packet[PACKET], image[DSQ_MAX_IMAGE(STORE)], profile[3000];
 
 /* A refusal is a fault of this program. */
-static void must(uint8_t refusal, const char *call)
+static void must(uint32_t refusal, const char *call)
 {
     if (refusal != DSQ_ACCEPTED) {
         fprintf(stderr, "%s: %s: %s\n", call, dsq_refusal_name(refusal), dsq_refusal_text(refusal));

@@ -118,17 +118,17 @@ static uint8_t a_rule(void) {
     return below(2) ? (uint8_t)(DSQ_RESTART_STRICT + below(255)) : DSQ_RESTART_DCSCTP;
 }
 
-static uint8_t add(void) {
+static uint32_t add(void) {
     size_t length = below(16) ? 1 + (size_t)below(900) : (size_t)below(2) * (DSQ_MAX_PAYLOAD + 1);
     uint8_t *payload = block(length);
     size_t store = a_store();
-    uint8_t r = dsq_add(now.queue, store_of(store), store, payload, length, a_time(), a_stream(), (uint32_t)next(), (uint8_t)below(3), (uint8_t)below(3),
+    uint32_t r = dsq_add(now.queue, store_of(store), store, payload, length, a_time(), a_stream(), (uint32_t)next(), (uint8_t)below(3), (uint8_t)below(3),
         below(8) ? below(20000000) : odd_number(), (uint8_t)below(2), (uint16_t)next(), below(3) ? 0 : next());
     free(payload);
     return r;
 }
 
-static uint8_t produce(void) {
+static uint32_t produce(void) {
     /* a buffer that ends where its block ends */
     size_t length = odd_length(BUFFER);
     uint8_t *buffer = now.buffer + (BUFFER - length);
@@ -137,10 +137,11 @@ static uint8_t produce(void) {
 }
 
 /* An image: bytes at random, or one that was saved with some bytes changed or cut off, or whole. */
-static uint8_t restore(void) {
+static uint32_t restore(void) {
     static uint8_t saved[IMAGE];
     size_t length = (size_t)below(200), store, i;
-    uint8_t *image, r;
+    uint8_t *image;
+    uint32_t r;
     int any = below(8) == 0;
     if (!any) {
         uint64_t out[DSQ_OUT_WORDS] = {0};
@@ -169,15 +170,15 @@ static uint8_t restore(void) {
     return r;
 }
 
-static uint8_t save(void) {
+static uint32_t save(void) {
     size_t length = odd_length(IMAGE);
     size_t store = a_store();
     return dsq_save(now.queue, store_of(store), store, now.image + (IMAGE - length), length, now.out, a_time());
 }
 
-static uint8_t create(void) {
+static uint32_t create(void) {
     size_t length = below(8) ? STORE : (size_t)below(STORE);
-    uint8_t r = dsq_create(now.queue, store_of(length), length, below(4) ? 1200 : odd_number(), below(2) ? 256 : (uint16_t)next(), odd_number(), odd_number(), (uint8_t)next(), a_rule());
+    uint32_t r = dsq_create(now.queue, store_of(length), length, below(4) ? 1200 : odd_number(), below(2) ? 256 : (uint16_t)next(), odd_number(), odd_number(), (uint8_t)next(), a_rule());
     if (r == 0) {
         store_length = length;
         damaged = 0;
@@ -218,7 +219,7 @@ static const uint32_t listed[KINDS] = {
 };
 
 /* A request into an output that ends where its block ends, mostly long enough. */
-static uint8_t request(void) {
+static uint32_t request(void) {
     size_t length = below(4) ? 64 : (size_t)below(64);
     if (below(4) == 0)
         now.handler[below(DSQ_HANDLER_NUMBERS)] = (uint32_t)odd_number();
@@ -227,9 +228,10 @@ static uint8_t request(void) {
 }
 
 /* A response, mostly to the request underway, some of its bytes changed or cut off; or bytes at random. */
-static uint8_t response(void) {
+static uint32_t response(void) {
     size_t length = below(8) ? 16 : (size_t)below(24), i;
-    uint8_t right[16] = {130, 0, 0, 16, 0, 16, 0, 12, 0}, *bytes = block(length), r;
+    uint8_t right[16] = {130, 0, 0, 16, 0, 16, 0, 12, 0}, *bytes = block(length);
+    uint32_t r;
     for (i = 0; i < 4; i++)
         right[8 + i] = (uint8_t)(now.handler[DSQ_HANDLER_NUMBER] >> (24 - 8 * i));
     right[15] = (uint8_t)below(9);
@@ -240,7 +242,7 @@ static uint8_t response(void) {
     return r;
 }
 
-static uint8_t ask_plain(void) {
+static uint32_t ask_plain(void) {
     if (dsq_is_empty(now.queue) != (dsq_total_buffered_amount(now.queue) == 0))
         return 99;
     if (dsq_free_bytes(now.queue) == 1 && dsq_waiting_messages(now.queue) == 1 && dsq_known_streams(now.queue) == 1)
@@ -248,7 +250,7 @@ static uint8_t ask_plain(void) {
     return dsq_get_handover_readiness(now.queue) & ~UINT64_C(2) ? 99 : 0;
 }
 
-static uint8_t call(enum kind k) {
+static uint32_t call(enum kind k) {
     size_t places = odd_length(DSQ_EVENT_WORDS);
     switch (k) {
     case ADD: return add();
@@ -318,9 +320,10 @@ static void damage_used(uint64_t messages, uint64_t streams) {
 }
 
 /* A next fragment past expired messages on such words: what it refuses it leaves as it was. Tells the answer, or 99. */
-static uint8_t past_expired(void) {
+static uint32_t past_expired(void) {
     uint64_t messages = below(3) ? 1 + below(40) : 1 + below(DSQ_MAX_MESSAGES), streams = 1 + below(below(2) ? 4 : DSQ_MAX_STREAMS), i;
-    uint8_t payload[5] = {0}, r;
+    uint8_t payload[5] = {0};
+    uint32_t r;
     if (dsq_create(now.queue, now.store, STORE, 1200, 256, 100, 500, 1, (uint8_t)below(2)) != 0 || dsq_enable_message_interleaving(now.queue, (uint8_t)below(2)) != 0)
         return 99;
     for (i = 0; i < messages; i++)
@@ -346,7 +349,7 @@ int main(int argc, char **argv) {
     for (calls = 0; on_damaged + images < wanted; calls++) {
         enum kind k = a_kind();
         int look = below(8) == 0;
-        uint8_t r;
+        uint32_t r;
         if (left > 0) {
             if (--left == 0) { /* back to the words of a queue */
                 memcpy(now.queue, good, QUEUE_BYTES);
@@ -393,7 +396,7 @@ int main(int argc, char **argv) {
             printf(" %ld:%ld", n, refused[n]);
     printf("; every answer is listed, a refused call changed nothing\n");
     for (n = calls = accepted = 0; calls < wanted / 400; calls++) {
-        uint8_t r = past_expired();
+        uint32_t r = past_expired();
         if (r == 99) {
             printf("hard: next fragment %ld past expired messages has a wrong answer, or is refused and something has changed\n", calls);
             return 1;

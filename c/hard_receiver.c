@@ -155,8 +155,9 @@ static size_t a_chunk(uint8_t bytes[CHUNK]) {
     return below(16) ? end : (size_t)below(end + 1);
 }
 
-static uint8_t receive(void) {
-    uint8_t any[CHUNK], *bytes, r;
+static uint32_t receive(void) {
+    uint8_t any[CHUNK], *bytes;
+    uint32_t r;
     size_t length = a_chunk(any), store = a_store();
     bytes = block(length);
     memcpy(bytes, any, length);
@@ -165,14 +166,15 @@ static uint8_t receive(void) {
     return r;
 }
 
-static uint8_t fetch(void) {
+static uint32_t fetch(void) {
     size_t length = below(4) ? BUFFER : (size_t)below(BUFFER + 1), store = a_store();
     return dsr_fetch(now.words, now.store + (STORE - store), store, now.buffer + (BUFFER - length), length, now.out);
 }
 
-static uint8_t create(void) {
+static uint32_t create(void) {
     size_t length = below(8) ? STORE - (size_t)below(2) * 2400 : (size_t)below(STORE + 1);
-    uint8_t of = below(2) ? (uint8_t)(1 + below(255)) : 0, r;
+    uint8_t of = below(2) ? (uint8_t)(1 + below(255)) : 0;
+    uint32_t r;
     uint32_t tsn = below(2) ? UINT32_MAX - (uint32_t)below(40) : (uint32_t)next();
     r = dsr_create(now.words, now.store + (STORE - length), length, of, tsn);
     if (r == 0) {
@@ -227,15 +229,15 @@ static void damage(void) {
         now.store[below(STORE)] ^= (uint8_t)(1 + below(255));
 }
 
-static void wrong(long calls, enum call k, uint8_t r, const char *what) {
+static void wrong(long calls, enum call k, uint32_t r, const char *what) {
     printf("hard_receiver: call %ld of kind %d answers %u%s\n", calls, (int)k, r, what);
     exit(1);
 }
 
 /* One call, looked at. Tells its answer. */
-static uint8_t looked_at(long calls, enum call k) {
+static uint32_t looked_at(long calls, enum call k) {
     int were_damaged = damaged;
-    uint8_t r;
+    uint32_t r;
     whole = below(WHOLE) == 0;
     keep();
     r = k == RECEIVE ? receive() : k == FETCH ? fetch() : create();
@@ -265,7 +267,7 @@ int main(int argc, char **argv) {
         return 1;
     for (calls = 0; on_damaged < wanted; calls++) {
         enum call k = below(4) ? RECEIVE : FETCH;
-        uint8_t r;
+        uint32_t r;
         if (left > 0) {
             if (--left == 0) { /* back to the words of a receiver */
                 memcpy(now.words, good.words, WORD_BYTES);

@@ -104,7 +104,7 @@ static void create(void)
 {
     unsigned kind, tsn;
     unsigned long long length;
-    uint8_t r;
+    uint32_t r;
     if (sscanf(line, "H %u %u %llu", &kind, &tsn, &length) != 3 || length > MAX_BUFFER)
         malformed();
     memset(store, 0, sizeof store);
@@ -120,7 +120,7 @@ static void create(void)
 static void receive(void)
 {
     size_t n = read_bytes(line + 2);
-    uint8_t r;
+    uint32_t r;
     keep();
     r = dsr_receive(words, store, store_length, bytes, n, out);
     if (r || !out[DSR_OUT_VALUE])
@@ -147,7 +147,7 @@ static void show_message(size_t length)
 static void fetch(void)
 {
     unsigned long long length;
-    uint8_t r;
+    uint32_t r;
     if (sscanf(line, "G %llu", &length) != 1 || length > MAX_BUFFER)
         malformed();
     memset(buffer, FILLER, (size_t)length);

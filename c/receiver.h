@@ -15,7 +15,7 @@
  *   - The words of a receiver, from creation on, and the bytes of its store are changed by these functions only, and each call gets both
  *     as the last one left them. The words hold no pointer: between two calls words and store may be moved or copied.
  *
- * The library and this header belong together: a host asks once whether dsr_layout() is DSR_LAYOUT.
+ * The library and this header belong together: a host compiled with a header of another layout does not link (dsr_layout_2 below).
  * A flag that is passed in is 0 for no and anything else for yes; one that is told is 0 or 1.
  *
  * A receiver knows no resets of streams: where its sender counts from 0 again, a new receiver is needed. */
@@ -25,13 +25,16 @@
 #include <stddef.h>
 #include <stdint.h>
 
+#include "desqariy_host.h"
+
 #ifdef __cplusplus
 extern "C" {
 #endif
 
 /* The layout that a host with this header is compiled for: the words of a receiver and of an out-array, what each place means, and the
- * arguments of the functions. It moves when one of these does. */
-#define DSR_LAYOUT 1
+ * arguments of the functions. It moves when one of these does. In layout 1 functions returned 8 bits, and the
+ * rest of the register meant nothing. */
+#define DSR_LAYOUT 2
 
 /* The words of a receiver. */
 #define DSR_RECEIVER_WORDS 83472
@@ -76,24 +79,33 @@ enum dsr_out {
 /* The places of an out-array. */
 #define DSR_OUT_WORDS 5
 
-/* DSR_LAYOUT of the header that the library was made with. */
+/* The library's DSR_LAYOUT. */
 uint64_t dsr_layout(void);
+
+/* The same under a name that moves with the layout. */
+uint64_t dsr_layout_2(void);
+
+/* Every object that was compiled with this header names that function: with a library of another layout it does not link. */
+DSQ_LINKED_WITH(dsr_layout_2);
 
 /* Makes a new receiver of the words, for I-DATA chunks or, where i_data is 0, for DATA chunks; its first TSN is starting_tsn. The store
  * has 1 to 2,000,000 bytes, and every later call gets it with the same length. (2) */
-uint8_t dsr_create(uint64_t receiver[DSR_RECEIVER_WORDS], const uint8_t *store, size_t store_length, uint8_t i_data, uint32_t starting_tsn);
+DSQ_MUST_USE
+uint32_t dsr_create(uint64_t receiver[DSR_RECEIVER_WORDS], const uint8_t *store, size_t store_length, uint8_t i_data, uint32_t starting_tsn);
 
 /* Takes the chunk that the bytes are, with its padding, and nothing behind it. Tells VALUE: 1 where it is accepted, 0 for a repeat, which
  * changes nothing. A chunk that is refused with 22 or 23 may be received again later, when a gap was closed or a message was fetched.
  * (2, 19, 24, repeats, 22, 23; 16) */
-uint8_t dsr_receive(uint64_t receiver[DSR_RECEIVER_WORDS], uint8_t *store, size_t store_length, const uint8_t *bytes, size_t bytes_length,
-                    uint64_t out[DSR_OUT_WORDS]);
+DSQ_MUST_USE
+uint32_t dsr_receive(uint64_t receiver[DSR_RECEIVER_WORDS], uint8_t *store, size_t store_length, const uint8_t *bytes, size_t bytes_length,
+                     uint64_t out[DSR_OUT_WORDS]);
 
 /* Copies the message that is ready first to the buffer's start and frees it; the rest of the buffer stays. Unordered messages are ready
  * when complete, ordered ones when also next in their stream. Tells VALUE, 1, and LENGTH, STREAM_ID, UNORDERED and PPID; VALUE alone, 0,
  * where none is ready. No message is longer than the store. (2, 10; 16) */
-uint8_t dsr_fetch(uint64_t receiver[DSR_RECEIVER_WORDS], const uint8_t *store, size_t store_length, uint8_t *buffer, size_t buffer_length,
-                  uint64_t out[DSR_OUT_WORDS]);
+DSQ_MUST_USE
+uint32_t dsr_fetch(uint64_t receiver[DSR_RECEIVER_WORDS], const uint8_t *store, size_t store_length, uint8_t *buffer, size_t buffer_length,
+                   uint64_t out[DSR_OUT_WORDS]);
 
 #ifdef __cplusplus
 }

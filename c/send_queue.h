@@ -17,7 +17,7 @@
  *     The other calls take at most 4 KB (c/told.c). The functions have no unwind tables: a report of a crash in one does not show who called it.
  *
  * Lengths count elements: events_length counts words, of which DSQ_EVENT_WORDS are asked for.
- * The libraries and this header belong together: a host compiled with a header of another layout does not link (dsq_layout_4 below).
+ * The libraries and this header belong together: a host compiled with a header of another layout does not link (dsq_layout_5 below).
  * A flag that is passed in is 0 for no and anything else for yes; one that is told is 0 or 1. Times are counts of nanoseconds. */
 #ifndef DSQ_SEND_QUEUE_H
 #define DSQ_SEND_QUEUE_H
@@ -25,19 +25,22 @@
 #include <stddef.h>
 #include <stdint.h>
 
+#include "desqariy_host.h"
+
 #ifdef __cplusplus
 extern "C" {
 #endif
 
 /* The version of header, library and crate, as CHANGELOG.md has it. */
-#define DSQ_VERSION "0.2.0"
+#define DSQ_VERSION "0.3.0"
 
 /* The layout that a host with this header is compiled for: the words of a queue, of an event, of the event list and of an out-array, what
  * each place means, and the arguments of the functions. It moves when one of these does. In layout 1, whose header has no such number, an
  * event had two words; a list for 2,305 of those is refused here (DSQ_EVENT_LIST_SHORT), not written past. In layout 2 dsq_create had no
  * restart_rule; nothing but a comparison of the layouts tells a host compiled for it. In layout 3 the header of the words was shorter by
- * one word: words of a queue that were kept from it are not read right here. */
-#define DSQ_LAYOUT 4
+ * one word: words of a queue that were kept from it are not read right here. In layout 4 functions returned 8 bits, and the rest of the
+ * register meant nothing. */
+#define DSQ_LAYOUT 5
 
 /* The words of a queue, and of the list of events: DSQ_MAX_EVENTS places of DSQ_PLACE_WORDS words. */
 #define DSQ_QUEUE_WORDS 20768
@@ -66,17 +69,8 @@ extern "C" {
  * the payloads. */
 #define DSQ_MAX_IMAGE(store_length) (UINT64_C(48660) + (store_length))
 
-/* A result must be used: a refusal that nobody looks at is a message that nobody sends. */
-#if defined(__cplusplus) && __cplusplus >= 201703L
-#define DSQ_MUST_USE [[nodiscard]]
-#elif defined(__GNUC__)
-#define DSQ_MUST_USE __attribute__((warn_unused_result))
-#else
-#define DSQ_MUST_USE
-#endif
-
-/* What a function returns: 0 for accepted, else the refusal. Of several that apply the first is given. It is one byte: a binding that reads
- * more of the register (a foreign function interface often takes an int) sees bits that mean nothing. */
+/* What a function returns: 0 for accepted, else the refusal. Of several that apply the first is given. It is as wide as an int, which a
+ * foreign function interface often takes an answer for. */
 enum dsq_refusal {
     DSQ_ACCEPTED = 0,
     /* At creation, or where priorities are planned, the payload limit is outside 1 to 65,535. */
@@ -226,18 +220,10 @@ enum dsq_readiness {
 uint64_t dsq_layout(void);
 
 /* The same under a name that moves with the layout. */
-uint64_t dsq_layout_4(void);
+uint64_t dsq_layout_5(void);
 
-/* Every object that was compiled with this header names that function. A linker that finds it undefined has a library of another layout
- * before it: take the header that belongs to the library, and compile anew. */
-#if defined(__GNUC__)
-#if defined(__has_attribute)
-#if __has_attribute(retain)
-__attribute__((retain))
-#endif
-#endif
-__attribute__((used, unused)) static uint64_t (*const dsq_layout_of_this_header)(void) = dsq_layout_4;
-#endif
+/* Every object that was compiled with this header names that function: with a library of another layout it does not link. */
+DSQ_LINKED_WITH(dsq_layout_5);
 
 /* The numbers behind a function's description are the refusals that it can give, in the order in which they are checked.
  *
@@ -247,22 +233,22 @@ __attribute__((used, unused)) static uint64_t (*const dsq_layout_of_this_header)
  * payload_limit: the most payload that goes into a packet, for the scheduler's costs. handover_with_data: see readiness. restart_rule: of
  * enum dsq_restart; it counts in dsq_reset and dsq_restore; as with a flag, anything but 0 is DSQ_RESTART_STRICT. (1, 2) */
 DSQ_MUST_USE
-uint8_t dsq_create(uint64_t queue[DSQ_QUEUE_WORDS], const uint8_t *store, size_t store_length, uint64_t payload_limit,
-                   uint16_t default_priority, uint64_t default_threshold, uint64_t total_threshold, uint8_t handover_with_data,
-                   uint8_t restart_rule);
+uint32_t dsq_create(uint64_t queue[DSQ_QUEUE_WORDS], const uint8_t *store, size_t store_length, uint64_t payload_limit,
+                    uint16_t default_priority, uint64_t default_threshold, uint64_t total_threshold, uint8_t handover_with_data,
+                    uint8_t restart_rule);
 
 /* Adds a message; its payload is copied to the store. With has_lifetime it expires lifetime nanoseconds and 1 ms after time, else
  * never (and lifetime is not looked at). Without has_retransmissions no limit is given. Lifecycle id 0 means none. The first message
  * to a stream makes it known. (2, 4, 5, 6, 7, 8, 16) */
 DSQ_MUST_USE
-uint8_t dsq_add(uint64_t queue[DSQ_QUEUE_WORDS], uint8_t *store, size_t store_length, const uint8_t *payload, size_t payload_length,
-                uint64_t time, uint16_t stream_id, uint32_t ppid, uint8_t unordered, uint8_t has_lifetime, uint64_t lifetime,
-                uint8_t has_retransmissions, uint16_t max_retransmissions, uint64_t lifecycle_id);
+uint32_t dsq_add(uint64_t queue[DSQ_QUEUE_WORDS], uint8_t *store, size_t store_length, const uint8_t *payload, size_t payload_length,
+                 uint64_t time, uint16_t stream_id, uint32_t ppid, uint8_t unordered, uint8_t has_lifetime, uint64_t lifetime,
+                 uint8_t has_retransmissions, uint16_t max_retransmissions, uint64_t lifecycle_id);
 
 /* Drops the message, where it is the first that waits on its stream; else changes nothing. Tells EVENTS. (3, 16) */
 DSQ_MUST_USE
-uint8_t dsq_discard(uint64_t queue[DSQ_QUEUE_WORDS], uint64_t *events, size_t events_length, uint64_t out[DSQ_OUT_WORDS],
-                    uint16_t stream_id, uint32_t message_id);
+uint32_t dsq_discard(uint64_t queue[DSQ_QUEUE_WORDS], uint64_t *events, size_t events_length, uint64_t out[DSQ_OUT_WORDS],
+                     uint16_t stream_id, uint32_t message_id);
 
 /* ---------------------------------------------------------------- the next fragment */
 
@@ -270,50 +256,50 @@ uint8_t dsq_discard(uint64_t queue[DSQ_QUEUE_WORDS], uint64_t *events, size_t ev
  * `time` are dropped on the way. Tells VALUE (1 for a fragment, 0 if nothing waits) and EVENTS, and with a fragment all that goes with
  * it. (2, 3, 4, 9, 10, 16) */
 DSQ_MUST_USE
-uint8_t dsq_produce(uint64_t queue[DSQ_QUEUE_WORDS], const uint8_t *store, size_t store_length, uint64_t *events, size_t events_length,
-                    uint8_t *buffer, size_t buffer_length, uint64_t out[DSQ_OUT_WORDS], uint64_t time, uint64_t size);
+uint32_t dsq_produce(uint64_t queue[DSQ_QUEUE_WORDS], const uint8_t *store, size_t store_length, uint64_t *events, size_t events_length,
+                     uint8_t *buffer, size_t buffer_length, uint64_t out[DSQ_OUT_WORDS], uint64_t time, uint64_t size);
 
 /* ---------------------------------------------------------------- closing and restarting streams */
 
 /* Closes a stream, known or not: drops every message that is not half-sent. Without a half-sent one the stream is then ready to be
  * reset, else when that one was sent or discarded. A stream that is not open stays as it is. Tells EVENTS. (3, 6, 16) */
 DSQ_MUST_USE
-uint8_t dsq_prepare_reset_stream(uint64_t queue[DSQ_QUEUE_WORDS], uint64_t *events, size_t events_length,
-                                 uint64_t out[DSQ_OUT_WORDS], uint16_t stream_id);
+uint32_t dsq_prepare_reset_stream(uint64_t queue[DSQ_QUEUE_WORDS], uint64_t *events, size_t events_length,
+                                  uint64_t out[DSQ_OUT_WORDS], uint16_t stream_id);
 
 /* The streams that are ready to be reset, in ascending order; they are resetting from then on. Tells VALUE, their count; so many
  * places of ids are written, the others stay. (16) */
 DSQ_MUST_USE
-uint8_t dsq_get_streams_ready_to_reset(uint64_t queue[DSQ_QUEUE_WORDS], uint16_t ids[DSQ_MAX_STREAMS], uint64_t out[DSQ_OUT_WORDS]);
+uint32_t dsq_get_streams_ready_to_reset(uint64_t queue[DSQ_QUEUE_WORDS], uint16_t ids[DSQ_MAX_STREAMS], uint64_t out[DSQ_OUT_WORDS]);
 
 /* Opens every resetting stream, with its three counters at 0. (16) */
 DSQ_MUST_USE
-uint8_t dsq_commit_reset_streams(uint64_t queue[DSQ_QUEUE_WORDS]);
+uint32_t dsq_commit_reset_streams(uint64_t queue[DSQ_QUEUE_WORDS]);
 
 /* Opens every resetting stream. (16) */
 DSQ_MUST_USE
-uint8_t dsq_rollback_reset_streams(uint64_t queue[DSQ_QUEUE_WORDS]);
+uint32_t dsq_rollback_reset_streams(uint64_t queue[DSQ_QUEUE_WORDS]);
 
 /* After a restart of the peer: opens all streams, sets their counters to 0 and puts half-sent messages back whole. These keep the numbers
  * that they have under DSQ_RESTART_DCSCTP, and have none under DSQ_RESTART_STRICT, as if never begun: the first fragment gives them new
  * ones. (16) */
 DSQ_MUST_USE
-uint8_t dsq_reset(uint64_t queue[DSQ_QUEUE_WORDS]);
+uint32_t dsq_reset(uint64_t queue[DSQ_QUEUE_WORDS]);
 
 /* ---------------------------------------------------------------- settings */
 
 /* Switches message interleaving (RFC 8260). (16) */
 DSQ_MUST_USE
-uint8_t dsq_enable_message_interleaving(uint64_t queue[DSQ_QUEUE_WORDS], uint8_t enabled);
+uint32_t dsq_enable_message_interleaving(uint64_t queue[DSQ_QUEUE_WORDS], uint8_t enabled);
 
 /* Sets a stream's priority, its weight with interleaving; it counts from the next time that the weight is read. (6, 16) */
 DSQ_MUST_USE
-uint8_t dsq_set_priority(uint64_t queue[DSQ_QUEUE_WORDS], uint16_t stream_id, uint16_t priority);
+uint32_t dsq_set_priority(uint64_t queue[DSQ_QUEUE_WORDS], uint16_t stream_id, uint16_t priority);
 
 /* Sets the amount at which a stream is low. Tells EVENTS: 1 if a threshold below the amount is raised to or past it. (3, 6, 16) */
 DSQ_MUST_USE
-uint8_t dsq_set_buffered_amount_low_threshold(uint64_t queue[DSQ_QUEUE_WORDS], uint64_t *events, size_t events_length,
-                                              uint64_t out[DSQ_OUT_WORDS], uint16_t stream_id, uint64_t threshold);
+uint32_t dsq_set_buffered_amount_low_threshold(uint64_t queue[DSQ_QUEUE_WORDS], uint64_t *events, size_t events_length,
+                                               uint64_t out[DSQ_OUT_WORDS], uint16_t stream_id, uint64_t threshold);
 
 /* ---------------------------------------------------------------- priorities for a wanted order; no queue is looked at */
 
@@ -321,8 +307,8 @@ uint8_t dsq_set_buffered_amount_low_threshold(uint64_t queue[DSQ_QUEUE_WORDS], u
  * payload limit, interleaving on, before the messages are added, if these are all accepted. sizes: of each stream's first message. One
  * priority is written for each id, in the same order; the other places stay. (1, 28, 29) */
 DSQ_MUST_USE
-uint8_t dsq_plan_priorities(const uint16_t *ids, size_t ids_length, const uint64_t *sizes, size_t sizes_length,
-                            uint16_t priorities[DSQ_MAX_PLANNED], uint64_t payload_limit);
+uint32_t dsq_plan_priorities(const uint16_t *ids, size_t ids_length, const uint64_t *sizes, size_t sizes_length,
+                             uint16_t priorities[DSQ_MAX_PLANNED], uint64_t payload_limit);
 
 /* ---------------------------------------------------------------- chunks on the wire; no queue is looked at */
 
@@ -330,16 +316,16 @@ uint8_t dsq_plan_priorities(const uint16_t *ids, size_t ids_length, const uint64
  * stays. kind: of enum dsq_chunk_kind; as with a flag, anything but 0 is DSQ_CHUNK_I_DATA. A DATA chunk carries ssn and ppid, an I-DATA
  * chunk mid, and ppid on a first fragment, fsn on others. Tells VALUE, the bytes written, padding included. (17, 18) */
 DSQ_MUST_USE
-uint8_t dsq_write_chunk(uint8_t *output, size_t output_length, const uint8_t *payload, size_t payload_length,
-                        uint64_t out[DSQ_OUT_WORDS], uint8_t kind, uint32_t tsn, uint16_t stream_id, uint8_t unordered, uint16_t ssn,
-                        uint32_t mid, uint32_t fsn, uint32_t ppid, uint8_t first, uint8_t last);
+uint32_t dsq_write_chunk(uint8_t *output, size_t output_length, const uint8_t *payload, size_t payload_length,
+                         uint64_t out[DSQ_OUT_WORDS], uint8_t kind, uint32_t tsn, uint16_t stream_id, uint8_t unordered, uint16_t ssn,
+                         uint32_t mid, uint32_t fsn, uint32_t ppid, uint8_t first, uint8_t last);
 
 /* Reads the chunk that the bytes are, with its padding, of any value, and nothing behind it. Flags other than the three marks and the
  * reserved bits are not looked at. Nothing is copied: the payload is LENGTH bytes of `bytes` from chunk[DSQ_CHUNK_PAYLOAD_AT] on. Tells
  * all that goes with a fragment, what the chunk does not carry as 0 (EXPIRES 1, EXPIRES_AT 0); VALUE 1, EVENTS 0; and the places of the
  * chunk-array. (19) */
 DSQ_MUST_USE
-uint8_t dsq_read_chunk(const uint8_t *bytes, size_t bytes_length, uint64_t out[DSQ_OUT_WORDS], uint64_t chunk[DSQ_CHUNK_WORDS]);
+uint32_t dsq_read_chunk(const uint8_t *bytes, size_t bytes_length, uint64_t out[DSQ_OUT_WORDS], uint64_t chunk[DSQ_CHUNK_WORDS]);
 
 /* ---------------------------------------------------------------- packets on the wire: libpackets_c.a */
 
@@ -354,9 +340,9 @@ uint8_t dsq_read_chunk(const uint8_t *bytes, size_t bytes_length, uint64_t out[D
  * all those calls together; LENGTH, the packet's bytes. Where nothing waits no packet is written, VALUE and LENGTH are 0, and the buffer
  * stays; expired messages are dropped and their events written all the same. Stack: as dsq_produce. (20, 21, 2, 3, 4, 16) */
 DSQ_MUST_USE
-uint8_t dsq_fill_packet(uint64_t queue[DSQ_QUEUE_WORDS], const uint8_t *store, size_t store_length, uint64_t *events, size_t events_length,
-                        uint8_t *packet, size_t packet_length, uint64_t out[DSQ_OUT_WORDS], uint64_t time, uint64_t limit,
-                        uint16_t source_port, uint16_t destination_port, uint32_t verification_tag, uint32_t tsn);
+uint32_t dsq_fill_packet(uint64_t queue[DSQ_QUEUE_WORDS], const uint8_t *store, size_t store_length, uint64_t *events, size_t events_length,
+                         uint8_t *packet, size_t packet_length, uint64_t out[DSQ_OUT_WORDS], uint64_t time, uint64_t limit,
+                         uint16_t source_port, uint16_t destination_port, uint32_t verification_tag, uint32_t tsn);
 
 /* ---------------------------------------------------------------- reset requests to the peer (RFC 6525)
  *
@@ -366,50 +352,50 @@ uint8_t dsq_fill_packet(uint64_t queue[DSQ_QUEUE_WORDS], const uint8_t *store, s
 
 /* The handler without a request underway; its first request gets this number. */
 DSQ_MUST_USE
-uint8_t dsq_start_reset_handler(uint32_t handler[DSQ_HANDLER_NUMBERS], uint32_t number);
+uint32_t dsq_start_reset_handler(uint32_t handler[DSQ_HANDLER_NUMBERS], uint32_t number);
 
 /* Writes a request for all streams that are ready to be reset to the output's start: a RE-CONFIG chunk, with its padding, that names them
  * in ascending order; they are resetting from then on. The rest of the output stays. response_number and last_tsn are the association's.
  * Tells VALUE, the bytes written; 0 if no stream is ready, and then nothing has changed. (25, 16, 26) */
 DSQ_MUST_USE
-uint8_t dsq_make_reset_request(uint64_t queue[DSQ_QUEUE_WORDS], uint32_t handler[DSQ_HANDLER_NUMBERS], uint8_t *output,
-                               size_t output_length, uint64_t out[DSQ_OUT_WORDS], uint32_t response_number, uint32_t last_tsn);
+uint32_t dsq_make_reset_request(uint64_t queue[DSQ_QUEUE_WORDS], uint32_t handler[DSQ_HANDLER_NUMBERS], uint8_t *output,
+                                size_t output_length, uint64_t out[DSQ_OUT_WORDS], uint32_t response_number, uint32_t last_tsn);
 
 /* Takes the RE-CONFIG chunk that the bytes are, with the peer's response to a request: result 0 or 1 commits the reset, 2 to 5 roll it
  * back, 6 keeps the request waiting. Tells VALUE, of enum dsq_response. (27, 16) */
 DSQ_MUST_USE
-uint8_t dsq_handle_reset_response(uint64_t queue[DSQ_QUEUE_WORDS], uint32_t handler[DSQ_HANDLER_NUMBERS], const uint8_t *bytes,
-                                  size_t bytes_length, uint64_t out[DSQ_OUT_WORDS]);
+uint32_t dsq_handle_reset_response(uint64_t queue[DSQ_QUEUE_WORDS], uint32_t handler[DSQ_HANDLER_NUMBERS], const uint8_t *bytes,
+                                   size_t bytes_length, uint64_t out[DSQ_OUT_WORDS]);
 
 /* dsq_reset, which ends the request underway; the numbers go on. (16) */
 DSQ_MUST_USE
-uint8_t dsq_reset_through_handler(uint64_t queue[DSQ_QUEUE_WORDS], uint32_t handler[DSQ_HANDLER_NUMBERS]);
+uint32_t dsq_reset_through_handler(uint64_t queue[DSQ_QUEUE_WORDS], uint32_t handler[DSQ_HANDLER_NUMBERS]);
 
 /* ---------------------------------------------------------------- questions; they change nothing */
 
 /* VALUE: a stream's priority, the default where none was set. (16) */
 DSQ_MUST_USE
-uint8_t dsq_get_priority(const uint64_t queue[DSQ_QUEUE_WORDS], uint64_t out[DSQ_OUT_WORDS], uint16_t stream_id);
+uint32_t dsq_get_priority(const uint64_t queue[DSQ_QUEUE_WORDS], uint64_t out[DSQ_OUT_WORDS], uint16_t stream_id);
 
 /* VALUE: the bytes that wait on a stream. (16) */
 DSQ_MUST_USE
-uint8_t dsq_buffered_amount(const uint64_t queue[DSQ_QUEUE_WORDS], uint64_t out[DSQ_OUT_WORDS], uint16_t stream_id);
+uint32_t dsq_buffered_amount(const uint64_t queue[DSQ_QUEUE_WORDS], uint64_t out[DSQ_OUT_WORDS], uint16_t stream_id);
 
 /* VALUE: a stream's threshold, the default where none was set. (16) */
 DSQ_MUST_USE
-uint8_t dsq_buffered_amount_low_threshold(const uint64_t queue[DSQ_QUEUE_WORDS], uint64_t out[DSQ_OUT_WORDS], uint16_t stream_id);
+uint32_t dsq_buffered_amount_low_threshold(const uint64_t queue[DSQ_QUEUE_WORDS], uint64_t out[DSQ_OUT_WORDS], uint16_t stream_id);
 
 /* VALUE: 1 if a stream waits to be sent from, else 0. (16) */
 DSQ_MUST_USE
-uint8_t dsq_has_data_to_send(const uint64_t queue[DSQ_QUEUE_WORDS], uint64_t out[DSQ_OUT_WORDS]);
+uint32_t dsq_has_data_to_send(const uint64_t queue[DSQ_QUEUE_WORDS], uint64_t out[DSQ_OUT_WORDS]);
 
 /* VALUE: 1 if a stream is ready to be reset, else 0. (16) */
 DSQ_MUST_USE
-uint8_t dsq_has_streams_ready_to_be_reset(const uint64_t queue[DSQ_QUEUE_WORDS], uint64_t out[DSQ_OUT_WORDS]);
+uint32_t dsq_has_streams_ready_to_be_reset(const uint64_t queue[DSQ_QUEUE_WORDS], uint64_t out[DSQ_OUT_WORDS]);
 
 /* VALUE: how many streams are ready to be reset; they are not taken. (16) */
 DSQ_MUST_USE
-uint8_t dsq_count_streams_ready_to_reset(const uint64_t queue[DSQ_QUEUE_WORDS], uint64_t out[DSQ_OUT_WORDS]);
+uint32_t dsq_count_streams_ready_to_reset(const uint64_t queue[DSQ_QUEUE_WORDS], uint64_t out[DSQ_OUT_WORDS]);
 
 /* The answer itself, never a refusal: the bytes that wait in all; */
 DSQ_MUST_USE
@@ -417,7 +403,7 @@ uint64_t dsq_total_buffered_amount(const uint64_t queue[DSQ_QUEUE_WORDS]);
 
 /* 1 if no byte waits, else 0; */
 DSQ_MUST_USE
-uint8_t dsq_is_empty(const uint64_t queue[DSQ_QUEUE_WORDS]);
+uint32_t dsq_is_empty(const uint64_t queue[DSQ_QUEUE_WORDS]);
 
 /* the bytes of the store that are free: a longer payload gets DSQ_STORE_FULL (a message occupies its full length until its last fragment); */
 DSQ_MUST_USE
@@ -443,8 +429,8 @@ uint64_t dsq_get_handover_readiness(const uint64_t queue[DSQ_QUEUE_WORDS]);
  * priority and no message. It has no checksum: carry it by a channel that protects it. docs/CHANGEOVER.md has it step by step.
  * (2, 4, 16, 11) */
 DSQ_MUST_USE
-uint8_t dsq_save(const uint64_t queue[DSQ_QUEUE_WORDS], const uint8_t *store, size_t store_length, uint8_t *image, size_t image_length,
-                 uint64_t out[DSQ_OUT_WORDS], uint64_t time);
+uint32_t dsq_save(const uint64_t queue[DSQ_QUEUE_WORDS], const uint8_t *store, size_t store_length, uint8_t *image, size_t image_length,
+                  uint64_t out[DSQ_OUT_WORDS], uint64_t time);
 
 /* Restores an image of exactly image_length bytes into a queue that knows no stream and has accepted no message. All streams are then open,
  * also those that were closing, with the default thresholds: close them and set those again. The rules find a cut image; one with a changed
@@ -454,8 +440,8 @@ uint8_t dsq_save(const uint64_t queue[DSQ_QUEUE_WORDS], const uint8_t *store, si
  * either. Under DSQ_RESTART_STRICT a message of which nothing was sent must have no MID, else 13: such an image comes from a queue that was
  * reset under DSQ_RESTART_DCSCTP. (2, 4, 12, 13, 14, 15) */
 DSQ_MUST_USE
-uint8_t dsq_restore(uint64_t queue[DSQ_QUEUE_WORDS], uint8_t *store, size_t store_length, const uint8_t *image, size_t image_length,
-                    uint64_t time);
+uint32_t dsq_restore(uint64_t queue[DSQ_QUEUE_WORDS], uint8_t *store, size_t store_length, const uint8_t *image, size_t image_length,
+                     uint64_t time);
 
 #ifdef __cplusplus
 }

@@ -114,7 +114,7 @@ class SendQueue {
     static Result<SendQueue> create(const Options &options)
     {
         SendQueue made(options.store_length <= DSQ_MAX_STORE ? options.store_length : std::size_t{DSQ_MAX_STORE + 1});
-        const std::uint8_t number =
+        const std::uint32_t number =
             ::dsq_create(made.queue(), made.store().data(), made.store().size(), options.payload_limit, options.default_priority,
                          options.default_threshold, options.total_threshold, options.handover_with_data,
                          static_cast<std::uint8_t>(options.restart_rule));
@@ -245,7 +245,7 @@ class SendQueue {
     {
         std::vector<std::uint8_t> image(DSQ_MAX_IMAGE(store_.size()));
         Words told{};
-        const std::uint8_t number =
+        const std::uint32_t number =
             ::dsq_save(queue(), store_.data(), store_.size(), image.data(), image.size(), told.data(), time);
         if (number != DSQ_ACCEPTED)
             return refusal(number);
@@ -274,8 +274,8 @@ class SendQueue {
 
     explicit SendQueue(std::size_t store_length) : arrays_(std::make_unique<Arrays>()), store_(store_length) {}
 
-    static Refusal refusal(std::uint8_t number) { return static_cast<Refusal>(number); }
-    static Done done(std::uint8_t number) { return Done{refusal(number)}; }
+    static Refusal refusal(std::uint32_t number) { return static_cast<Refusal>(number); }
+    static Done done(std::uint32_t number) { return Done{refusal(number)}; }
 
     // 16 alone is left for these calls, and it is proved that no queue gets there.
     static void never_refused(const Done &call)
@@ -284,13 +284,13 @@ class SendQueue {
             std::abort();
     }
 
-    void changed(std::uint8_t number)
+    void changed(std::uint32_t number)
     {
         events_ = 0;
         never_refused(done(number));
     }
 
-    Done reported(std::uint8_t number)
+    Done reported(std::uint32_t number)
     {
         events_ = number == DSQ_ACCEPTED ? static_cast<std::size_t>(out()[DSQ_OUT_EVENTS]) : 0;
         return done(number);

@@ -21,7 +21,7 @@ struct dsq_message {
 
 /* dsq_add of a message. (2, 4, 5, 6, 7, 8, 16) */
 DSQ_MUST_USE
-static inline uint8_t dsq_add_message(uint64_t queue[DSQ_QUEUE_WORDS], uint8_t *store, size_t store_length, uint64_t time,
+static inline uint32_t dsq_add_message(uint64_t queue[DSQ_QUEUE_WORDS], uint8_t *store, size_t store_length, uint64_t time,
                                       const struct dsq_message *m)
 {
     return dsq_add(queue, store, store_length, m->payload, m->payload_length, time, m->stream_id, m->ppid, m->unordered,
@@ -69,7 +69,7 @@ static inline struct dsq_fragment dsq_fragment_of(const uint64_t out[DSQ_OUT_WOR
 
 /* dsq_write_chunk of a fragment with its payload. Tells VALUE, the bytes written. (17, 18) */
 DSQ_MUST_USE
-static inline uint8_t dsq_write_fragment(uint8_t *output, size_t output_length, const struct dsq_fragment *f, const uint8_t *payload,
+static inline uint32_t dsq_write_fragment(uint8_t *output, size_t output_length, const struct dsq_fragment *f, const uint8_t *payload,
                                          uint64_t out[DSQ_OUT_WORDS], enum dsq_chunk_kind kind, uint32_t tsn)
 {
     return dsq_write_chunk(output, output_length, payload, f->length, out, (uint8_t)kind, tsn, f->stream_id, f->unordered, f->ssn, f->mid,

@@ -133,7 +133,7 @@ static int as_remembered(const struct host *h)
         CHECK(as_remembered(h) && (number)); \
     } while (0)
 
-static uint8_t create(struct host *h, uint64_t payload_limit, uint16_t priority, uint64_t threshold, uint64_t total, uint8_t with_data)
+static uint32_t create(struct host *h, uint64_t payload_limit, uint16_t priority, uint64_t threshold, uint64_t total, uint8_t with_data)
 {
     return dsq_create(h->queue, h->store, h->store_length, payload_limit, priority, threshold, total, with_data, DSQ_RESTART_DCSCTP);
 }
@@ -169,55 +169,56 @@ static uint8_t *payload_of(size_t length)
 /* A message with a lifecycle id (0 for none) that expires (lifetime) or not (NEVER). */
 #define NEVER UINT64_MAX
 
-static uint8_t add(struct host *h, uint16_t stream, size_t length, uint8_t unordered, uint64_t lifetime, uint64_t lifecycle_id)
+static uint32_t add(struct host *h, uint16_t stream, size_t length, uint8_t unordered, uint64_t lifetime, uint64_t lifecycle_id)
 {
     uint8_t *payload = payload_of(length);
-    uint8_t r = dsq_add(h->queue, h->store, h->store_length, payload, length, h->time, stream, 53, unordered, lifetime != NEVER,
+    uint32_t r = dsq_add(h->queue, h->store, h->store_length, payload, length, h->time, stream, 53, unordered, lifetime != NEVER,
                         lifetime, 0, 9, lifecycle_id);
     free(payload);
     return r;
 }
 
-static uint8_t plain(struct host *h, uint16_t stream, size_t length)
+static uint32_t plain(struct host *h, uint16_t stream, size_t length)
 {
     return add(h, stream, length, 0, NEVER, 0);
 }
 
-static uint8_t produce(struct host *h, uint64_t size)
+static uint32_t produce(struct host *h, uint64_t size)
 {
     return dsq_produce(h->queue, h->store, h->store_length, h->events, h->events_length, h->buffer, h->buffer_length, h->out, h->time,
                        size);
 }
 
-static uint8_t discard(struct host *h, uint16_t stream, uint32_t message)
+static uint32_t discard(struct host *h, uint16_t stream, uint32_t message)
 {
     return dsq_discard(h->queue, h->events, h->events_length, h->out, stream, message);
 }
 
-static uint8_t close_stream(struct host *h, uint16_t stream)
+static uint32_t close_stream(struct host *h, uint16_t stream)
 {
     return dsq_prepare_reset_stream(h->queue, h->events, h->events_length, h->out, stream);
 }
 
-static uint8_t set_threshold(struct host *h, uint16_t stream, uint64_t threshold)
+static uint32_t set_threshold(struct host *h, uint16_t stream, uint64_t threshold)
 {
     return dsq_set_buffered_amount_low_threshold(h->queue, h->events, h->events_length, h->out, stream, threshold);
 }
 
-static uint8_t ready(struct host *h)
+static uint32_t ready(struct host *h)
 {
     return dsq_get_streams_ready_to_reset(h->queue, h->ids, h->out);
 }
 
-static uint8_t save(struct host *h)
+static uint32_t save(struct host *h)
 {
     return dsq_save(h->queue, h->store, h->store_length, h->image, h->image_length, h->out, h->time);
 }
 
 /* From a block of exactly the image's length. */
-static uint8_t restore(struct host *h, const uint8_t *image, size_t length)
+static uint32_t restore(struct host *h, const uint8_t *image, size_t length)
 {
-    uint8_t *own = allocate(length, 0), answer;
+    uint8_t *own = allocate(length, 0);
+    uint32_t answer;
     memcpy(own, image, length);
     answer = dsq_restore(h->queue, h->store, h->store_length, own, length, h->time);
     free(own);
@@ -1062,7 +1063,7 @@ static struct order *ordered(size_t ids, uint16_t first, int step, size_t sizes,
     return o;
 }
 
-static uint8_t plan(struct order *o, uint64_t payload_limit)
+static uint32_t plan(struct order *o, uint64_t payload_limit)
 {
     return dsq_plan_priorities(o->ids, o->ids_length, o->sizes, o->sizes_length, o->priorities, payload_limit);
 }
@@ -1227,7 +1228,7 @@ static void broken_words(void)
 }
 
 /* One of all calls that can be refused. */
-static uint8_t some_call(struct host *h, unsigned which)
+static uint32_t some_call(struct host *h, unsigned which)
 {
     uint16_t stream = (uint16_t)(any() % 5);
     switch (which) {
@@ -1266,7 +1267,7 @@ static void damaged_words(void)
         for (i = 0; i < 1 + round % 5; i++)
             h->queue[6 + any() % (i % 2 ? DSQ_QUEUE_WORDS - 6 : 600)] = any() % 2 ? any() : any() % 2000;
         for (i = 0; i < 19; i++) {
-            uint8_t r;
+            uint32_t r;
             remember(h);
             r = some_call(h, i);
             if (r > DSQ_WORDS_BROKEN || (r != DSQ_ACCEPTED && !as_remembered(h)))
@@ -1318,7 +1319,7 @@ static void unwire(struct wire *w)
     free(w);
 }
 
-static uint8_t write_chunk(struct wire *w, uint8_t kind)
+static uint32_t write_chunk(struct wire *w, uint8_t kind)
 {
     return dsq_write_chunk(w->output, w->output_length, w->payload, w->payload_length, w->out, kind, 0xFFFEFDFC, 0x0102, 7, 0x0304,
                            0x05060708, 0x090A0B0C, 0x0D0E0F10, w->first, 0);
@@ -1347,7 +1348,7 @@ static int untold(const uint64_t *words, size_t n, int mark)
 }
 
 /* The call is refused with this number, and nothing is written. */
-static void no_chunk(uint8_t number, size_t room, uint8_t kind, size_t payload_length)
+static void no_chunk(uint32_t number, size_t room, uint8_t kind, size_t payload_length)
 {
     struct wire *w = wired(room, payload_length);
     CHECK(write_chunk(w, kind) == number);
@@ -1448,7 +1449,7 @@ static void chunk_refusals(void)
 
 /* ---------------------------------------------------------------- packets on the wire */
 
-static uint8_t fill(struct host *h, uint64_t limit)
+static uint32_t fill(struct host *h, uint64_t limit)
 {
     return dsq_fill_packet(h->queue, h->store, h->store_length, h->events, h->events_length, h->buffer, h->buffer_length, h->out, h->time,
                            limit, 0x0102, 0x0304, 0x05060708, 0xFFFFFFFF);
@@ -1528,15 +1529,16 @@ static void close_closer(struct closer c)
     free(c.output);
 }
 
-static uint8_t ask(struct closer c)
+static uint32_t ask(struct closer c)
 {
     return dsq_make_reset_request(c.host->queue, c.handler, c.output, c.output_length, c.host->out, 9, 0x01020304);
 }
 
 /* The response to a request, with any flags. */
-static uint8_t answer(struct closer c, uint32_t number, uint32_t result)
+static uint32_t answer(struct closer c, uint32_t number, uint32_t result)
 {
-    uint8_t *bytes = allocate(16, 0), r;
+    uint8_t *bytes = allocate(16, 0);
+    uint32_t r;
     int i;
     bytes[0] = 130;
     bytes[1] = 255;

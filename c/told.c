@@ -33,33 +33,33 @@ static void check(int ok, int line, const char *text)
 
 #define CHECK(condition) check((condition) ? 1 : 0, __LINE__, #condition)
 
-static uint8_t create(struct host *h)
+static uint32_t create(struct host *h)
 {
     memset(h->out, 0, sizeof h->out);
     return dsq_create(h->queue, h->store, STORE, LIMIT, 256, 500, 0, 1, DSQ_RESTART_DCSCTP);
 }
 
-static uint8_t add(struct host *h, uint16_t stream, size_t length, uint8_t has_lifetime)
+static uint32_t add(struct host *h, uint16_t stream, size_t length, uint8_t has_lifetime)
 {
     return dsq_add(h->queue, h->store, STORE, payload, length, 1, stream, 53, 0, has_lifetime, 0, 0, 0, 7);
 }
 
-static uint8_t produce(struct host *h, uint64_t size)
+static uint32_t produce(struct host *h, uint64_t size)
 {
     return dsq_produce(h->queue, h->store, STORE, h->events, DSQ_EVENT_WORDS, buffer, sizeof buffer, h->out, 1, size);
 }
 
-static uint8_t close_stream(struct host *h, uint16_t stream)
+static uint32_t close_stream(struct host *h, uint16_t stream)
 {
     return dsq_prepare_reset_stream(h->queue, h->events, DSQ_EVENT_WORDS, h->out, stream);
 }
 
-static uint8_t threshold(struct host *h, uint16_t stream, uint64_t value)
+static uint32_t threshold(struct host *h, uint16_t stream, uint64_t value)
 {
     return dsq_set_buffered_amount_low_threshold(h->queue, h->events, DSQ_EVENT_WORDS, h->out, stream, value);
 }
 
-static uint64_t value(struct host *h, uint8_t refusal)
+static uint64_t value(struct host *h, uint32_t refusal)
 {
     CHECK(refusal == DSQ_ACCEPTED);
     return h->out[DSQ_OUT_VALUE];
@@ -70,7 +70,7 @@ static size_t save(struct host *h, uint8_t *to)
     return value(h, dsq_save(h->queue, h->store, STORE, to, DSQ_MAX_IMAGE(STORE), h->out, 1));
 }
 
-static uint8_t restore(struct host *h, const uint8_t *from, size_t length)
+static uint32_t restore(struct host *h, const uint8_t *from, size_t length)
 {
     return dsq_restore(h->queue, h->store, STORE, from, length, 1);
 }
@@ -164,7 +164,7 @@ static void refused_calls(void)
 /* ---------------------------------------------------------------- the stack of the other calls, each on a painted thread */
 
 static size_t image_length;
-static uint8_t given;
+static uint32_t given;
 
 static void call_nothing(void) { given = 0; }
 static void call_add(void) { given = add(&new_host, 3, 3000, 0); }

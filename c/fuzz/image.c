@@ -59,7 +59,7 @@ static int named(const uint8_t *image, uint64_t n, uint64_t id)
 }
 
 /* The refusal by the documents, 0 for none. */
-static uint8_t judged(const uint8_t *image, size_t size, int strict)
+static uint32_t judged(const uint8_t *image, size_t size, int strict)
 {
     const uint8_t *trailer, *m, *end, *before = NULL;
     uint64_t streams, bytes, priority;

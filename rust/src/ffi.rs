@@ -45,7 +45,7 @@ pub(crate) type ReceiverOut = [u64; RECEIVER_OUT_WORDS];
 mod c {
     unsafe extern "C" {
         pub fn dsq_layout() -> u64;
-        pub fn dsq_layout_4() -> u64;
+        pub fn dsq_layout_5() -> u64;
         pub fn dsq_create(
             queue: *mut u64,
             store: *const u8,
@@ -56,7 +56,7 @@ mod c {
             total_threshold: u64,
             handover_with_data: u8,
             restart_rule: u8,
-        ) -> u8;
+        ) -> u32;
         pub fn dsq_add(
             queue: *mut u64,
             store: *mut u8,
@@ -72,7 +72,7 @@ mod c {
             has_retransmissions: u8,
             max_retransmissions: u16,
             lifecycle_id: u64,
-        ) -> u8;
+        ) -> u32;
         pub fn dsq_produce(
             queue: *mut u64,
             store: *const u8,
@@ -84,7 +84,7 @@ mod c {
             out: *mut u64,
             time: u64,
             size: u64,
-        ) -> u8;
+        ) -> u32;
         pub fn dsq_discard(
             queue: *mut u64,
             events: *mut u64,
@@ -92,14 +92,14 @@ mod c {
             out: *mut u64,
             stream_id: u16,
             message_id: u32,
-        ) -> u8;
+        ) -> u32;
         pub fn dsq_prepare_reset_stream(
             queue: *mut u64,
             events: *mut u64,
             events_length: usize,
             out: *mut u64,
             stream_id: u16,
-        ) -> u8;
+        ) -> u32;
         pub fn dsq_set_buffered_amount_low_threshold(
             queue: *mut u64,
             events: *mut u64,
@@ -107,9 +107,9 @@ mod c {
             out: *mut u64,
             stream_id: u16,
             threshold: u64,
-        ) -> u8;
-        pub fn dsq_set_priority(queue: *mut u64, stream_id: u16, priority: u16) -> u8;
-        pub fn dsq_enable_message_interleaving(queue: *mut u64, enabled: u8) -> u8;
+        ) -> u32;
+        pub fn dsq_set_priority(queue: *mut u64, stream_id: u16, priority: u16) -> u32;
+        pub fn dsq_enable_message_interleaving(queue: *mut u64, enabled: u8) -> u32;
         pub fn dsq_plan_priorities(
             ids: *const u16,
             ids_length: usize,
@@ -117,7 +117,7 @@ mod c {
             sizes_length: usize,
             priorities: *mut u16,
             payload_limit: u64,
-        ) -> u8;
+        ) -> u32;
         pub fn dsq_write_chunk(
             output: *mut u8,
             output_length: usize,
@@ -134,7 +134,7 @@ mod c {
             ppid: u32,
             first: u8,
             last: u8,
-        ) -> u8;
+        ) -> u32;
         pub fn dsq_fill_packet(
             queue: *mut u64,
             store: *const u8,
@@ -150,13 +150,13 @@ mod c {
             destination_port: u16,
             verification_tag: u32,
             tsn: u32,
-        ) -> u8;
-        pub fn dsq_read_chunk(bytes: *const u8, bytes_length: usize, out: *mut u64, chunk: *mut u64) -> u8;
-        pub fn dsq_get_streams_ready_to_reset(queue: *mut u64, ids: *mut u16, out: *mut u64) -> u8;
-        pub fn dsq_commit_reset_streams(queue: *mut u64) -> u8;
-        pub fn dsq_rollback_reset_streams(queue: *mut u64) -> u8;
-        pub fn dsq_reset(queue: *mut u64) -> u8;
-        pub fn dsq_start_reset_handler(handler: *mut u32, number: u32) -> u8;
+        ) -> u32;
+        pub fn dsq_read_chunk(bytes: *const u8, bytes_length: usize, out: *mut u64, chunk: *mut u64) -> u32;
+        pub fn dsq_get_streams_ready_to_reset(queue: *mut u64, ids: *mut u16, out: *mut u64) -> u32;
+        pub fn dsq_commit_reset_streams(queue: *mut u64) -> u32;
+        pub fn dsq_rollback_reset_streams(queue: *mut u64) -> u32;
+        pub fn dsq_reset(queue: *mut u64) -> u32;
+        pub fn dsq_start_reset_handler(handler: *mut u32, number: u32) -> u32;
         pub fn dsq_make_reset_request(
             queue: *mut u64,
             handler: *mut u32,
@@ -165,23 +165,23 @@ mod c {
             out: *mut u64,
             response_number: u32,
             last_tsn: u32,
-        ) -> u8;
+        ) -> u32;
         pub fn dsq_handle_reset_response(
             queue: *mut u64,
             handler: *mut u32,
             bytes: *const u8,
             bytes_length: usize,
             out: *mut u64,
-        ) -> u8;
-        pub fn dsq_reset_through_handler(queue: *mut u64, handler: *mut u32) -> u8;
-        pub fn dsq_get_priority(queue: *const u64, out: *mut u64, stream_id: u16) -> u8;
-        pub fn dsq_buffered_amount(queue: *const u64, out: *mut u64, stream_id: u16) -> u8;
-        pub fn dsq_buffered_amount_low_threshold(queue: *const u64, out: *mut u64, stream_id: u16) -> u8;
-        pub fn dsq_has_data_to_send(queue: *const u64, out: *mut u64) -> u8;
-        pub fn dsq_has_streams_ready_to_be_reset(queue: *const u64, out: *mut u64) -> u8;
-        pub fn dsq_count_streams_ready_to_reset(queue: *const u64, out: *mut u64) -> u8;
+        ) -> u32;
+        pub fn dsq_reset_through_handler(queue: *mut u64, handler: *mut u32) -> u32;
+        pub fn dsq_get_priority(queue: *const u64, out: *mut u64, stream_id: u16) -> u32;
+        pub fn dsq_buffered_amount(queue: *const u64, out: *mut u64, stream_id: u16) -> u32;
+        pub fn dsq_buffered_amount_low_threshold(queue: *const u64, out: *mut u64, stream_id: u16) -> u32;
+        pub fn dsq_has_data_to_send(queue: *const u64, out: *mut u64) -> u32;
+        pub fn dsq_has_streams_ready_to_be_reset(queue: *const u64, out: *mut u64) -> u32;
+        pub fn dsq_count_streams_ready_to_reset(queue: *const u64, out: *mut u64) -> u32;
         pub fn dsq_total_buffered_amount(queue: *const u64) -> u64;
-        pub fn dsq_is_empty(queue: *const u64) -> u8;
+        pub fn dsq_is_empty(queue: *const u64) -> u32;
         pub fn dsq_free_bytes(queue: *const u64) -> u64;
         pub fn dsq_waiting_messages(queue: *const u64) -> u64;
         pub fn dsq_known_streams(queue: *const u64) -> u64;
@@ -194,7 +194,7 @@ mod c {
             image_length: usize,
             out: *mut u64,
             time: u64,
-        ) -> u8;
+        ) -> u32;
         pub fn dsq_restore(
             queue: *mut u64,
             store: *mut u8,
@@ -202,15 +202,16 @@ mod c {
             image: *const u8,
             image_length: usize,
             time: u64,
-        ) -> u8;
+        ) -> u32;
         pub fn dsr_layout() -> u64;
+        pub fn dsr_layout_2() -> u64;
         pub fn dsr_create(
             receiver: *mut u64,
             store: *const u8,
             store_length: usize,
             i_data: u8,
             starting_tsn: u32,
-        ) -> u8;
+        ) -> u32;
         pub fn dsr_receive(
             receiver: *mut u64,
             store: *mut u8,
@@ -218,7 +219,7 @@ mod c {
             bytes: *const u8,
             bytes_length: usize,
             out: *mut u64,
-        ) -> u8;
+        ) -> u32;
         pub fn dsr_fetch(
             receiver: *mut u64,
             store: *const u8,
@@ -226,17 +227,17 @@ mod c {
             buffer: *mut u8,
             buffer_length: usize,
             out: *mut u64,
-        ) -> u8;
+        ) -> u32;
     }
 }
 
 /// The library's layout, told twice. The first function has it in its name: with a library of another layout the program does not link.
 pub(crate) fn layouts() -> [u64; 2] {
     // SAFETY: they take nothing and give a number.
-    unsafe { [c::dsq_layout_4(), c::dsq_layout()] }
+    unsafe { [c::dsq_layout_5(), c::dsq_layout()] }
 }
 
-pub(crate) fn create(queue: &mut Words, store: &[u8], payload_limit: u64, options: &Options) -> u8 {
+pub(crate) fn create(queue: &mut Words, store: &[u8], payload_limit: u64, options: &Options) -> u32 {
     // SAFETY: queue and store are references, the store's length is its own.
     unsafe {
         c::dsq_create(
@@ -264,7 +265,7 @@ pub(crate) struct Given {
     pub lifecycle_id: u64,
 }
 
-pub(crate) fn add(queue: &mut Words, store: &mut [u8], payload: &[u8], given: &Given) -> u8 {
+pub(crate) fn add(queue: &mut Words, store: &mut [u8], payload: &[u8], given: &Given) -> u32 {
     // SAFETY: queue, store and payload are references, the lengths are their own; the payload overlaps neither, since those are `&mut`.
     unsafe {
         c::dsq_add(
@@ -294,7 +295,7 @@ pub(crate) fn produce(
     out: &mut Out,
     time: u64,
     size: u64,
-) -> u8 {
+) -> u32 {
     // SAFETY: all five are references, the lengths are their own.
     unsafe {
         c::dsq_produce(
@@ -320,7 +321,7 @@ pub(crate) fn fill_packet(
     out: &mut Out,
     time: u64,
     packet: &Packet,
-) -> u8 {
+) -> u32 {
     // SAFETY: all five are references, the lengths are their own.
     unsafe {
         c::dsq_fill_packet(
@@ -348,14 +349,14 @@ pub(crate) fn discard(
     out: &mut Out,
     stream_id: u16,
     message_id: u32,
-) -> u8 {
+) -> u32 {
     // SAFETY: all three are references, the list's length is its own.
     unsafe {
         c::dsq_discard(queue.as_mut_ptr(), events.as_mut_ptr(), events.len(), out.as_mut_ptr(), stream_id, message_id)
     }
 }
 
-pub(crate) fn prepare_reset_stream(queue: &mut Words, events: &mut EventWords, out: &mut Out, stream_id: u16) -> u8 {
+pub(crate) fn prepare_reset_stream(queue: &mut Words, events: &mut EventWords, out: &mut Out, stream_id: u16) -> u32 {
     // SAFETY: all three are references, the list's length is its own.
     unsafe {
         c::dsq_prepare_reset_stream(queue.as_mut_ptr(), events.as_mut_ptr(), events.len(), out.as_mut_ptr(), stream_id)
@@ -368,7 +369,7 @@ pub(crate) fn set_buffered_amount_low_threshold(
     out: &mut Out,
     stream_id: u16,
     threshold: u64,
-) -> u8 {
+) -> u32 {
     // SAFETY: all three are references, the list's length is its own.
     unsafe {
         c::dsq_set_buffered_amount_low_threshold(
@@ -382,17 +383,17 @@ pub(crate) fn set_buffered_amount_low_threshold(
     }
 }
 
-pub(crate) fn set_priority(queue: &mut Words, stream_id: u16, priority: u16) -> u8 {
+pub(crate) fn set_priority(queue: &mut Words, stream_id: u16, priority: u16) -> u32 {
     // SAFETY: queue is a reference.
     unsafe { c::dsq_set_priority(queue.as_mut_ptr(), stream_id, priority) }
 }
 
-pub(crate) fn enable_message_interleaving(queue: &mut Words, enabled: bool) -> u8 {
+pub(crate) fn enable_message_interleaving(queue: &mut Words, enabled: bool) -> u32 {
     // SAFETY: queue is a reference.
     unsafe { c::dsq_enable_message_interleaving(queue.as_mut_ptr(), u8::from(enabled)) }
 }
 
-pub(crate) fn plan_priorities(ids: &[u16], sizes: &[u64], priorities: &mut Priorities, payload_limit: u64) -> u8 {
+pub(crate) fn plan_priorities(ids: &[u16], sizes: &[u64], priorities: &mut Priorities, payload_limit: u64) -> u32 {
     // SAFETY: all three are references, the lists' lengths are their own; there is room for every list that is not refused.
     unsafe {
         c::dsq_plan_priorities(
@@ -408,7 +409,7 @@ pub(crate) fn plan_priorities(ids: &[u16], sizes: &[u64], priorities: &mut Prior
 
 /// The number, and how many bytes were written, 0 where it is a refusal's.
 #[inline]
-pub(crate) fn write_chunk<P: AsRef<[u8]>>(output: &mut [u8], kind: ChunkKind, tsn: Tsn, data: &Data<P>) -> (u8, u64) {
+pub(crate) fn write_chunk<P: AsRef<[u8]>>(output: &mut [u8], kind: ChunkKind, tsn: Tsn, data: &Data<P>) -> (u32, u64) {
     let payload = data.payload.as_ref();
     // not cleared: of these words the call reads none, and it writes the first where it accepts
     let mut out = MaybeUninit::<Out>::uninit();
@@ -438,32 +439,32 @@ pub(crate) fn write_chunk<P: AsRef<[u8]>>(output: &mut [u8], kind: ChunkKind, ts
 }
 
 #[inline]
-pub(crate) fn read_chunk(bytes: &[u8], out: &mut Out, chunk: &mut ChunkWords) -> u8 {
+pub(crate) fn read_chunk(bytes: &[u8], out: &mut Out, chunk: &mut ChunkWords) -> u32 {
     // SAFETY: all three are references, the bytes' length is their own and they are only read.
     unsafe { c::dsq_read_chunk(bytes.as_ptr(), bytes.len(), out.as_mut_ptr(), chunk.as_mut_ptr()) }
 }
 
-pub(crate) fn get_streams_ready_to_reset(queue: &mut Words, ids: &mut ReadyIds, out: &mut Out) -> u8 {
+pub(crate) fn get_streams_ready_to_reset(queue: &mut Words, ids: &mut ReadyIds, out: &mut Out) -> u32 {
     // SAFETY: all three are references; the ids have room for every stream that a queue can know.
     unsafe { c::dsq_get_streams_ready_to_reset(queue.as_mut_ptr(), ids.as_mut_ptr(), out.as_mut_ptr()) }
 }
 
-pub(crate) fn commit_reset_streams(queue: &mut Words) -> u8 {
+pub(crate) fn commit_reset_streams(queue: &mut Words) -> u32 {
     // SAFETY: queue is a reference.
     unsafe { c::dsq_commit_reset_streams(queue.as_mut_ptr()) }
 }
 
-pub(crate) fn rollback_reset_streams(queue: &mut Words) -> u8 {
+pub(crate) fn rollback_reset_streams(queue: &mut Words) -> u32 {
     // SAFETY: queue is a reference.
     unsafe { c::dsq_rollback_reset_streams(queue.as_mut_ptr()) }
 }
 
-pub(crate) fn reset(queue: &mut Words) -> u8 {
+pub(crate) fn reset(queue: &mut Words) -> u32 {
     // SAFETY: queue is a reference.
     unsafe { c::dsq_reset(queue.as_mut_ptr()) }
 }
 
-pub(crate) fn start_reset_handler(handler: &mut HandlerNumbers, number: u32) -> u8 {
+pub(crate) fn start_reset_handler(handler: &mut HandlerNumbers, number: u32) -> u32 {
     // SAFETY: handler is a reference of its length.
     unsafe { c::dsq_start_reset_handler(handler.as_mut_ptr(), number) }
 }
@@ -475,7 +476,7 @@ pub(crate) fn make_reset_request(
     out: &mut Out,
     response_number: u32,
     last_tsn: u32,
-) -> u8 {
+) -> u32 {
     // SAFETY: all four are references, the output's length is its own.
     unsafe {
         c::dsq_make_reset_request(
@@ -495,7 +496,7 @@ pub(crate) fn handle_reset_response(
     handler: &mut HandlerNumbers,
     bytes: &[u8],
     out: &mut Out,
-) -> u8 {
+) -> u32 {
     // SAFETY: all four are references, the bytes' length is their own and they are only read.
     unsafe {
         c::dsq_handle_reset_response(
@@ -508,37 +509,37 @@ pub(crate) fn handle_reset_response(
     }
 }
 
-pub(crate) fn reset_through_handler(queue: &mut Words, handler: &mut HandlerNumbers) -> u8 {
+pub(crate) fn reset_through_handler(queue: &mut Words, handler: &mut HandlerNumbers) -> u32 {
     // SAFETY: both are references.
     unsafe { c::dsq_reset_through_handler(queue.as_mut_ptr(), handler.as_mut_ptr()) }
 }
 
-pub(crate) fn get_priority(queue: &Words, out: &mut Out, stream_id: u16) -> u8 {
+pub(crate) fn get_priority(queue: &Words, out: &mut Out, stream_id: u16) -> u32 {
     // SAFETY: both are references; a question reads the queue only.
     unsafe { c::dsq_get_priority(queue.as_ptr(), out.as_mut_ptr(), stream_id) }
 }
 
-pub(crate) fn buffered_amount(queue: &Words, out: &mut Out, stream_id: u16) -> u8 {
+pub(crate) fn buffered_amount(queue: &Words, out: &mut Out, stream_id: u16) -> u32 {
     // SAFETY: both are references; a question reads the queue only.
     unsafe { c::dsq_buffered_amount(queue.as_ptr(), out.as_mut_ptr(), stream_id) }
 }
 
-pub(crate) fn buffered_amount_low_threshold(queue: &Words, out: &mut Out, stream_id: u16) -> u8 {
+pub(crate) fn buffered_amount_low_threshold(queue: &Words, out: &mut Out, stream_id: u16) -> u32 {
     // SAFETY: both are references; a question reads the queue only.
     unsafe { c::dsq_buffered_amount_low_threshold(queue.as_ptr(), out.as_mut_ptr(), stream_id) }
 }
 
-pub(crate) fn has_data_to_send(queue: &Words, out: &mut Out) -> u8 {
+pub(crate) fn has_data_to_send(queue: &Words, out: &mut Out) -> u32 {
     // SAFETY: both are references; a question reads the queue only.
     unsafe { c::dsq_has_data_to_send(queue.as_ptr(), out.as_mut_ptr()) }
 }
 
-pub(crate) fn has_streams_ready_to_be_reset(queue: &Words, out: &mut Out) -> u8 {
+pub(crate) fn has_streams_ready_to_be_reset(queue: &Words, out: &mut Out) -> u32 {
     // SAFETY: both are references; a question reads the queue only.
     unsafe { c::dsq_has_streams_ready_to_be_reset(queue.as_ptr(), out.as_mut_ptr()) }
 }
 
-pub(crate) fn count_streams_ready_to_reset(queue: &Words, out: &mut Out) -> u8 {
+pub(crate) fn count_streams_ready_to_reset(queue: &Words, out: &mut Out) -> u32 {
     // SAFETY: both are references; a question reads the queue only.
     unsafe { c::dsq_count_streams_ready_to_reset(queue.as_ptr(), out.as_mut_ptr()) }
 }
@@ -573,7 +574,7 @@ pub(crate) fn get_handover_readiness(queue: &Words) -> u64 {
     unsafe { c::dsq_get_handover_readiness(queue.as_ptr()) }
 }
 
-pub(crate) fn save(queue: &Words, store: &[u8], image: &mut [u8], out: &mut Out, time: u64) -> u8 {
+pub(crate) fn save(queue: &Words, store: &[u8], image: &mut [u8], out: &mut Out, time: u64) -> u32 {
     // SAFETY: all four are references, the lengths are their own; saving reads queue and store only.
     unsafe {
         c::dsq_save(
@@ -588,24 +589,24 @@ pub(crate) fn save(queue: &Words, store: &[u8], image: &mut [u8], out: &mut Out,
     }
 }
 
-pub(crate) fn restore(queue: &mut Words, store: &mut [u8], image: &[u8], time: u64) -> u8 {
+pub(crate) fn restore(queue: &mut Words, store: &mut [u8], image: &[u8], time: u64) -> u32 {
     // SAFETY: all three are references, the lengths are their own; the image overlaps neither, since those are `&mut`.
     unsafe { c::dsq_restore(queue.as_mut_ptr(), store.as_mut_ptr(), store.len(), image.as_ptr(), image.len(), time) }
 }
 
-/// The receiver's layout.
-pub(crate) fn receiver_layout() -> u64 {
-    // SAFETY: it takes nothing and gives a number.
-    unsafe { c::dsr_layout() }
+/// The receiver's layout, told twice as the queue's is.
+pub(crate) fn receiver_layouts() -> [u64; 2] {
+    // SAFETY: they take nothing and give a number.
+    unsafe { [c::dsr_layout_2(), c::dsr_layout()] }
 }
 
-pub(crate) fn create_receiver(receiver: &mut ReceiverWords, store: &[u8], kind: ChunkKind, starting_tsn: Tsn) -> u8 {
+pub(crate) fn create_receiver(receiver: &mut ReceiverWords, store: &[u8], kind: ChunkKind, starting_tsn: Tsn) -> u32 {
     // SAFETY: receiver and store are references, the store's length is its own.
     unsafe { c::dsr_create(receiver.as_mut_ptr(), store.as_ptr(), store.len(), kind as u8, starting_tsn.0) }
 }
 
 #[inline]
-pub(crate) fn receive(receiver: &mut ReceiverWords, store: &mut [u8], bytes: &[u8], out: &mut ReceiverOut) -> u8 {
+pub(crate) fn receive(receiver: &mut ReceiverWords, store: &mut [u8], bytes: &[u8], out: &mut ReceiverOut) -> u32 {
     // SAFETY: all four are references, the lengths are their own; the bytes overlap nothing, since the others are `&mut`.
     unsafe {
         c::dsr_receive(
@@ -620,7 +621,7 @@ pub(crate) fn receive(receiver: &mut ReceiverWords, store: &mut [u8], bytes: &[u
 }
 
 #[inline]
-pub(crate) fn fetch(receiver: &mut ReceiverWords, store: &[u8], buffer: &mut [u8], out: &mut ReceiverOut) -> u8 {
+pub(crate) fn fetch(receiver: &mut ReceiverWords, store: &[u8], buffer: &mut [u8], out: &mut ReceiverOut) -> u32 {
     // SAFETY: all four are references, the lengths are their own; the store is only read.
     unsafe {
         c::dsr_fetch(

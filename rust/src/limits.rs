@@ -24,7 +24,7 @@ pub const MAX_FRAGMENTS: usize = 4_096;
 pub const TSN_WINDOW: u32 = 1_024;
 
 /// The layout of words, events and arguments that this crate is written for.
-pub(crate) const LAYOUT: u64 = 4;
+pub(crate) const LAYOUT: u64 = 5;
 /// Words of a queue's state.
 pub(crate) const QUEUE_WORDS: usize = 20_768;
 /// No call reports more events.
@@ -46,7 +46,7 @@ pub const MIN_PACKET_LIMIT: usize = 36;
 /// The greatest packet limit.
 pub const MAX_PACKET_LIMIT: usize = 65_535;
 /// The layout of words and arguments of a receiver that this crate is written for.
-pub(crate) const RECEIVER_LAYOUT: u64 = 1;
+pub(crate) const RECEIVER_LAYOUT: u64 = 2;
 /// Words of a receiver's state.
 pub(crate) const RECEIVER_WORDS: usize = 83_472;
 /// Places of what a receiver's call tells beside its number.

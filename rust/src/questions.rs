@@ -9,7 +9,7 @@ use crate::queue::accepted;
 use crate::readiness::HandoverReadiness;
 
 /// The value that a question tells.
-fn told(ask: impl FnOnce(&mut Out) -> u8) -> u64 {
+fn told(ask: impl FnOnce(&mut Out) -> u32) -> u64 {
     let mut out = [0; OUT_WORDS];
     accepted(ask(&mut out));
     out[0]

@@ -51,7 +51,7 @@ pub(crate) fn zeros<const N: usize>() -> Box<[u64; N]> {
 }
 
 /// The number of a call that is never refused.
-pub(crate) fn accepted(number: u8) {
+pub(crate) fn accepted(number: u32) {
     assert!(number == 0, "refusal {number} of a call that is proved never to be refused");
 }
 

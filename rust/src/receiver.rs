@@ -63,12 +63,12 @@ impl Receiver {
     ///
     /// # Panics
     ///
-    /// Where the linked library tells another layout than the one that this crate is written for.
+    /// Where the linked library tells another layout than the one that its symbols name; none that `rt` has made does.
     pub fn new(kind: ChunkKind, starting_tsn: Tsn, store_length: usize) -> Result<Self, Refusal> {
-        let layout = ffi::receiver_layout();
+        let layouts = ffi::receiver_layouts();
         assert!(
-            layout == RECEIVER_LAYOUT,
-            "the proved receiver tells layout {layout}, this crate is written for {RECEIVER_LAYOUT}"
+            layouts == [RECEIVER_LAYOUT; 2],
+            "the proved receiver tells layouts {layouts:?}, this crate is written for {RECEIVER_LAYOUT}"
         );
         let mut receiver = Self {
             words: zeros::<RECEIVER_WORDS>(),

@@ -121,8 +121,8 @@ impl Refusal {
 
     /// What a call's number says: 0 is accepted.
     #[inline]
-    pub(crate) fn judge(number: u8) -> Result<(), Self> {
-        if number == 0 { Ok(()) } else { Err(Self::from_number(number).expect("the number is a refusal's")) }
+    pub(crate) fn judge(number: u32) -> Result<(), Self> {
+        if number == 0 { Ok(()) } else { Err(Self::from_number(number as u8).expect("the number is a refusal's")) }
     }
 }
 

@@ -46,7 +46,10 @@ fn of_header(header: &str) -> Functions {
         without_comments(header).lines().filter(|l| !l.starts_with('#')).map(String::from).collect();
     for statement in code.join(" ").split(';') {
         let one_line = statement.split_whitespace().collect::<Vec<_>>().join(" ");
-        let Some((head, parameters)) = one_line.split_once('(').filter(|_| !one_line.contains(" = ")) else { continue };
+        // a declaration has a type before its name; the layout's reference (`DSQ_LINKED_WITH`) has none
+        let Some((head, parameters)) = one_line.split_once('(').filter(|(head, _)| head.contains(' ')) else {
+            continue;
+        };
         let mut words = head.rsplit(' ');
         let (name, answer) = (words.next().unwrap(), words.next().unwrap());
         let mut list: Vec<String> = Vec::new();
@@ -249,9 +252,9 @@ fn the_receiver_s_lengths_and_places_are_the_proved_ones() {
 
 /// The layout, and a sum over what the header declares. Whoever changes a declaration decides whether a host compiled before would be wrong
 /// with it. Then the layout moves, here and in the header, limits.rs and send_queue_c. What is only added has a new sum and no new layout.
-const LAYOUT: (u64, u32) = (4, 1_127_017_758);
+const LAYOUT: (u64, u32) = (5, 2_036_086_689);
 /// The same of the receiver's header and receiver_c.
-const RECEIVER_LAYOUT: (u64, u32) = (1, 510_326_001);
+const RECEIVER_LAYOUT: (u64, u32) = (2, 2_374_045_057);
 
 #[test]
 fn the_layout_goes_with_what_the_header_declares() {
@@ -269,11 +272,13 @@ fn the_layout_goes_with_what_the_header_declares() {
 
 #[test]
 fn the_layout_is_in_a_function_s_name() {
-    let header = text("../c/send_queue.h");
-    let name = format!("dsq_layout_{}", number(&header, "#define DSQ_LAYOUT"));
-    assert!(of_header(&header).contains_key(&name));
-    assert!(without_comments(&header).contains(&format!("= {name};")), "the header refers to it");
-    assert!(text("src/ffi.rs").contains(&format!("c::{name}()")), "the crate calls it");
+    for (header, prefix) in [("../c/send_queue.h", "dsq"), ("../c/receiver.h", "dsr")] {
+        let header = text(header);
+        let name = format!("{prefix}_layout_{}", number(&header, &format!("#define {}_LAYOUT", prefix.to_uppercase())));
+        assert!(of_header(&header).contains_key(&name));
+        assert!(without_comments(&header).contains(&format!("DSQ_LINKED_WITH({name});")), "the header refers to it");
+        assert!(text("src/ffi.rs").contains(&format!("c::{name}()")), "the crate calls it");
+    }
 }
 
 /// The version is the same in the header, in the crate and in the log of changes, which has an entry for every request that has landed.

@@ -14,7 +14,7 @@ use packets::PacketFilled;
 use queue_words::QUEUE_WORDS;
 
 // The value is the number of chunks, the length that of the packet; both are 0 without a fragment.
-fn tell_filled(out: &mut [u64; OUT_WORDS], a: PacketFilled) -> u8
+fn tell_filled(out: &mut [u64; OUT_WORDS], a: PacketFilled) -> u32
     ensures { λ r. ⌜ (r ≡ filledNumber a) × (now (out .exit) ≡ filledOut (now (out .entry)) a) ⌝ }
 {
     match a {
@@ -24,7 +24,7 @@ fn tell_filled(out: &mut [u64; OUT_WORDS], a: PacketFilled) -> u8
             out[LENGTH] = bytes as u64;
             0
         }
-        PacketFilled::Refused(n) => n,
+        PacketFilled::Refused(n) => n as u32,
     }
 }
 
@@ -41,7 +41,7 @@ pub extern "C" fn dsq_fill_packet(
     destination_port: u16,
     verification_tag: u32,
     tsn: u32,
-) -> u8
+) -> u32
     ensures { λ r. ⌜ GivesPacket (fillPacket (now (queue .entry)) (now (store .entry)) (now (events .entry)) (now (packet .entry)) time (packetWith limit «source_port» «destination_port» «verification_tag» tsn)) (now (out .entry)) r (now (queue .exit)) (now (events .exit)) (now (packet .exit)) (now (out .exit)) ⌝ }
 {
     let p = Packet {

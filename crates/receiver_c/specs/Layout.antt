@@ -3,4 +3,4 @@
 use Prim.Native.Nat.{ℕ}
 
 abbrev pub layout : ℕ
-layout = 1
+layout = 2

@@ -20,11 +20,12 @@ pub extern "C" fn dsr_create(
     store: &[u8],
     i_data: u8,
     starting_tsn: u32,
-) -> u8
+) -> u32
     ensures { λ r. ⌜ GivesCreated (create (now (receiver .entry)) (now (store .entry)) (isYes «i_data») «starting_tsn») r (now (receiver .exit)) ⌝ }
 {
     let interleaved = is_yes(i_data);
-    create(receiver, store, interleaved, starting_tsn)
+    let number = create(receiver, store, interleaved, starting_tsn);
+    number as u32
 }
 
 #[no_mangle]
@@ -33,7 +34,7 @@ pub extern "C" fn dsr_receive(
     store: &mut [u8],
     bytes: &[u8],
     out: &mut [u64; OUT_WORDS],
-) -> u8
+) -> u32
     ensures { λ r. ⌜ GivesReceived (receive (now (receiver .entry)) (now (store .entry)) (now (bytes .entry))) (now (out .entry)) r (now (receiver .exit)) (now (store .exit)) (now (out .exit)) ⌝ }
 {
     let a = receive(receiver, store, bytes);
@@ -46,7 +47,7 @@ pub extern "C" fn dsr_fetch(
     store: &[u8],
     buffer: &mut [u8],
     out: &mut [u64; OUT_WORDS],
-) -> u8
+) -> u32
     ensures { λ r. ⌜ GivesFetched (fetch (now (receiver .entry)) (now (store .entry)) (now (buffer .entry))) (now (out .entry)) r (now (receiver .exit)) (now (buffer .exit)) (now (out .exit)) ⌝ }
 {
     let a = fetch(receiver, store, buffer);

@@ -26,11 +26,11 @@ pub fn is_yes(flag: u8) -> bool
     flag != 0
 }
 
-pub fn tell_received(out: &mut [u64; OUT_WORDS], a: Received) -> u8
+pub fn tell_received(out: &mut [u64; OUT_WORDS], a: Received) -> u32
     ensures { λ r. ⌜ (r ≡ receivedNumber a) × (now (out .exit) ≡ receivedOut (now (out .entry)) a) ⌝ }
 {
     match a {
-        Received::Refused(n) => n,
+        Received::Refused(n) => n as u32,
         Received::Repeated => {
             out[VALUE] = 0;
             0
@@ -54,11 +54,11 @@ fn tell_message(out: &mut [u64; OUT_WORDS], d: Delivery)
 }
 
 // Where none is ready the value is 0, and what goes with a message stays as it was.
-pub fn tell_fetched(out: &mut [u64; OUT_WORDS], a: Fetched) -> u8
+pub fn tell_fetched(out: &mut [u64; OUT_WORDS], a: Fetched) -> u32
     ensures { λ r. ⌜ (r ≡ fetchedNumber a) × (now (out .exit) ≡ fetchedOut (now (out .entry)) a) ⌝ }
 {
     match a {
-        Fetched::Refused(n) => n,
+        Fetched::Refused(n) => n as u32,
         Fetched::NoneReady => {
             out[VALUE] = 0;
             0

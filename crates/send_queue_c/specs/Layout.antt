@@ -6,5 +6,6 @@ use Prim.Native.Nat.{ℕ}
 --   2  an event is three words: "Kinds 1 and 2 now carry it as a third number" (document 02, 2/13)
 --   3  creation takes the rule of a restart behind its other arguments (document 02, 6/13); the options are seven words, and the header's words behind them move
 --   4  the totals are eleven words, and the header's words behind them move
+--   5  functions return 32 bits where they returned 8
 abbrev pub layout : ℕ
-layout = 4
+layout = 5

@@ -12,7 +12,7 @@ use send_queue::Saved;
 use send_queue::restore;
 use send_queue::save;
 
-fn tell_saved(out: &mut [u64; OUT_WORDS], s: Saved) -> u8
+fn tell_saved(out: &mut [u64; OUT_WORDS], s: Saved) -> u32
     ensures { λ r. ⌜ (r ≡ savedNumber s) × (now (out .exit) ≡ savedOut (now (out .entry)) s) ⌝ }
 {
     match s {
@@ -20,7 +20,7 @@ fn tell_saved(out: &mut [u64; OUT_WORDS], s: Saved) -> u8
             out[VALUE] = length as u64;
             0
         }
-        Saved::Refused(n) => n,
+        Saved::Refused(n) => n as u32,
     }
 }
 
@@ -31,7 +31,7 @@ pub extern "C" fn dsq_save(
     image: &mut [u8],
     out: &mut [u64; OUT_WORDS],
     time: u64,
-) -> u8
+) -> u32
     ensures { λ r. ⌜ GivesImage (saveImage (now (queue .entry)) (now (store .entry)) (now (image .entry)) time) (now (out .entry)) r (now (image .exit)) (now (out .exit)) ⌝ }
 {
     let s = save(queue, store, image, time);
@@ -44,7 +44,7 @@ pub extern "C" fn dsq_restore(
     store: &mut [u8],
     image: &[u8],
     time: u64,
-) -> u8
+) -> u32
     ensures { λ r. ⌜ GivesStore (restore (now (queue .entry)) (now (store .entry)) time (now (image .entry))) r (now (queue .exit)) (now (store .exit)) ⌝ }
 {
     let c = restore(queue, store, time, image);

@@ -41,7 +41,7 @@ pub extern "C" fn dsq_create(
     total_threshold: u64,
     handover_with_data: u8,
     restart_rule: u8,
-) -> u8
+) -> u32
     ensures { λ r. ⌜ Gives (create (now (queue .entry)) (length (now (store .entry))) «payload_limit» «default_priority» «default_threshold» «total_threshold» (isYes «handover_with_data») (restartRuleOf (isYes «restart_rule»))) r (now (queue .exit)) ⌝ }
 {
     let with_data = is_yes(handover_with_data);
@@ -93,7 +93,7 @@ pub extern "C" fn dsq_add(
     has_retransmissions: u8,
     max_retransmissions: u16,
     lifecycle_id: u64,
-) -> u8
+) -> u32
     ensures { λ r. ⌜ GivesStore (add (now (queue .entry)) (now (store .entry)) time (messageOf «stream_id» ppid unordered «has_lifetime» lifetime «has_retransmissions» «max_retransmissions» «lifecycle_id») (now (payload .entry))) r (now (queue .exit)) (now (store .exit)) ⌝ }
 {
     let u = is_yes(unordered);
@@ -123,7 +123,7 @@ pub extern "C" fn dsq_discard(
     out: &mut [u64; OUT_WORDS],
     stream_id: u16,
     message_id: u32,
-) -> u8
+) -> u32
     ensures { λ r. ⌜ GivesEvents (discard (now (queue .entry)) (now (events .entry)) «stream_id» «message_id») (now (out .entry)) r (now (queue .exit)) (now (events .exit)) (now (out .exit)) ⌝ }
 {
     let c = discard(queue, events, stream_id, message_id);

@@ -17,17 +17,17 @@ pub fn is_yes(flag: u8) -> bool
 }
 
 // A call that tells nothing else.
-pub fn call_number(c: Call) -> u8
+pub fn call_number(c: Call) -> u32
     ensures { λ r. ⌜ r ≡ callNumber c ⌝ }
 {
     match c {
         Call::Accepted(_) => 0,
-        Call::Refused(n) => n,
+        Call::Refused(n) => n as u32,
     }
 }
 
 // A call that writes events.
-pub fn tell_call(out: &mut [u64; OUT_WORDS], c: Call) -> u8
+pub fn tell_call(out: &mut [u64; OUT_WORDS], c: Call) -> u32
     ensures { λ r. ⌜ (r ≡ callNumber c) × (now (out .exit) ≡ callOut (now (out .entry)) c) ⌝ }
 {
     match c {
@@ -35,12 +35,12 @@ pub fn tell_call(out: &mut [u64; OUT_WORDS], c: Call) -> u8
             out[EVENTS] = k as u64;
             0
         }
-        Call::Refused(refusal) => refusal,
+        Call::Refused(refusal) => refusal as u32,
     }
 }
 
 // A question for a number.
-pub fn tell_number(out: &mut [u64; OUT_WORDS], a: Number) -> u8
+pub fn tell_number(out: &mut [u64; OUT_WORDS], a: Number) -> u32
     ensures { λ r. ⌜ (r ≡ numberNumber a) × (now (out .exit) ≡ numberOut (now (out .entry)) a) ⌝ }
 {
     match a {
@@ -48,12 +48,12 @@ pub fn tell_number(out: &mut [u64; OUT_WORDS], a: Number) -> u8
             out[VALUE] = v;
             0
         }
-        Number::Refused(n) => n,
+        Number::Refused(n) => n as u32,
     }
 }
 
 // A question for yes or no.
-pub fn tell_flag(out: &mut [u64; OUT_WORDS], a: Flag) -> u8
+pub fn tell_flag(out: &mut [u64; OUT_WORDS], a: Flag) -> u32
     ensures { λ r. ⌜ (r ≡ flagNumber a) × (now (out .exit) ≡ flagOut (now (out .entry)) a) ⌝ }
 {
     match a {
@@ -61,6 +61,6 @@ pub fn tell_flag(out: &mut [u64; OUT_WORDS], a: Flag) -> u8
             out[VALUE] = b as u64;
             0
         }
-        Flag::Refused(n) => n,
+        Flag::Refused(n) => n as u32,
     }
 }

@@ -20,7 +20,7 @@ fn whole(values: &[u16; MAX_PLANNED])
     let _values: &[u16] = values;
 }
 
-fn tell_planned(priorities: &mut [u16; MAX_PLANNED], a: PlannedPriorities) -> u8
+fn tell_planned(priorities: &mut [u16; MAX_PLANNED], a: PlannedPriorities) -> u32
     requires { ⌜ a .count ≤ max-planned ⌝ }
     ensures { λ r. ⌜ (r ≡ callNumber (a .answer)) × (now (priorities .exit) ≡ plannedPlaces (now (priorities .entry)) a) ⌝ }
 {
@@ -33,7 +33,7 @@ fn tell_planned(priorities: &mut [u16; MAX_PLANNED], a: PlannedPriorities) -> u8
             copy_first(priorities, &from, a.count);
             0
         }
-        Call::Refused(n) => n,
+        Call::Refused(n) => n as u32,
     }
 }
 
@@ -44,7 +44,7 @@ pub extern "C" fn dsq_plan_priorities(
     sizes: &[u64],
     priorities: &mut [u16; MAX_PLANNED],
     payload_limit: u64,
-) -> u8
+) -> u32
     ensures { λ r. ⌜ GivesPriorities (planned «payload_limit» (now (ids .entry)) (now (sizes .entry))) (now (priorities .entry)) r (now (priorities .exit)) ⌝ }
 {
     let a = plan_priorities(payload_limit, ids, sizes);

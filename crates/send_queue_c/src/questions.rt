@@ -27,7 +27,7 @@ pub extern "C" fn dsq_get_priority(
     queue: &[u64; QUEUE_WORDS],
     out: &mut [u64; OUT_WORDS],
     stream_id: u16,
-) -> u8
+) -> u32
     ensures { λ r. ⌜ GivesNumber (priorityOf (now (queue .entry)) «stream_id») (now (out .entry)) r (now (out .exit)) ⌝ }
 {
     let a = get_priority(queue, stream_id);
@@ -39,7 +39,7 @@ pub extern "C" fn dsq_buffered_amount(
     queue: &[u64; QUEUE_WORDS],
     out: &mut [u64; OUT_WORDS],
     stream_id: u16,
-) -> u8
+) -> u32
     ensures { λ r. ⌜ GivesNumber (amountOf (now (queue .entry)) «stream_id») (now (out .entry)) r (now (out .exit)) ⌝ }
 {
     let a = buffered_amount(queue, stream_id);
@@ -51,7 +51,7 @@ pub extern "C" fn dsq_buffered_amount_low_threshold(
     queue: &[u64; QUEUE_WORDS],
     out: &mut [u64; OUT_WORDS],
     stream_id: u16,
-) -> u8
+) -> u32
     ensures { λ r. ⌜ GivesNumber (thresholdOf (now (queue .entry)) «stream_id») (now (out .entry)) r (now (out .exit)) ⌝ }
 {
     let a = buffered_amount_low_threshold(queue, stream_id);
@@ -67,15 +67,18 @@ pub extern "C" fn dsq_total_buffered_amount(queue: &[u64; QUEUE_WORDS]) -> u64
 
 // 1 for empty, else 0.
 #[no_mangle]
-pub extern "C" fn dsq_is_empty(queue: &[u64; QUEUE_WORDS]) -> u8
+pub extern "C" fn dsq_is_empty(queue: &[u64; QUEUE_WORDS]) -> u32
     ensures { λ r. ⌜ r ≡ bit (emptyOf (now (queue .entry))) ⌝ }
 {
     let b = is_empty(queue);
-    b as u8
+    b as u32
 }
 
 #[no_mangle]
-pub extern "C" fn dsq_has_data_to_send(queue: &[u64; QUEUE_WORDS], out: &mut [u64; OUT_WORDS]) -> u8
+pub extern "C" fn dsq_has_data_to_send(
+    queue: &[u64; QUEUE_WORDS],
+    out: &mut [u64; OUT_WORDS],
+) -> u32
     ensures { λ r. ⌜ GivesFlag (dataOf (now (queue .entry))) (now (out .entry)) r (now (out .exit)) ⌝ }
 {
     let a = has_data_to_send(queue);
@@ -86,7 +89,7 @@ pub extern "C" fn dsq_has_data_to_send(queue: &[u64; QUEUE_WORDS], out: &mut [u6
 pub extern "C" fn dsq_has_streams_ready_to_be_reset(
     queue: &[u64; QUEUE_WORDS],
     out: &mut [u64; OUT_WORDS],
-) -> u8
+) -> u32
     ensures { λ r. ⌜ GivesFlag (readyOf (now (queue .entry))) (now (out .entry)) r (now (out .exit)) ⌝ }
 {
     let a = has_streams_ready_to_be_reset(queue);
@@ -97,7 +100,7 @@ pub extern "C" fn dsq_has_streams_ready_to_be_reset(
 pub extern "C" fn dsq_count_streams_ready_to_reset(
     queue: &[u64; QUEUE_WORDS],
     out: &mut [u64; OUT_WORDS],
-) -> u8
+) -> u32
     ensures { λ r. ⌜ GivesNumber (readyCount (now (queue .entry))) (now (out .entry)) r (now (out .exit)) ⌝ }
 {
     let a = count_streams_ready_to_reset(queue);

@@ -75,7 +75,7 @@ fn put_handler(numbers: &mut [u32; HANDLER_NUMBERS], handler: StreamResetHandler
 
 // "Request numbers start at a given one".
 #[no_mangle]
-pub extern "C" fn dsq_start_reset_handler(handler: &mut [u32; HANDLER_NUMBERS], number: u32) -> u8
+pub extern "C" fn dsq_start_reset_handler(handler: &mut [u32; HANDLER_NUMBERS], number: u32) -> u32
     ensures { λ r. ⌜ (r ≡ 0) × (now (handler .exit) ≡ handlerNumbers (now (handler .entry)) (handlerOf (model.start number))) ⌝ }
 {
     let h = start(number);
@@ -87,7 +87,7 @@ fn tell_request(
     handler: &mut [u32; HANDLER_NUMBERS],
     out: &mut [u64; OUT_WORDS],
     m: MadeRequest,
-) -> u8
+) -> u32
     ensures { λ r. ⌜ (r ≡ requestNumber (m .answer)) × (now (out .exit) ≡ requestOut (now (out .entry)) (m .answer)) × (now (handler .exit) ≡ requestHandler (now (handler .entry)) (m .answer) (m .handler)) ⌝ }
 {
     let a = m.answer;
@@ -102,7 +102,7 @@ fn tell_request(
             out[VALUE] = 0;
             0
         }
-        RequestAnswer::Refused(n) => n,
+        RequestAnswer::Refused(n) => n as u32,
     }
 }
 
@@ -114,7 +114,7 @@ pub extern "C" fn dsq_make_reset_request(
     out: &mut [u64; OUT_WORDS],
     response_number: u32,
     last_tsn: u32,
-) -> u8
+) -> u32
     ensures { λ r. ⌜ GivesRequest (now (queue .entry)) (now (handler .entry)) (now (output .entry)) «response_number» «last_tsn» (now (out .entry)) r (now (queue .exit)) (now (handler .exit)) (now (output .exit)) (now (out .exit)) ⌝ }
 {
     let h = handler_in(&*handler);
@@ -122,7 +122,7 @@ pub extern "C" fn dsq_make_reset_request(
     tell_request(handler, out, m)
 }
 
-fn tell_outcome(out: &mut [u64; OUT_WORDS], a: ResponseAnswer) -> u8
+fn tell_outcome(out: &mut [u64; OUT_WORDS], a: ResponseAnswer) -> u32
     ensures { λ r. ⌜ (r ≡ responseNumber a) × (now (out .exit) ≡ responseOut (now (out .entry)) a) ⌝ }
 {
     match a {
@@ -142,7 +142,7 @@ fn tell_outcome(out: &mut [u64; OUT_WORDS], a: ResponseAnswer) -> u8
             out[VALUE] = STILL_WAITING;
             0
         }
-        ResponseAnswer::Refused(n) => n,
+        ResponseAnswer::Refused(n) => n as u32,
     }
 }
 
@@ -167,7 +167,7 @@ pub extern "C" fn dsq_handle_reset_response(
     handler: &mut [u32; HANDLER_NUMBERS],
     bytes: &[u8],
     out: &mut [u64; OUT_WORDS],
-) -> u8
+) -> u32
     ensures { λ r. ⌜ GivesResponse (now (queue .entry)) (now (handler .entry)) (now (bytes .entry)) (now (out .entry)) r (now (queue .exit)) (now (handler .exit)) (now (out .exit)) ⌝ }
 {
     let before = handler_in(&*handler);
@@ -177,7 +177,7 @@ pub extern "C" fn dsq_handle_reset_response(
     tell_outcome(out, a)
 }
 
-fn tell_reset(handler: &mut [u32; HANDLER_NUMBERS], r: QueueReset) -> u8
+fn tell_reset(handler: &mut [u32; HANDLER_NUMBERS], r: QueueReset) -> u32
     ensures { λ n. ⌜ (n ≡ callNumber (r .answer)) × (now (handler .exit) ≡ resetHandler (now (handler .entry)) (r .answer) (r .handler)) ⌝ }
 {
     let c = r.answer;
@@ -187,7 +187,7 @@ fn tell_reset(handler: &mut [u32; HANDLER_NUMBERS], r: QueueReset) -> u8
             put_handler(handler, next);
             0
         }
-        Call::Refused(n) => n,
+        Call::Refused(n) => n as u32,
     }
 }
 
@@ -196,7 +196,7 @@ fn tell_reset(handler: &mut [u32; HANDLER_NUMBERS], r: QueueReset) -> u8
 pub extern "C" fn dsq_reset_through_handler(
     queue: &mut [u64; QUEUE_WORDS],
     handler: &mut [u32; HANDLER_NUMBERS],
-) -> u8
+) -> u32
     ensures { λ r. ⌜ GivesReset (now (queue .entry)) (now (handler .entry)) r (now (queue .exit)) (now (handler .exit)) ⌝ }
 {
     let before = handler_in(&*handler);

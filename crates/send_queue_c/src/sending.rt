@@ -75,7 +75,7 @@ pub fn show(out: &mut [u64; OUT_WORDS], k: usize, d: DataToSend)
 }
 
 // Where nothing waits the value is 0, and what goes with a fragment stays as it was.
-fn tell_produced(out: &mut [u64; OUT_WORDS], p: Produced) -> u8
+fn tell_produced(out: &mut [u64; OUT_WORDS], p: Produced) -> u32
     ensures { λ r. ⌜ (r ≡ producedNumber p) × (now (out .exit) ≡ producedOut (now (out .entry)) p) ⌝ }
 {
     match p {
@@ -88,7 +88,7 @@ fn tell_produced(out: &mut [u64; OUT_WORDS], p: Produced) -> u8
             show(out, k, d);
             0
         }
-        Produced::Refused(n) => n,
+        Produced::Refused(n) => n as u32,
     }
 }
 
@@ -101,7 +101,7 @@ pub extern "C" fn dsq_produce(
     out: &mut [u64; OUT_WORDS],
     time: u64,
     size: u64,
-) -> u8
+) -> u32
     ensures { λ r. ⌜ GivesFragment (produceNext (now (queue .entry)) (now (store .entry)) (now (events .entry)) (now (buffer .entry)) time size) (now (out .entry)) r (now (queue .exit)) (now (events .exit)) (now (buffer .exit)) (now (out .exit)) ⌝ }
 {
     let p = produce(queue, store, events, buffer, time, size);

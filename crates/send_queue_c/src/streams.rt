@@ -35,7 +35,7 @@ pub extern "C" fn dsq_prepare_reset_stream(
     events: &mut [u64],
     out: &mut [u64; OUT_WORDS],
     stream_id: u16,
-) -> u8
+) -> u32
     ensures { λ r. ⌜ GivesEvents (close (now (queue .entry)) (now (events .entry)) «stream_id») (now (out .entry)) r (now (queue .exit)) (now (events .exit)) (now (out .exit)) ⌝ }
 {
     let c = prepare_reset_stream(queue, events, stream_id);
@@ -49,7 +49,7 @@ fn whole(ids: &[u16; 256])
     let _ids: &[u16] = ids;
 }
 
-fn tell_ready(ids: &mut [u16; 256], out: &mut [u64; OUT_WORDS], a: ReadyStreams) -> u8
+fn tell_ready(ids: &mut [u16; 256], out: &mut [u64; OUT_WORDS], a: ReadyStreams) -> u32
     requires { ⌜ a .count ≤ 256 ⌝ }
     ensures { λ r. ⌜ (r ≡ readyNumber a) × (now (ids .exit) ≡ readyIds (now (ids .entry)) a) × (now (out .exit) ≡ readyOut (now (out .entry)) a) ⌝ }
 {
@@ -63,7 +63,7 @@ fn tell_ready(ids: &mut [u16; 256], out: &mut [u64; OUT_WORDS], a: ReadyStreams)
             out[VALUE] = a.count as u64;
             0
         }
-        Call::Refused(n) => n,
+        Call::Refused(n) => n as u32,
     }
 }
 
@@ -73,7 +73,7 @@ pub extern "C" fn dsq_get_streams_ready_to_reset(
     queue: &mut [u64; QUEUE_WORDS],
     ids: &mut [u16; 256],
     out: &mut [u64; OUT_WORDS],
-) -> u8
+) -> u32
     ensures { λ r. ⌜ GivesIds (ready (now (queue .entry))) (now (ids .entry)) (now (out .entry)) r (now (queue .exit)) (now (ids .exit)) (now (out .exit)) ⌝ }
 {
     let a = get_streams_ready_to_reset(queue);
@@ -81,7 +81,7 @@ pub extern "C" fn dsq_get_streams_ready_to_reset(
 }
 
 #[no_mangle]
-pub extern "C" fn dsq_commit_reset_streams(queue: &mut [u64; QUEUE_WORDS]) -> u8
+pub extern "C" fn dsq_commit_reset_streams(queue: &mut [u64; QUEUE_WORDS]) -> u32
     ensures { λ r. ⌜ Gives (reopen true (now (queue .entry))) r (now (queue .exit)) ⌝ }
 {
     let c = commit_reset_streams(queue);
@@ -89,7 +89,7 @@ pub extern "C" fn dsq_commit_reset_streams(queue: &mut [u64; QUEUE_WORDS]) -> u8
 }
 
 #[no_mangle]
-pub extern "C" fn dsq_rollback_reset_streams(queue: &mut [u64; QUEUE_WORDS]) -> u8
+pub extern "C" fn dsq_rollback_reset_streams(queue: &mut [u64; QUEUE_WORDS]) -> u32
     ensures { λ r. ⌜ Gives (reopen false (now (queue .entry))) r (now (queue .exit)) ⌝ }
 {
     let c = rollback_reset_streams(queue);
@@ -98,7 +98,7 @@ pub extern "C" fn dsq_rollback_reset_streams(queue: &mut [u64; QUEUE_WORDS]) -> 
 
 // The whole-queue reset.
 #[no_mangle]
-pub extern "C" fn dsq_reset(queue: &mut [u64; QUEUE_WORDS]) -> u8
+pub extern "C" fn dsq_reset(queue: &mut [u64; QUEUE_WORDS]) -> u32
     ensures { λ r. ⌜ Gives (resetQueue (now (queue .entry))) r (now (queue .exit)) ⌝ }
 {
     let c = reset(queue);
@@ -106,7 +106,10 @@ pub extern "C" fn dsq_reset(queue: &mut [u64; QUEUE_WORDS]) -> u8
 }
 
 #[no_mangle]
-pub extern "C" fn dsq_enable_message_interleaving(queue: &mut [u64; QUEUE_WORDS], enabled: u8) -> u8
+pub extern "C" fn dsq_enable_message_interleaving(
+    queue: &mut [u64; QUEUE_WORDS],
+    enabled: u8,
+) -> u32
     ensures { λ r. ⌜ Gives (setInterleaving (isYes enabled) (now (queue .entry))) r (now (queue .exit)) ⌝ }
 {
     let yes = is_yes(enabled);
@@ -119,7 +122,7 @@ pub extern "C" fn dsq_set_priority(
     queue: &mut [u64; QUEUE_WORDS],
     stream_id: u16,
     priority: u16,
-) -> u8
+) -> u32
     ensures { λ r. ⌜ Gives (setPriority (now (queue .entry)) «stream_id» priority) r (now (queue .exit)) ⌝ }
 {
     let c = set_priority(queue, stream_id, priority);
@@ -133,7 +136,7 @@ pub extern "C" fn dsq_set_buffered_amount_low_threshold(
     out: &mut [u64; OUT_WORDS],
     stream_id: u16,
     threshold: u64,
-) -> u8
+) -> u32
     ensures { λ r. ⌜ GivesEvents (setThreshold (now (queue .entry)) (now (events .entry)) «stream_id» threshold) (now (out .entry)) r (now (queue .exit)) (now (events .exit)) (now (out .exit)) ⌝ }
 {
     let c = set_buffered_amount_low_threshold(queue, events, stream_id, threshold);

@@ -88,7 +88,7 @@ fn fragment_of(
     }
 }
 
-fn tell_written(out: &mut [u64; OUT_WORDS], a: ChunkWritten) -> u8
+fn tell_written(out: &mut [u64; OUT_WORDS], a: ChunkWritten) -> u32
     ensures { λ r. ⌜ (r ≡ writtenNumber a) × (now (out .exit) ≡ writtenOut (now (out .entry)) a) ⌝ }
 {
     match a {
@@ -96,7 +96,7 @@ fn tell_written(out: &mut [u64; OUT_WORDS], a: ChunkWritten) -> u8
             out[VALUE] = n as u64;
             0
         }
-        ChunkWritten::Refused(n) => n,
+        ChunkWritten::Refused(n) => n as u32,
     }
 }
 
@@ -115,7 +115,7 @@ pub extern "C" fn dsq_write_chunk(
     ppid: u32,
     first: u8,
     last: u8,
-) -> u8
+) -> u32
     ensures { λ r. ⌜ GivesWritten (writeChunk (now (output .entry)) (kindOf (isYes kind)) tsn (fragmentOf «stream_id» unordered ssn mid fsn ppid first last (length (now (payload .entry)))) (now (payload .entry))) (now (out .entry)) r (now (output .exit)) (now (out .exit)) ⌝ }
 {
     let i_data = is_yes(kind);
@@ -136,7 +136,7 @@ fn tell_places(chunk: &mut [u64; CHUNK_WORDS], kind: ChunkKind, tsn: u32, at: us
     chunk[PAYLOAD_AT] = at as u64;
 }
 
-fn tell_read(out: &mut [u64; OUT_WORDS], chunk: &mut [u64; CHUNK_WORDS], a: ChunkRead) -> u8
+fn tell_read(out: &mut [u64; OUT_WORDS], chunk: &mut [u64; CHUNK_WORDS], a: ChunkRead) -> u32
     ensures { λ r. ⌜ (r ≡ readNumber a) × (now (out .exit) ≡ readOut (now (out .entry)) a) × (now (chunk .exit) ≡ readPlaces (now (chunk .entry)) a) ⌝ }
 {
     match a {
@@ -147,7 +147,7 @@ fn tell_read(out: &mut [u64; OUT_WORDS], chunk: &mut [u64; CHUNK_WORDS], a: Chun
             tell_places(chunk, kind, c.tsn, c.payload_at);
             0
         }
-        ChunkRead::Refused(n) => n,
+        ChunkRead::Refused(n) => n as u32,
     }
 }
 
@@ -156,7 +156,7 @@ pub extern "C" fn dsq_read_chunk(
     bytes: &[u8],
     out: &mut [u64; OUT_WORDS],
     chunk: &mut [u64; CHUNK_WORDS],
-) -> u8
+) -> u32
     ensures { λ r. ⌜ GivesRead (readChunk (now (bytes .entry))) (now (out .entry)) (now (chunk .entry)) r (now (out .exit)) (now (chunk .exit)) ⌝ }
 {
     let a = read_chunk(bytes);

@@ -13,4 +13,5 @@ dsr-create-spec =
     (tie.spec
     (λ c. search needs)
     (λ c. search needs)
+    (λ c. search needs)
     returns)

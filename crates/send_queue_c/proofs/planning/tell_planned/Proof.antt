@@ -27,5 +27,6 @@ tell-planned-spec =
     (λ c. search needs)
     copy-first-requires
     (λ c. search needs)
+    (λ c. search needs)
     returns
     (λ c. search needs))

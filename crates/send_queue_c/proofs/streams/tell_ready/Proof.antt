@@ -28,5 +28,6 @@ tell-ready-spec =
     copy-first-requires
     (λ c. search needs)
     (λ c. search needs)
+    (λ c. search needs)
     returns
     (λ c. search needs))

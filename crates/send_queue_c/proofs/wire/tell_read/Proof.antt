@@ -11,4 +11,4 @@ returns-2 : tie.Need-returns-2
 returns-2 c = rw ((c .before .a2 .given .1)) (refl, refl, refl)
 
 pub tell-read-spec : {M : Type 1} → statement M
-tell-read-spec = tie.close (tie.spec (λ c. search needs) (λ c κs. search needs) (λ c κs. search needs) (λ c. search needs) returns returns-2)
+tell-read-spec = tie.close (tie.spec (λ c. search needs) (λ c κs. search needs) (λ c κs. search needs) (λ c. search needs) (λ c. search needs) returns returns-2)
