@@ -287,6 +287,7 @@ pub(crate) fn add(queue: &mut Words, store: &mut [u8], payload: &[u8], given: &G
     }
 }
 
+#[inline]
 pub(crate) fn produce(
     queue: &mut Words,
     store: &[u8],

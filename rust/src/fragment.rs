@@ -66,11 +66,13 @@ impl DataToSend<&[u8]> {
 }
 
 /// The length of the fragment that a call told of.
+#[inline]
 pub(crate) fn length(out: &Out) -> usize {
     out[2] as usize
 }
 
 /// The fragment that a call told of, with these bytes.
+#[inline]
 pub(crate) fn told<'a>(out: &Out, payload: &'a [u8]) -> DataToSend<&'a [u8]> {
     let expires = out[13] != 0;
     DataToSend {

@@ -118,10 +118,10 @@ impl SendQueue {
             self.fragment.resize(max_size.min(MAX_PAYLOAD), 0);
         }
         let mut buffer = std::mem::take(&mut self.fragment);
-        let answer = self.next(now, max_size as u64, &mut buffer);
+        let mut out = [0; OUT_WORDS];
+        let answer = self.next(now, max_size as u64, &mut buffer, &mut out);
         self.fragment = buffer;
-        let Some(out) = answer? else { return Ok(None) };
-        Ok(Some(fragment::told(&out, &self.fragment[..fragment::length(&out)])))
+        Ok(answer?.then(|| fragment::told(&out, &self.fragment[..fragment::length(&out)])))
     }
 
     /// The next fragment, of at most the buffer's length, or `None` if nothing waits. Messages whose time is over are dropped on the way.
@@ -132,24 +132,26 @@ impl SendQueue {
     /// # Errors
     ///
     /// [`Refusal::TimeLate`], [`Refusal::SizeWrong`] (a buffer outside 1 to 262,144 bytes).
+    #[inline]
     pub fn produce_into<'a>(
         &mut self,
         now: SocketTime,
         buffer: &'a mut [u8],
     ) -> Result<Option<DataToSend<&'a [u8]>>, Refusal> {
         let size = buffer.len() as u64;
-        let Some(out) = self.next(now, size, buffer)? else { return Ok(None) };
-        Ok(Some(fragment::told(&out, &buffer[..fragment::length(&out)])))
+        let mut out = [0; OUT_WORDS];
+        let waited = self.next(now, size, buffer, &mut out)?;
+        Ok(waited.then(|| fragment::told(&out, &buffer[..fragment::length(&out)])))
     }
 
-    /// What the call tells of the next fragment, whose bytes it has put into the buffer.
+    /// Whether there is a next fragment; its bytes are put into the buffer, and what the call tells of it into `out`, which is read in place:
+    /// a copy would wait for the words that the call has just written.
     #[inline]
-    fn next(&mut self, now: SocketTime, size: u64, buffer: &mut [u8]) -> Result<Option<Out>, Refusal> {
-        let mut out = [0; OUT_WORDS];
-        let number = ffi::produce(&mut self.words, &self.store, &mut self.events, buffer, &mut out, now.0, size);
-        self.reported(&out);
+    fn next(&mut self, now: SocketTime, size: u64, buffer: &mut [u8], out: &mut Out) -> Result<bool, Refusal> {
+        let number = ffi::produce(&mut self.words, &self.store, &mut self.events, buffer, out, now.0, size);
+        self.reported(out);
         Refusal::judge(number)?;
-        Ok((out[0] != 0).then_some(out))
+        Ok(out[0] != 0)
     }
 
     /// Drops the stream's first message if it is the one with this id.
@@ -168,6 +170,7 @@ impl SendQueue {
     }
 
     /// Keeps the number of events that a call wrote; a refused one leaves its place at 0.
+    #[inline]
     pub(crate) fn reported(&mut self, out: &Out) {
         self.event_count = out[1] as usize;
     }
