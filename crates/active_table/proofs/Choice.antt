@@ -182,7 +182,7 @@ module _ (ws : List ℕ) (n : ℕ) where
 
   pub known-is : 0 < n → Least ws n n (leastKnown ws n)
   unfolding leastKnown
-  known-is pos = go (leb n 24)
+  known-is pos = go (leb n 64)
     where
       over : Least ws n (groupsOf n * 24) (bestOver ws n (groupsOf n)) → Least ws n n (bestOver ws n (groupsOf n))
       over l = record { least-row = l .least-row; least-in = l .least-in; least-first = λ w j h k. l .least-first w j h (omega arith) }
@@ -287,39 +287,39 @@ module _ (ws : List ℕ) (n g : ℕ) where
           rw (w, rows (k * 24 + leastAt ws k), rows (k * 24 + j)) (l k (omega arith) j c)
 
 -- What holds of the words, and of them with a group of the rows in use made fresh, holds of `refreshed`.
-pub refreshed-by : (ws : List ℕ) (P : List ℕ → Type 0) → P ws → ((g : ℕ) → (schedulerAt ws) .active ≤ 256 → g < 11 → P (refreshedAt ws ((schedulerAt ws) .active) g)) → P (refreshed ws)
-unfolding refreshed
-refreshed-by ws P same-words fresh = go (ltb 256 n) (leb n 24) (ltb g (groupsOf n)) refl refl
-  where
-    n : ℕ
-    n = (schedulerAt ws) .active
+module _ (ws : List ℕ) (at : ℕ) where
+  abbrev n : ℕ
+  n = (schedulerAt ws) .active
 
-    g : ℕ
-    g = staleFrom ws n 0 (groupsOf n)
+  pub refreshed-by : (P : List ℕ → Type 0) → P ws → ((g : ℕ) → g < 11 → P (refreshedAt ws n g)) → P (refreshed ws at)
+  unfolding refreshed
+  refreshed-by P same-words fresh = go (ltb 256 n) (leb n 64) (ltb g (groupsOf n)) refl refl
+    where
+      g : ℕ
+      g = staleFrom ws n (at / 24) 0 (groupsOf n)
 
-    go : (a b c : Bool) → ltb 256 n ≡ a → ltb g (groupsOf n) ≡ c → P (if a then ws else if b then ws else if c then refreshedAt ws n g else ws)
-    go true b c e f = same-words
-    go false true c e f = same-words
-    go false false true e f = fresh g (tests.ltb-false 256 n e) (omega (arith, tests.ltb-true g (groupsOf n) f, tests.ltb-false 256 n e))
-    go false false false e f = same-words
+      go : (a b c : Bool) → ltb 256 n ≡ a → ltb g (groupsOf n) ≡ c → P (if a then ws else if b then ws else if c then refreshedAt ws n g else ws)
+      go true b c e f = same-words
+      go false true c e f = same-words
+      go false false true e f = fresh g (omega (arith, tests.ltb-true g (groupsOf n) f, tests.ltb-false 256 n e))
+      go false false false e f = same-words
 
--- What is read of words with a group made fresh.
-module _ (ws : List ℕ) where
-  pub refreshed-puts : (P : List ℕ → Type 0) → P ws → ((g v : ℕ) → g < 11 → P (putLeast ws g v)) → P (refreshed ws)
+  -- What is read of words with a group made fresh.
+  pub refreshed-puts : (P : List ℕ → Type 0) → P ws → ((g v : ℕ) → g < 11 → P (putLeast ws g v)) → P (refreshed ws at)
   unfolding refreshedAt
-  refreshed-puts P same-words fresh = refreshed-by ws P same-words (λ g few fits. fresh g _ fits)
+  refreshed-puts P same-words fresh = refreshed-by P same-words (λ g fits. fresh g _ fits)
 
-  pub refreshed-whole : length (refreshed ws) ≡ length ws
+  pub refreshed-whole : length (refreshed ws at) ≡ length ws
   refreshed-whole = refreshed-puts (λ us. length us ≡ length ws) refl (λ g v h. whole-put-least ws g v)
 
-  pub refreshed-options : optionsAt (refreshed ws) ≡ optionsAt ws
+  pub refreshed-options : optionsAt (refreshed ws at) ≡ optionsAt ws
   refreshed-options = refreshed-puts (λ us. optionsAt us ≡ optionsAt ws) refl (λ g v h. options-put-least ws g v)
 
-  pub refreshed-scheduler : schedulerAt (refreshed ws) ≡ schedulerAt ws
+  pub refreshed-scheduler : schedulerAt (refreshed ws at) ≡ schedulerAt ws
   refreshed-scheduler = refreshed-puts (λ us. schedulerAt us ≡ schedulerAt ws) refl (λ g v h. scheduler-put-least ws g v)
 
-  pub refreshed-rows : (j : ℕ) → activeAt (refreshed ws) j ≡ activeAt ws j
+  pub refreshed-rows : (j : ℕ) → activeAt (refreshed ws at) j ≡ activeAt ws j
   refreshed-rows j = refreshed-puts (λ us. activeAt us j ≡ activeAt ws j) refl (λ g v h. active-put-least ws g v j h)
 
-  pub refreshed-leasts : length ws ≡ 20768 → Leasts ws ((schedulerAt ws) .active) → Leasts (refreshed ws) ((schedulerAt ws) .active)
-  refreshed-leasts long l = refreshed-by ws (λ us. Leasts us ((schedulerAt ws) .active)) l (λ g few fits. leasts-refreshed ws ((schedulerAt ws) .active) g long fits l)
+  pub refreshed-leasts : length ws ≡ 20768 → Leasts ws n → Leasts (refreshed ws at) n
+  refreshed-leasts long l = refreshed-by (λ us. Leasts us n) l (λ g fits. leasts-refreshed ws n g long fits l)

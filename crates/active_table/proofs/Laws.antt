@@ -140,9 +140,39 @@ among-end ws start from i₀ i n a b ea eb h l g =
     let z : i₀ + (i - i₀) ≡ n = omega arith in
     among-part ws start from i₀ (i - i₀) a b ea eb ∙ ap (bestAmong (rowsFrom ws from) start from) z
 
-pub least-is : (ws : List ℕ) (k : ℕ) (a b : Best) → a ≡ bestOf (activeAt ws 0) 0 → b ≡ bestAmong (rowsFrom ws 1) a 1 k → b ≡ bestTo ws k
-unfolding bestTo
-least-is ws k a b ea eb = eb ∙ ap (λ (x : Best). bestAmong (rowsFrom ws 1) x 1 k) ea
+-- The rows from 0 on.
+best-zero : (ws : List ℕ) → bestTo ws 0 ≡ bestOf (activeAt ws 0) 0
+unfolding bestTo bestAmong
+best-zero ws = refl
+
+best-suc : (ws : List ℕ) (k : ℕ) → bestTo ws (suc k) ≡ better (bestTo ws k) (bestOf (activeAt ws (suc k)) (suc k))
+unfolding bestTo bestAmong
+best-suc ws k =
+    let s : 1 + k ≡ suc k = omega arith in
+    rw s
+
+-- Rows of the queue behind the least of those before.
+among : (ws : List ℕ) (i n : ℕ) → bestAmong (rowsFrom ws (i + 1)) (bestTo ws i) (i + 1) n ≡ bestTo ws (i + n)
+unfolding bestAmong
+among ws i zero =
+    let z : i + 0 ≡ i = omega arith in
+    rw z
+among ws i (suc n) =
+    let s : i + suc n ≡ suc (i + n) = omega arith in
+    let t : (i + 1) + n ≡ suc (i + n) = omega arith in
+    rw (s, t, among ws i n, best-suc ws (i + n))
+
+pub least-begun : (ws : List ℕ) (b : Best) → b ≡ bestOf (activeAt ws 0) 0 → b ≡ bestTo ws 0
+least-begun ws b e = e ∙ sym (best-zero ws)
+
+-- A part of c rows behind row i.
+pub least-part : (ws : List ℕ) (i c : ℕ) (a b : Best) → a ≡ bestTo ws i → b ≡ bestAmong (rowsFrom ws (i + 1)) a (i + 1) c → b ≡ bestTo ws (i + c)
+least-part ws i c a b ea eb = eb ∙ (ap (λ (x : Best). bestAmong (rowsFrom ws (i + 1)) x (i + 1) c) ea ∙ among ws i c)
+
+pub least-end : (ws : List ℕ) (i n : ℕ) (b : Best) → b ≡ bestTo ws i → i < n → n ≤ i + 1 → b ≡ bestTo ws (n - 1)
+least-end ws i n b e l g =
+    let z : n - 1 ≡ i = omega arith in
+    rw (z, e)
 
 -- The better of two by its cases.
 module _ (a : Best) (row : ActiveStreamInfo) (i : ℕ) where

@@ -1,15 +1,18 @@
 -- The ways out of the functions of the choice in two levels, over plain values: a callee's result is a variable, what it ensures a hypothesis. Assumes nothing.
-use mathlib.Core.Path.{_≡_, sym, ap, _∙_, subst}
+use mathlib.Core.Path.{_≡_, refl, sym, ap, _∙_, subst}
+use mathlib.Core.Bool.{Bool, true, false}
 use mathlib.Core.List.{List}
-use Prim.Native.Nat.{ℕ, zero, suc, _+_, _-_, _*_, _≤_, _<_}
+use Prim.Native.Nat.{ℕ, zero, suc, _+_, _-_, _*_, _/_, _≤_, _<_}
 use native.Mathlib.Omega.{arith}
 use native.Mathlib.Nat.{sub-zero}
-use borrow.Author.Tests.{lt-ltb, le-ltb, le-leb, lt-leb}
+use lib.Dec.{ltb}
+use borrow.Author.Tests.{lt-ltb, le-ltb, le-leb, lt-leb, eq-eqb, ne-eqb}
+use Rattle.queue_model.specs.Logic.{if_then_else_}
 use Rattle.queue_words.specs.Header.{schedulerAt}
 use Rattle.queue_words.specs.Leasts.{leastAt, putLeast}
 use Rattle.queue_words.specs.declared.header.SchedulerState.{SchedulerState}
 use Rattle.active_table.specs.declared.Best.{Best}
-use Rattle.active_table.specs.Groups.{groupsOf, countIn, bestAt, bestIn, bestOver, leastKnown, staleFrom, leastIn, refreshedAt, refreshed}
+use Rattle.active_table.specs.Groups.{groupsOf, countIn, bestAt, bestIn, bestOver, leastKnown, isPassed, staleFrom, leastIn, refreshedAt, refreshed}
 use Rattle.active_table.specs.Parts.{rowsFrom}
 use Rattle.active_table.specs.Rows.{bestAmong, bestTo}
 use Rattle.active_table.proofs.Choice.{least-from}
@@ -43,49 +46,60 @@ over-end ws n g k b e ek l m =
     e ∙ ap (bestOver ws n) z
 
 module _ (ws : List ℕ) (n : ℕ) (b : Best) where
-  pub known-one : n ≤ 24 → b ≡ bestTo ws (n - 1) → b ≡ leastKnown ws n
+  pub known-one : n ≤ 64 → b ≡ bestTo ws (n - 1) → b ≡ leastKnown ws n
   unfolding leastKnown
   known-one l e = rw (le-leb _ _ l, e)
 
-  pub known-over : 24 < n → b ≡ bestOver ws n (groupsOf n) → b ≡ leastKnown ws n
+  pub known-over : 64 < n → b ≡ bestOver ws n (groupsOf n) → b ≡ leastKnown ws n
   unfolding leastKnown
   known-over l e = rw (lt-leb _ _ l, e)
 
 -- ---- a group made fresh
 
--- Group g of k groups: what is sought is the first stale one from g on.
-module _ (ws : List ℕ) (n k : ℕ) (ek : k ≡ groupsOf n) where
-  abbrev Left : ℕ → ℕ
-  Left g = staleFrom ws n g (k - g)
+module _ (ws : List ℕ) (n own g : ℕ) where
+  pub passed-own : g ≡ own → true ≡ isPassed ws n own g
+  passed-own e = rw (eq-eqb _ _ e)
 
-  pub stale-start : staleFrom ws n 0 (groupsOf n) ≡ Left 0
+  pub passed-other : (w count : ℕ) → (g ≡ own → ⊥) → w ≡ leastAt ws g → count ≡ countIn g n → ltb w count ≡ isPassed ws n own g
+  passed-other w count ne ew ec = rw (ne-eqb _ _ ne, ew, ec)
+
+-- Group g of k groups: what is sought is the first stale one from g on.
+module _ (ws : List ℕ) (n own k : ℕ) (ek : k ≡ groupsOf n) where
+  abbrev Left : ℕ → ℕ
+  Left g = staleFrom ws n own g (k - g)
+
+  pub stale-start : staleFrom ws n own 0 (groupsOf n) ≡ Left 0
   stale-start = rw (sub-zero, ek)
 
-  module _ (g : ℕ) (inv : staleFrom ws n 0 (groupsOf n) ≡ Left g) where
-    more-left : g < k → Left g ≡ staleFrom ws n g (suc (k - (g + 1)))
+  module _ (g : ℕ) (inv : staleFrom ws n own 0 (groupsOf n) ≡ Left g) where
+    more-left : g < k → Left g ≡ staleFrom ws n own g (suc (k - (g + 1)))
     more-left l =
         let s : k - g ≡ suc (k - (g + 1)) = omega arith in
-        ap (staleFrom ws n g) s
+        ap (staleFrom ws n own g) s
 
-    module _ (l : g < k) (w count : ℕ) (ew : w ≡ leastAt ws g) (ec : count ≡ countIn g n) where
-      pub stale-here : count ≤ w → g ≡ staleFrom ws n 0 (groupsOf n)
-      unfolding staleFrom
-      stale-here m =
-          let d : staleFrom ws n g (suc (k - (g + 1))) ≡ g = rw (← ew, ← ec, le-ltb _ _ m) in
-          sym (inv ∙ more-left l ∙ d)
+    one : Bool → ℕ
+    one b = if b then staleFrom ws n own (suc g) (k - (g + 1)) else g
 
-      pub stale-past : w < count → staleFrom ws n 0 (groupsOf n) ≡ Left (g + 1)
-      unfolding staleFrom
-      stale-past m =
-          let d : staleFrom ws n g (suc (k - (g + 1))) ≡ staleFrom ws n (suc g) (k - (g + 1)) = rw (← ew, ← ec, lt-ltb _ _ m) in
+    step : staleFrom ws n own g (suc (k - (g + 1))) ≡ one (isPassed ws n own g)
+    unfolding staleFrom one
+    step = refl
+
+    module _ (l : g < k) (b : Bool) (eb : b ≡ isPassed ws n own g) where
+      pub stale-here : b ≡ false → g ≡ staleFrom ws n own 0 (groupsOf n)
+      unfolding one
+      stale-here e = sym (inv ∙ more-left l ∙ step ∙ ap one (sym eb ∙ e))
+
+      pub stale-past : b ≡ true → staleFrom ws n own 0 (groupsOf n) ≡ Left (g + 1)
+      unfolding one
+      stale-past e =
           let s : suc g ≡ g + 1 = omega arith in
-          inv ∙ more-left l ∙ d ∙ ap (λ (x : ℕ). staleFrom ws n x (k - (g + 1))) s
+          inv ∙ more-left l ∙ step ∙ ap one (sym eb ∙ e) ∙ ap (λ (x : ℕ). staleFrom ws n own x (k - (g + 1))) s
 
-    pub stale-none : k ≤ g → g ≡ staleFrom ws n 0 (groupsOf n)
+    pub stale-none : k ≤ g → g ≡ staleFrom ws n own 0 (groupsOf n)
     unfolding staleFrom
     stale-none m =
         let s : k - g ≡ 0 = omega arith in
-        sym (inv ∙ ap (staleFrom ws n g) s)
+        sym (inv ∙ ap (staleFrom ws n own g) s)
 
 pub least-in-is : (ws : List ℕ) (n g count : ℕ) (first best : Best) → count ≡ countIn g n → first ≡ bestAt ws (g * 24) → best ≡ bestAmong (rowsFrom ws (g * 24)) first (g * 24) count → best ≡ leastIn ws n g
 unfolding leastIn
@@ -98,24 +112,24 @@ pub group-refreshed : (ws : List ℕ) (n g : ℕ) (best : Best) (l : List ℕ) �
 unfolding refreshedAt
 group-refreshed ws n g best l eb el = rw (el, eb)
 
-module _ (ws : List ℕ) (s : SchedulerState) (es : s ≡ schedulerAt ws) where
-  pub refresh-broken : 256 < s .active → ws ≡ refreshed ws
+module _ (ws : List ℕ) (at : ℕ) (s : SchedulerState) (es : s ≡ schedulerAt ws) where
+  pub refresh-broken : 256 < s .active → ws ≡ refreshed ws at
   unfolding refreshed
   refresh-broken h = rw (← es, lt-ltb _ _ h)
 
   module _ (h : s .active ≤ 256) where
-    pub refresh-one : s .active ≤ 24 → ws ≡ refreshed ws
+    pub refresh-one : s .active ≤ 64 → ws ≡ refreshed ws at
     unfolding refreshed
     refresh-one l = rw (← es, le-ltb _ _ h, le-leb _ _ l)
 
-    module _ (l : 24 < s .active) (g k : ℕ) (eg : g ≡ staleFrom ws (s .active) 0 (groupsOf (s .active))) (ek : k ≡ groupsOf (s .active)) where
-      pub refresh-done : (us : List ℕ) → g < k → us ≡ refreshedAt ws (s .active) g → us ≡ refreshed ws
+    module _ (l : 64 < s .active) (g k : ℕ) (eg : g ≡ staleFrom ws (s .active) (at / 24) 0 (groupsOf (s .active))) (ek : k ≡ groupsOf (s .active)) where
+      pub refresh-done : (us : List ℕ) → g < k → us ≡ refreshedAt ws (s .active) g → us ≡ refreshed ws at
       unfolding refreshed
       refresh-done us m eu =
           let f : g < groupsOf (s .active) = omega arith in
           rw (← es, le-ltb _ _ h, lt-leb _ _ l, ← eg, lt-ltb _ _ f, eu)
 
-      pub refresh-none : k ≤ g → ws ≡ refreshed ws
+      pub refresh-none : k ≤ g → ws ≡ refreshed ws at
       unfolding refreshed
       refresh-none m =
           let f : groupsOf (s .active) ≤ g = omega arith in

@@ -1,8 +1,9 @@
 // The choice in two levels. The rows stand in groups of 24; the queue keeps each group's least row, where it is known: a store to a row makes its group
-// stale, and what hands out makes the first stale group fresh again. So a choice among 256 rows looks at one row of each fresh group, and searches the stale ones.
+// stale, and what hands out of a row makes one stale group fresh, but not the row's own, which the next store may be to. So a choice among 256 rows looks at
+// one row of each fresh group, and searches the stale ones.
 ghost use mathlib.Core.Path.{_≡_};
 ghost use Prim.Native.Nat.{_*_, _<_, _≤_};
-ghost use Rattle.active_table.specs.Groups.{groupsOf, countIn, bestIn, bestOver, leastKnown, staleFrom, refreshedAt, refreshed};
+ghost use Rattle.active_table.specs.Groups.{groupsOf, countIn, bestIn, bestOver, leastKnown, isPassed, staleFrom, refreshedAt, refreshed};
 use crate::Best;
 use crate::first_row;
 use crate::least_among;
@@ -14,6 +15,9 @@ use queue_words::leasts::GROUP;
 use queue_words::leasts::load_least;
 use queue_words::leasts::store_least;
 use queue_words::limits::STREAMS;
+
+// So few rows are searched as they are.
+const FEW: usize = 64;
 
 // How many groups n rows have.
 fn groups(n: usize) -> usize
@@ -68,23 +72,35 @@ pub fn least_known(queue: &[u64; QUEUE_WORDS], n: usize) -> Best
     requires { ⌜ (0 < n) × (n ≤ 256) ⌝ }
     ensures { λ r. ⌜ r ≡ leastKnown (now (queue .entry)) n ⌝ }
 {
-    if n <= GROUP {
+    if n <= FEW {
         return least_row(queue, n);
     }
     best_over(queue, n)
 }
 
-// The first stale group of n rows, or the number of groups.
-fn stale_group(queue: &[u64; QUEUE_WORDS], n: usize) -> usize
+// Whether a group is not to be made fresh: it is, or it is this one.
+fn passed(queue: &[u64; QUEUE_WORDS], n: usize, g: usize, own: usize) -> bool
+    requires { ⌜ (g * 24 < n) × (n ≤ 256) ⌝ }
+    ensures { λ r. ⌜ r ≡ isPassed (now (queue .entry)) n own g ⌝ }
+{
+    if g == own {
+        return true;
+    }
+    let w = load_least(queue, g);
+    let count = count_in(g, n);
+    w < count as u64
+}
+
+// The first stale group of n rows but this one, or the number of groups.
+fn stale_group(queue: &[u64; QUEUE_WORDS], n: usize, own: usize) -> usize
     requires { ⌜ n ≤ 256 ⌝ }
-    ensures { λ r. ⌜ r ≡ staleFrom (now (queue .entry)) n 0 (groupsOf n) ⌝ }
+    ensures { λ r. ⌜ r ≡ staleFrom (now (queue .entry)) n own 0 (groupsOf n) ⌝ }
 {
     let k = groups(n);
     let mut g = 0;
     while g < k {
-        let w = load_least(queue, g);
-        let count = count_in(g, n);
-        if count as u64 <= w {
+        let past = passed(queue, n, g, own);
+        if !past {
             return g;
         }
         g += 1;
@@ -104,19 +120,19 @@ fn refresh_group(queue: &mut [u64; QUEUE_WORDS], n: usize, g: usize)
     store_least(queue, g, place);
 }
 
-// Makes the first stale group fresh, where there are more groups than one.
-pub fn refresh(queue: &mut [u64; QUEUE_WORDS])
-    ensures { λ _. ⌜ now (queue .exit) ≡ refreshed (now (queue .entry)) ⌝ }
+// Makes the first stale group fresh but that of the row `at`, where there are more rows than a few.
+pub fn refresh(queue: &mut [u64; QUEUE_WORDS], at: usize)
+    ensures { λ _. ⌜ now (queue .exit) ≡ refreshed (now (queue .entry)) at ⌝ }
 {
     let s = load_scheduler_state(&*queue);
     if s.active > STREAMS {
         return;
     }
     let n = s.active as usize;
-    if n <= GROUP {
+    if n <= FEW {
         return;
     }
-    let g = stale_group(&*queue, n);
+    let g = stale_group(&*queue, n, at / GROUP);
     let k = groups(n);
     if g < k {
         refresh_group(queue, n, g);

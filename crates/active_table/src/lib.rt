@@ -286,6 +286,15 @@ fn least_row(queue: &[u64; QUEUE_WORDS], n: usize) -> Best
     requires { ⌜ (0 < n) × (n ≤ 256) ⌝ }
     ensures { λ r. ⌜ r ≡ bestTo (now (queue .entry)) (n - 1) ⌝ }
 {
-    let first = first_row(queue, 0);
-    least_among(queue, 1, n - 1, first)
+    let mut best = first_row(queue, 0);
+    let mut i = 0;
+    while i + 5 <= n {
+        best = least_past(queue, i + 1, best);
+        i += 4;
+    }
+    while i + 1 < n {
+        best = least_of_one(queue, i + 1, best);
+        i += 1;
+    }
+    best
 }

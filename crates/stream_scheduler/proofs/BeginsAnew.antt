@@ -111,13 +111,13 @@ module _ (ws : List ℕ) (g : GoodScheduler ws) (at sent : ℕ) (h : at < (sched
       | more l ↦ (let ne : bytes ≡ 0 → ⊥ = λ f. omega arith in rw (eqb-false ne) (anew-link l))
     ]
 
-    accepted : acceptLast ws at id sent bytes p ≡ outcome true (refreshed (lastRow ws at id sent bytes (parametersWord p) ((schedulerAt ws) .active)))
+    accepted : acceptLast ws at id sent bytes p ≡ outcome true (refreshed (lastRow ws at id sent bytes (parametersWord p) ((schedulerAt ws) .active)) at)
     unfolding acceptLast
     accepted = rw (ltb-false (g .few), leb-false h)
 
     pub last-link : (entryAt ws at) .bytes-remaining ≤ sent → Steps ws (acceptLast ws at ((entryAt ws at) .stream-id) sent bytes p) (set-bytes-remaining ((entryAt ws at) .stream-id) bytes (weightOf p) (accept (entryAt ws at) sent (modelScheduler ws)))
     unfolding accept
-    last-link le = rw (accepted, leb-true le) (refreshed-steps ws (lastRow ws at id sent bytes (parametersWord p) ((schedulerAt ws) .active)) _ row-ended)
+    last-link le = rw (accepted, leb-true le) (refreshed-steps ws (lastRow ws at id sent bytes (parametersWord p) ((schedulerAt ws) .active)) at _ row-ended)
 
 -- ---- what it leaves alone, for any words
 
@@ -131,4 +131,4 @@ untouched-ended ws at id sent bytes w n = untouched-if ws (eqb bytes 0) _ _ (unt
 
 pub untouched-last : (ws : List ℕ) (at id sent bytes : ℕ) (p : SchedulingParameters) → Untouched ws ((acceptLast ws at id sent bytes p) .next)
 unfolding acceptLast
-untouched-last ws at id sent bytes p = outcome-if ws (ltb 256 ((schedulerAt ws) .active)) _ _ (untouched-same ws) (outcome-if ws (leb ((schedulerAt ws) .active) at) _ _ (untouched-same ws) (untouched-refreshed ws _ (untouched-ended ws at id sent bytes _ _)))
+untouched-last ws at id sent bytes p = outcome-if ws (ltb 256 ((schedulerAt ws) .active)) _ _ (untouched-same ws) (outcome-if ws (leb ((schedulerAt ws) .active) at) _ _ (untouched-same ws) (untouched-refreshed ws _ at (untouched-ended ws at id sent bytes _ _)))

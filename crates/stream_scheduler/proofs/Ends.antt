@@ -32,10 +32,10 @@ module _ (ws : List ℕ) (at id sent bytes : ℕ) (p : SchedulingParameters) (s 
     last-no-row g = rw (← es, le-ltb _ _ h, le-leb _ _ g)
 
     module _ (f : at < s .active) (a : ActiveStreamInfo) (ea : a ≡ activeAt ws at) (t : ℕ) (et : t ≡ advanced (a .parameters) (a .«virtual_start_time») sent) where
-      pub last-none : (l r : List ℕ) → bytes ≡ 0 → l ≡ droppedRow ws at NoStream t (s .active) → r ≡ refreshed l → outcome true r ≡ acceptLast ws at id sent bytes p
+      pub last-none : (l r : List ℕ) → bytes ≡ 0 → l ≡ droppedRow ws at NoStream t (s .active) → r ≡ refreshed l at → outcome true r ≡ acceptLast ws at id sent bytes p
       unfolding acceptLast lastRow
       last-none l r z el er = rw (← es, le-ltb _ _ h, lt-leb _ _ f, ← ea, eq-eqb _ _ z, er, el, et)
 
-      pub last-anew : (w : ℕ) (l r : List ℕ) → (bytes ≡ 0 → ⊥) → w ≡ parametersWord p → l ≡ begunAnew ws at id t bytes w (s .active) → r ≡ refreshed l → outcome true r ≡ acceptLast ws at id sent bytes p
+      pub last-anew : (w : ℕ) (l r : List ℕ) → (bytes ≡ 0 → ⊥) → w ≡ parametersWord p → l ≡ begunAnew ws at id t bytes w (s .active) → r ≡ refreshed l at → outcome true r ≡ acceptLast ws at id sent bytes p
       unfolding acceptLast lastRow
       last-anew w l r z ew el er = rw (← es, le-ltb _ _ h, lt-leb _ _ f, ← ea, ne-eqb _ _ z, er, el, et, ew)

@@ -164,13 +164,13 @@ module _ (ws : List ℕ) (at bytes : ℕ) (s : SchedulerState) (es : s ≡ sched
     accept-no-row g = rw (← es, le-ltb _ _ h, le-leb _ _ g)
 
     module _ (f : at < s .active) (a : ActiveStreamInfo) (ea : a ≡ activeAt ws at) (t : ℕ) (et : t ≡ advanced (a .parameters) (a .«virtual_start_time») bytes) where
-      pub accept-last : (l r : List ℕ) → a .«bytes_remaining» ≤ bytes → l ≡ droppedRow ws at NoStream t (s .active) → r ≡ refreshed l → outcome true r ≡ acceptAt ws at bytes
+      pub accept-last : (l r : List ℕ) → a .«bytes_remaining» ≤ bytes → l ≡ droppedRow ws at NoStream t (s .active) → r ≡ refreshed l at → outcome true r ≡ acceptAt ws at bytes
       unfolding acceptAt acceptRow
       accept-last l r g el er = rw (← es, le-ltb _ _ h, lt-leb _ _ f, ← ea, le-leb _ _ g, er, el, et)
 
       pub accept-part : (o : Options) (row : ActiveStreamInfo) (c : Remembered) (l m r : List ℕ) → bytes < a .«bytes_remaining» → o ≡ optionsAt ws
           → row ≡ scheduledRow (o .«payload_limit») (a .«stream_id» .0) (a .parameters) t (a .«bytes_remaining» - bytes) → l ≡ putActive ws at row
-          → c ≡ rememberedBy (a .«stream_id» .0) (a .parameters) → m ≡ putScheduler l (stateOf c t (s .active)) → r ≡ refreshed m → outcome true r ≡ acceptAt ws at bytes
+          → c ≡ rememberedBy (a .«stream_id» .0) (a .parameters) → m ≡ putScheduler l (stateOf c t (s .active)) → r ≡ refreshed m at → outcome true r ≡ acceptAt ws at bytes
       unfolding acceptAt acceptRow
       accept-part o row c l m r g eo er el ec em ef = rw (← es, le-ltb _ _ h, lt-leb _ _ f, ← ea, lt-leb _ _ g, ← eo, ef, em, el, er, ec, et)
 

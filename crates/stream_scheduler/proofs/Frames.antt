@@ -92,8 +92,8 @@ untouched-row ws i a = record {
 }
 
 -- A group made fresh changes no other part.
-pub untouched-refreshed : (ws us : List ℕ) → Untouched ws us → Untouched ws (refreshed us)
-untouched-refreshed ws us u = untouched-then ws us (refreshed us) u (refreshed-puts us (Untouched us) (untouched-same us) (λ g v h. record {
+pub untouched-refreshed : (ws us : List ℕ) (at : ℕ) → Untouched ws us → Untouched ws (refreshed us at)
+untouched-refreshed ws us at u = untouched-then ws us (refreshed us at) u (refreshed-puts us at (Untouched us) (untouched-same us) (λ g v h. record {
   same-options = options-put-least us g v;
   same-totals = totals-put-least us g v;
   same-known = λ j k. known-put-least us g v j h;
@@ -138,7 +138,7 @@ untouched-handed ws at bytes n = untouched-if ws (leb ((activeAt ws at) .«bytes
 
 pub untouched-accept : (ws : List ℕ) (at bytes : ℕ) → Untouched ws ((acceptAt ws at bytes) .next)
 unfolding acceptAt
-untouched-accept ws at bytes = outcome-if ws (ltb 256 ((schedulerAt ws) .active)) _ _ (untouched-same ws) (outcome-if ws (leb ((schedulerAt ws) .active) at) _ _ (untouched-same ws) (untouched-refreshed ws _ (untouched-handed ws at bytes _)))
+untouched-accept ws at bytes = outcome-if ws (ltb 256 ((schedulerAt ws) .active)) _ _ (untouched-same ws) (outcome-if ws (leb ((schedulerAt ws) .active) at) _ _ (untouched-same ws) (untouched-refreshed ws _ at (untouched-handed ws at bytes _)))
 
 -- ---- good again, done or refused
 

@@ -132,9 +132,9 @@ module _ (ws : List ℕ) (g : GoodScheduler ws) (at bytes : ℕ) (h : at < (sche
   unfolding acceptAt acceptRow
   accept-link =
       let n : ℕ = (schedulerAt ws) .active in
-      subst (λ (b : Bool). Steps ws (if b then outcome false ws else if leb n at then outcome false ws else outcome true (refreshed (acceptRow ws at bytes n))) (accept (entryAt ws at) bytes (modelScheduler ws))) (sym (ltb-false (g .few)))
-      (subst (λ (b : Bool). Steps ws (if b then outcome false ws else outcome true (refreshed (acceptRow ws at bytes n))) (accept (entryAt ws at) bytes (modelScheduler ws))) (sym (leb-false h))
-      (refreshed-steps ws (acceptRow ws at bytes n) (accept (entryAt ws at) bytes (modelScheduler ws))
+      subst (λ (b : Bool). Steps ws (if b then outcome false ws else if leb n at then outcome false ws else outcome true (refreshed (acceptRow ws at bytes n) at)) (accept (entryAt ws at) bytes (modelScheduler ws))) (sym (ltb-false (g .few)))
+      (subst (λ (b : Bool). Steps ws (if b then outcome false ws else outcome true (refreshed (acceptRow ws at bytes n) at)) (accept (entryAt ws at) bytes (modelScheduler ws))) (sym (leb-false h))
+      (refreshed-steps ws (acceptRow ws at bytes n) at (accept (entryAt ws at) bytes (modelScheduler ws))
       (subst (Steps ws (outcome true (acceptRow ws at bytes n))) (sym accept-is) (by-size (leb ((activeAt ws at) .«bytes_remaining») bytes) refl))))
 
 -- ---- peek

@@ -120,15 +120,15 @@ state-good ws g v e =
     }
 
 -- A group made fresh changes no row.
-pub refreshed-steps : (ws us : List ℕ) (sc : Scheduler) → Steps ws (outcome true us) sc → Steps ws (outcome true (refreshed us)) sc
-refreshed-steps ws us sc s =
+pub refreshed-steps : (ws us : List ℕ) (at : ℕ) (sc : Scheduler) → Steps ws (outcome true us) sc → Steps ws (outcome true (refreshed us at)) sc
+refreshed-steps ws us at sc s =
     let g = s .step-good in
-    let k = scheduler-kept us (refreshed us) (refreshed-whole us) (refreshed-options us) (refreshed-scheduler us) (refreshed-rows us) (refreshed-leasts us (g .long) (g .leasts)) g in
+    let k = scheduler-kept us (refreshed us at) (refreshed-whole us at) (refreshed-options us at) (refreshed-scheduler us at) (refreshed-rows us at) (refreshed-leasts us at (g .long) (g .leasts)) g in
     record {
       step-done = refl;
       step-good = k .0;
       step-model = k .1 ∙ s .step-model;
-      step-count = subst (λ (x : SchedulerState). x .active ≤ suc ((schedulerAt ws) .active)) (sym (refreshed-scheduler us)) (s .step-count);
+      step-count = subst (λ (x : SchedulerState). x .active ≤ suc ((schedulerAt ws) .active)) (sym (refreshed-scheduler us at)) (s .step-count);
     }
 
 -- ---- numbers

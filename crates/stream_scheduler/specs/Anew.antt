@@ -30,4 +30,4 @@ lastRow ws at id sent bytes w n =
 unfoldable pub acceptLast : List ℕ → ℕ → ℕ → ℕ → ℕ → SchedulingParameters → Outcome
 acceptLast ws at id sent bytes p =
     let n = (schedulerAt ws) .active in
-    if ltb 256 n then outcome false ws else if leb n at then outcome false ws else outcome true (refreshed (lastRow ws at id sent bytes (parametersWord p) n))
+    if ltb 256 n then outcome false ws else if leb n at then outcome false ws else outcome true (refreshed (lastRow ws at id sent bytes (parametersWord p) n) at)

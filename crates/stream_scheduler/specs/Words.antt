@@ -119,4 +119,4 @@ acceptRow ws at bytes n =
 -- The next choice finds one stale group fewer.
 unfoldable pub acceptAt : List ℕ → ℕ → ℕ → Outcome
 unfolding acceptRow
-acceptAt ws at bytes = let n = (schedulerAt ws) .active in if ltb 256 n then outcome false ws else if leb n at then outcome false ws else outcome true (refreshed (acceptRow ws at bytes n))
+acceptAt ws at bytes = let n = (schedulerAt ws) .active in if ltb 256 n then outcome false ws else if leb n at then outcome false ws else outcome true (refreshed (acceptRow ws at bytes n) at)

@@ -72,11 +72,11 @@ pub fn accept_last(
     let time = calculate_vt(a.parameters, a.virtual_start_time, sent);
     if bytes == 0 {
         drop_row(queue, at, Remembered::NoStream, time, n);
-        refresh(queue);
+        refresh(queue, at);
         return true;
     }
     let parameters = parameters_word(priority);
     begin_anew(queue, at, stream_id, time, bytes, parameters, n);
-    refresh(queue);
+    refresh(queue, at);
     true
 }

@@ -363,7 +363,7 @@ pub fn accept(queue: &mut [u64; QUEUE_WORDS], at: usize, bytes: u64) -> bool
     let time = calculate_vt(a.parameters, a.virtual_start_time, bytes);
     if a.bytes_remaining <= bytes {
         drop_row(queue, at, Remembered::NoStream, time, n);
-        refresh(queue);
+        refresh(queue, at);
         return true;
     }
     let o = load_options(&*queue);
@@ -385,6 +385,6 @@ pub fn accept(queue: &mut [u64; QUEUE_WORDS], at: usize, bytes: u64) -> bool
             active: n as u64,
         },
     );
-    refresh(queue);
+    refresh(queue, at);
     true
 }
