@@ -12,6 +12,7 @@ use lib.Seq.{length-take-le, drop-drop, take-add, take-at, drop-cons, set-split,
 use Rattle.queue_model.specs.Bytes.{number-bytes, bytes-number}
 use Rattle.queue_model.proofs.Image.ByteRows.{length-number-bytes, read-written, written-read, and-l, and-r, and-intro}
 use Rattle.big_endian.specs.Numbers.{numberAt, wrote}
+use Rattle.queue_model.proofs.Demand2.Bytes.{number-are-bytes, append-bytes}
 
 -- ------------------------------------------------------------------ reading
 
@@ -68,15 +69,6 @@ byte-wrote b at n h k =
     let f : suc at ≡ at + 1 = omega arith in
     rw (set-split b at n (omega arith), e, f)
 
-are-bytes : (w n : ℕ) → T (areBytes (number-bytes w n))
-unfolding number-bytes
-are-bytes zero n = tt
-are-bytes (suc w) n = and-intro (ltb (n / 256 ^ w % 256) 256) (areBytes (number-bytes w n)) (lt→ltb (n / 256 ^ w % 256) 256 (omega arith)) (are-bytes w n)
-
-append-bytes : (xs ys : List ℕ) → T (areBytes xs) → T (areBytes ys) → T (areBytes (xs ++ ys))
-append-bytes [] ys h k = k
-append-bytes (x ∷ xs) ys h k = and-intro (ltb x 256) (areBytes (xs ++ ys)) (and-l (ltb x 256) (areBytes xs) h) (append-bytes xs ys (and-r (ltb x 256) (areBytes xs) h) k)
-
 pow-pos : (w : ℕ) → zero < 256 ^ w
 pow-pos w = one-le-pow w 256 (zero-lt-suc 255)
 
@@ -91,7 +83,7 @@ bytes-halves v w n h =
     let e : bytes-number (xs ++ ys) ≡ n =
     number-append xs ys
     ∙ rw (ly, read-written, read-written, low, ← mod-mul n (pow-pos v) (pow-pos w), ← pow-add 256 v w, mod-eq-of-lt h) in
-    rw (lxy, e) at (written-read (xs ++ ys) (append-bytes xs ys (are-bytes v (n / 256 ^ w)) (are-bytes w (n % 256 ^ w))))
+    rw (lxy, e) at (written-read (xs ++ ys) (append-bytes xs ys (number-are-bytes v (n / 256 ^ w)) (number-are-bytes w (n % 256 ^ w))))
 
 -- a number written in two halves
 pub halves-wrote : (b b1 b2 : List ℕ) (at v w n : ℕ) → at + (v + w) ≤ length b → n < 256 ^ (v + w) → b1 ≡ wrote b at (number-bytes v (n / 256 ^ w)) → b2 ≡ wrote b1 (at + v) (number-bytes w (n % 256 ^ w))

@@ -42,7 +42,7 @@ row-length [] ns h = refl
 row-length (w ∷ ws) [] h = absurd (omega (arith, h))
 row-length (w ∷ ws) (n ∷ ns) h = rw (length-append, length-number-bytes, row-length ws ns (omega (arith, h)))
 
-wrote-none : (b : List ℕ) (at : ℕ) → b ≡ wrote b at []
+pub wrote-none : (b : List ℕ) (at : ℕ) → b ≡ wrote b at []
 unfolding wrote
 wrote-none b at = rw (add-zero, take-append-drop)
 

@@ -8,8 +8,8 @@ use borrow.Author.Tests.{lt-ltb}
 use lib.Dec.{eqb}
 use Rattle.queue_words.specs.Flags.{pick}
 use Rattle.queue_words.specs.Header.{optionsAt}
-use Rattle.payload_store.proofs.Cases.{by-lt}
 use Rattle.handover.specs.Restore.{restoreCode}
+use Rattle.queue_words.proofs.Finds.{by-lt}
 
 -- A time that is not refused is allowed.
 pub time-allowed : (ws : List ℕ) (len time : ℕ) (bs : List ℕ) (code : ℕ) → code ≡ restoreCode ws len time bs → code ≤ 0 → time ≤ 4611686018427387903

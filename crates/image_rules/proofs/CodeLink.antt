@@ -9,7 +9,7 @@ use borrow.Author.Tests.{lt-ltb, le-ltb}
 use lib.Dec.{eqb, ltb}
 use lib.ListN.{length}
 use Rattle.queue_words.specs.Flags.{pick}
-use Rattle.payload_store.proofs.Cases.{by-lt, false-true}
+use Rattle.payload_store.proofs.Cases.{false-true}
 use Rattle.queue_model.specs.Logic.{any}
 use Rattle.queue_model.specs.Types.{Stream, Options, Queue, done, Step, refuse, reply}
 use Rattle.queue_model.specs.Streams.{stream-key, max-streams, max-messages, waiting, payload-bytes, occupied}
@@ -30,6 +30,7 @@ use Rattle.image_rules.proofs.StreamLink.{streamsOn, on-read, streams-r
 use Rattle.image_rules.proofs.EarlyLink.{early-same}
 use Rattle.image_rules.proofs.ReadLink.{handoverAt, imageRight, read-is, rightCode, code-is, image-read}
 use Rattle.image_rules.proofs.RestoreLink.{base, base-length, base-sum, base-known, base-rising, Between, Added, all-added}
+use Rattle.queue_words.proofs.Finds.{by-lt}
 
 -- ------------------------------------------------------------------ the counts
 

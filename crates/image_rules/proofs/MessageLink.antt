@@ -11,7 +11,6 @@ use lib.Dec.{eqb, ltb, leb}
 use lib.ListN.{length, take, drop, getD, length-drop}
 use lib.Seq.{drop-drop, take-take, take-nil, length-take-le}
 use Rattle.queue_words.specs.Flags.{pick}
-use Rattle.payload_store.proofs.Cases.{by-lt}
 use Rattle.queue_model.specs.Logic.{implies, all-true, only-if, and-then}
 use Rattle.queue_model.specs.Refusals.{max-payload}
 use Rattle.queue_model.specs.Bytes.{bytes-number, bytes-row, width}
@@ -21,6 +20,7 @@ use Rattle.handover_records.specs.Records.{messageAt}
 use Rattle.handover_records.specs.Positions.{recordAt, messagesFrom}
 use Rattle.handover_records.proofs.Steps.{messages-none, messages-step}
 use Rattle.image_rules.specs.Messages.{numbersRight, lifetimeRight, midRight, orderRight, messageRight, messagesRight}
+use Rattle.queue_words.proofs.Finds.{by-lt}
 
 -- ------------------------------------------------------------------ one record's rules
 

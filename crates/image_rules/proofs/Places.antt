@@ -7,7 +7,7 @@ use native.Mathlib.Omega.{arith}
 use borrow.Author.Tests.{lt-ltb, le-ltb, eq-eqb, ne-eqb}
 use lib.Dec.{ltb, eqb}
 use Rattle.queue_words.specs.Flags.{pick}
-use Rattle.payload_store.proofs.Cases.{by-lt, by-index}
+use Rattle.payload_store.proofs.Cases.{by-index}
 use Rattle.handover_records.specs.declared.records.HandoverOutgoingStream.{HandoverOutgoingStream}
 use Rattle.handover_records.specs.declared.records.HandoverStreamMessage.{HandoverStreamMessage}
 use Rattle.handover_records.specs.Records.{streamAt, messageAt}
@@ -16,6 +16,7 @@ use Rattle.image_rules.specs.Streams.{named}
 use Rattle.image_rules.specs.Amounts.{oneNew}
 use Rattle.image_rules.specs.Cursor.{IdsRise, below, movedOn, namedAt, counted, oneCounted}
 use Rattle.image_rules.proofs.Loops.{LiesFrom, from-order, one-le}
+use Rattle.queue_words.proofs.Finds.{by-lt}
 
 -- ------------------------------------------------------------------ the loop that moves on
 

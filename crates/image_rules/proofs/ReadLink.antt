@@ -9,7 +9,6 @@ use borrow.Author.Tests.{lt-ltb, le-ltb, lt-leb, le-leb}
 use lib.Dec.{eqb, ltb, leb}
 use lib.ListN.{length, drop}
 use Rattle.queue_words.specs.Flags.{pick}
-use Rattle.payload_store.proofs.Cases.{by-lt}
 use Rattle.queue_model.specs.Logic.{only-if, and-then}
 use Rattle.queue_model.specs.Bytes.{bytes-row}
 use Rattle.queue_model.specs.Image.{StreamRecord, MessageRecord, Handover, trailer-widths}
@@ -26,6 +25,7 @@ use Rattle.image_rules.proofs.Early.{never-early, kept-right}
 use Rattle.image_rules.proofs.Kept.{Agrees, agrees, earlyIn, kept-apart, messages-inside}
 use Rattle.image_rules.proofs.StreamLink.{streamsOn, on-read, from-id, right-same, streams-read}
 use Rattle.image_rules.proofs.MessageLink.{right-from, all-right-same, judged, none-some, part, messages-judged}
+use Rattle.queue_words.proofs.Finds.{by-lt}
 
 -- ------------------------------------------------------------------ what stands in an image
 

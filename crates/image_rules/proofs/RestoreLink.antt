@@ -9,7 +9,7 @@ use borrow.Author.Tests.{lt-ltb, le-ltb, eq-eqb, ne-eqb}
 use lib.Dec.{eqb}
 use lib.ListN.{length}
 use Rattle.queue_words.specs.Flags.{pick}
-use Rattle.payload_store.proofs.Cases.{by-lt, by-index}
+use Rattle.payload_store.proofs.Cases.{by-index}
 use Rattle.queue_model.specs.Logic.{is-some}
 use Rattle.queue_model.specs.Table.{sum-by}
 use Rattle.queue_model.specs.Types.{Item, Stream, Options}
@@ -29,6 +29,7 @@ use Rattle.image_rules.proofs.Loops.{First, first-right}
 use Rattle.image_rules.proofs.StreamFacts.{right-first}
 use Rattle.image_rules.proofs.StreamLink.{streamsOn, id-same}
 use Rattle.image_rules.proofs.MessageLink.{payload-long, message-id-same}
+use Rattle.queue_words.proofs.Finds.{by-lt}
 
 -- ------------------------------------------------------------------ one message more
 

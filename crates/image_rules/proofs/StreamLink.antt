@@ -10,7 +10,6 @@ use lib.Dec.{eqb, ltb, leb}
 use lib.ListN.{drop}
 use lib.Seq.{drop-drop}
 use Rattle.queue_words.specs.Flags.{pick}
-use Rattle.payload_store.proofs.Cases.{by-lt}
 use Rattle.queue_model.specs.Bytes.{bytes-row}
 use Rattle.queue_model.specs.Image.{StreamRecord, stream-widths, plain}
 use Rattle.queue_model.specs.Reader.{stream-of-row, read-streams, streams-right}
@@ -19,6 +18,7 @@ use Rattle.queue_state.proofs.Tabs.{tab-same}
 use Rattle.handover_records.specs.Records.{streamAt}
 use Rattle.handover_records.specs.Positions.{streamRecordAt}
 use Rattle.image_rules.specs.Streams.{isPlain, streamsRight}
+use Rattle.queue_words.proofs.Finds.{by-lt}
 
 -- ------------------------------------------------------------------ reading
 

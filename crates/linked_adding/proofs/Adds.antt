@@ -31,7 +31,6 @@ use Rattle.queue_model.proofs.Invariant.Well.{Room, room, amount-le}
 use Rattle.queue_model.proofs.Invariant.Fine.{total-le}
 use Rattle.queue_model.proofs.FairTurns.Steps.{not-listed}
 use Rattle.payload_store.specs.Words.{usedOf}
-use Rattle.payload_store.proofs.Cases.{by-lt}
 use Rattle.payload_store.proofs.Goods.{used-fits}
 use Rattle.stream_scheduler.specs.Link.{modelScheduler}
 use Rattle.stream_scheduler.specs.Link as link
@@ -58,6 +57,7 @@ use Rattle.linked_adding.proofs.Begins.{put-known, starts-none}
 use Rattle.linked_adding.proofs.Joins.{Joined, joined}
 use Rattle.linked_adding.proofs.Passes.{broken-none}
 use Rattle.linked_adding.proofs.Refuses.{argumentsBy, arguments-are, message-seven, message-eight, message-none, lost-six, store-model, refusal-is, does-refused, does-done}
+use Rattle.queue_words.proofs.Finds.{by-lt}
 
 -- ---- what is added fits its row
 

@@ -23,13 +23,14 @@ use Rattle.queue_state.specs.Chains.{Linked, lastOf, count, sumOf, each, Split}
 use Rattle.queue_state.specs.Model.{nextOf, itemOf, itemIn, streamOf, rowAt, streamsIn}
 use Rattle.queue_state.specs.Good.{Row, Shape}
 use Rattle.queue_state.proofs.Chains.{hit-other, count-head, count-snoc, length-snoc, last-snoc, sum-snoc, each-snoc, each-frame, sum-frame, linked-append, last-lt, last-member, absent}
-use Rattle.queue_state.proofs.Splits.{by-index, free-once, row-once, far-free, far-tail}
+use Rattle.queue_state.proofs.Splits.{free-once, row-once, far-free, far-tail}
 use Rattle.queue_state.proofs.Frames.{Same, Kept, free-frame, free-fits, row-fits}
 use Rattle.queue_state.proofs.Steps.{After, step}
 use Rattle.stream_scheduler.proofs.Link.{scheduler-same}
 use Rattle.queue_messages.specs.Add.{withLast}
 use Rattle.linked_adding.proofs.Placed.{Placed}
 use Rattle.linked_adding.proofs.Hung.{Hung}
+use Rattle.payload_store.proofs.Cases.{by-index}
 
 pub sum-is : (a b : ℕ) → a + b ≤ 18446744073709551615 → sum a b ≡ a + b
 unfolding sum

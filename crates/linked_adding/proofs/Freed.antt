@@ -8,8 +8,8 @@ use Rattle.queue_words.specs.Header.{optionsAt, totalsAt, schedulerAt}
 use Rattle.queue_words.specs.Items.{itemAt, putNext, putPlace, putLength, withNext, withPlace, withLength}
 use Rattle.queue_words.specs.declared.items.Item.{Item}
 use Rattle.queue_words.proofs.Laws
-use Rattle.queue_state.proofs.Splits.{by-index}
 use Rattle.queue_messages.specs.Create.{freed}
+use Rattle.payload_store.proofs.Cases.{by-index}
 
 -- What is left of the words after the first n places.
 pub record Freed (ws us : List ℕ) (n : ℕ) : Type 0 where

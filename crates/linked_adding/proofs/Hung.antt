@@ -16,13 +16,12 @@ use Rattle.queue_words.specs.declared.header.Totals.{Totals}
 use Rattle.queue_words.specs.declared.items.Item.{Item}
 use Rattle.queue_words.specs.declared.streams.OutgoingStream.{OutgoingStream}
 use Rattle.queue_words.proofs.Laws
-use Rattle.queue_words.proofs.Rows.{row-word-other}
 use Rattle.queue_words.proofs.ChainLaws as chain
 use Rattle.payload_store.specs.Words.{placeOf, sizeOf}
 use Rattle.queue_state.specs.Model.{nextOf, itemOf}
-use Rattle.queue_state.proofs.Splits.{by-index}
 use Rattle.message_chains.specs.Amounts.{sum}
 use Rattle.queue_messages.specs.Add.{withLast, linkedLast}
+use Rattle.payload_store.proofs.Cases.{by-index}
 
 -- The place behind the place l is p, if l is a place; nothing else is changed.
 pub record Turned (ws us : List ℕ) (l p : ℕ) : Type 0 where
@@ -79,14 +78,6 @@ turned-next ws l p len h = record {
     own : itemAt (putNext ws l p) l ≡ withNext (itemAt ws l) p
     own = Laws.item-put-next ws l p len h
 
--- A stream's amount and its chain's ends change no group's word of the scheduler's.
-leasts-put-chain : (ws : List ℕ) (i amount first last : ℕ) → leastsAt (putChain ws i amount first last) ≡ leastsAt ws
-unfolding leastsAt putChain
-leasts-put-chain ws i amount first last =
-    row-word-other (set (set ws (544 + i * 10 + 5) amount) (544 + i * 10 + 7) first) (544 + i * 10 + 8) last 21 11 (inr (omega arith))
-    ∙ row-word-other (set ws (544 + i * 10 + 5) amount) (544 + i * 10 + 7) first 21 11 (inr (omega arith))
-    ∙ row-word-other ws (544 + i * 10 + 5) amount 21 11 (inr (omega arith))
-
 -- Then the stream's amount and its chain's ends, and the totals stored.
 pub record Hung (ws us : List ℕ) (row l p : ℕ) (s : OutgoingStream) (t : Totals) : Type 0 where
   pub long : length us ≡ length ws
@@ -136,7 +127,7 @@ module _ (F : Totals → Totals) (after-fits : FitsAfter F) (ws vs : List ℕ) (
         totals = Laws.totals-at-put rs t long-r (after-fits (totalsAt rs) (Laws.totals-at-fits rs)) ∙ ap F totals-r;
         scheduler = Laws.scheduler-put-totals rs t ∙ chain.scheduler-put-chain vs row amount first last ∙ v .scheduler;
         active = λ j. Laws.active-put-totals rs t j ∙ chain.active-put-chain vs row amount first last j hr ∙ v .active j;
-        leasts = Laws.leasts-put-totals rs t ∙ leasts-put-chain vs row amount first last ∙ v .leasts;
+        leasts = Laws.leasts-put-totals rs t ∙ chain.leasts-put-chain vs row amount first last ∙ v .leasts;
         known = λ j b. Laws.known-put-totals rs t j ∙ chain.known-put-chain vs row amount first last j b ∙ v .known j b;
         own-row = Laws.stream-put-totals rs t row ∙ chain.stream-put-chain vs row amount first last long-v hr ∙ ap (λ (s : OutgoingStream). withChain s amount first last) (v .streams row hr);
         other-rows = λ r b ne. Laws.stream-put-totals rs t r ∙ chain.stream-put-chain-other vs row amount first last r ne ∙ v .streams r b;

@@ -22,8 +22,8 @@ use Rattle.queue_state.specs.Chains.{Linked, total}
 use Rattle.queue_state.specs.Model.{nextOf}
 use Rattle.queue_state.specs.Good.{Row, Shape}
 use Rattle.queue_state.proofs.Chains.{linked-le, linked-none, linked-some, last-lt, count-head}
-use Rattle.queue_state.proofs.Splits.{by-index}
 use Rattle.queue_messages.specs.Add.{starts, hasRoom, placesCode, brokenCode}
+use Rattle.payload_store.proofs.Cases.{by-index}
 
 -- ---- a free place
 

@@ -18,12 +18,12 @@ use Rattle.payload_store.specs.Good.{payloadOf}
 use Rattle.payload_store.specs.Good as payload
 use Rattle.payload_store.specs.Promise.{Put, Frame}
 use Rattle.payload_store.specs.Putting.{putPayload}
-use Rattle.payload_store.proofs.Cases.{by-lt}
+use Rattle.payload_store.proofs.Cases.{by-index}
 use Rattle.payload_store.proofs.Sums.{sum-same}
 use Rattle.payload_store.proofs.Puts.{put-law}
 use Rattle.payload_store.proofs.Frames.{put-frame}
 use Rattle.queue_state.specs.Model.{nextOf, itemOf, itemIn}
-use Rattle.queue_state.proofs.Splits.{by-index}
+use Rattle.queue_words.proofs.Finds.{by-lt}
 
 -- The message m in place p, with the payload bs; nothing else is changed but how the payloads lie.
 pub record Placed (ws st : List ℕ) (p : ℕ) (m : Item) (bs us ut : List ℕ) : Type 0 where

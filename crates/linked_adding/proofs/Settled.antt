@@ -26,7 +26,7 @@ use Rattle.payload_store.specs.Gaps.{gaps, room, gapFor, gapsWrong}
 use Rattle.payload_store.specs.Moving.{together}
 use Rattle.payload_store.specs.Searching.{found}
 use Rattle.payload_store.specs.Putting.{Outcome, tally, rowFits, fitsTo, allFit, putCode, putElsewhere, putPayload, placed}
-use Rattle.payload_store.proofs.Cases.{by-index, by-lt, pick-else, pick-then, pick-both, false-true}
+use Rattle.payload_store.proofs.Cases.{by-index, pick-else, pick-then, pick-both, false-true}
 use Rattle.payload_store.proofs.Tests.{PutOk, put-zero, put-one}
 use Rattle.payload_store.proofs.Frames.{put-frame}
 use Rattle.stream_scheduler.specs.Words.{setIn, beginWaiting}
@@ -41,6 +41,7 @@ use Rattle.queue_messages.specs.declared.message.Message.{Message}
 use Rattle.linked_adding.specs.Message.{messageOf}
 use Rattle.linked_adding.specs.Settled.{Settled, AddSettled}
 use Rattle.linked_adding.proofs.Adds.{item-fits}
+use Rattle.queue_words.proofs.Finds.{by-lt}
 
 -- ------------------------------------------------------------------ the payload
 

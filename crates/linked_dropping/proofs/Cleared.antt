@@ -25,10 +25,11 @@ use Rattle.message_chains.specs.Heads.{released}
 use Rattle.queue_state.specs.Chains.{Linked, count, sumOf, each}
 use Rattle.queue_state.specs.Model.{nextOf, itemOf, itemIn}
 use Rattle.queue_state.proofs.Chains.{hit-same, hit-eq, hit-other, count-head, linked-frame, each-frame, sum-frame}
-use Rattle.queue_state.proofs.Splits.{by-index, far-tail}
+use Rattle.queue_state.proofs.Splits.{far-tail}
 use Rattle.queue_state.proofs.Frames.{Same}
 use Rattle.queue_state.proofs.Releases.{Gone, gone}
 use Rattle.queue_state.proofs.Facts.{rest-is}
+use Rattle.payload_store.proofs.Cases.{by-index}
 
 -- The bytes that remain of the message in a place.
 abbrev pub restAt : List ℕ → ℕ → ℕ

@@ -14,7 +14,6 @@ use Rattle.queue_words.specs.declared.streams.OutgoingStream.{OutgoingStream}
 use Rattle.queue_words.proofs.Laws
 use Rattle.queue_model.specs.Streams.{put-stream}
 use Rattle.payload_store.specs.Words.{sizeOf, usedOf}
-use Rattle.payload_store.proofs.Cases.{by-lt}
 use Rattle.payload_store.proofs.Goods.{good-same}
 use Rattle.stream_scheduler.specs.Link.{GoodScheduler, modelScheduler}
 use Rattle.queue_state.specs.Chains.{Linked, lastOf, count, sumOf, each}
@@ -28,6 +27,7 @@ use Rattle.queue_state.proofs.Steps.{After, step}
 use Rattle.stream_scheduler.proofs.Link.{scheduler-same}
 use Rattle.linked_dropping.proofs.Cleared.{restAt, Clear, count-turned}
 use Rattle.queue_state.proofs.Leaves.{Leaves, leaves-of}
+use Rattle.queue_words.proofs.Finds.{by-lt}
 
 -- The stream in position i has the messages in hd, which stay, and those in ps, which are gone.
 module _ (ws st : List ℕ) (g : Shape ws st) (i : ℕ) (hk : i < totalsAt ws .known) (hd ps : List ℕ)

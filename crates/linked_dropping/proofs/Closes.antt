@@ -32,7 +32,7 @@ use Rattle.queue_model.proofs.Invariant.Events.{events-fit}
 use Rattle.queue_model.proofs.Invariant.Messages.{WellRest, WellItems}
 use Rattle.payload_store.specs.Words.{sizeOf, usedOf}
 use Rattle.payload_store.specs.Good as payload
-use Rattle.payload_store.proofs.Cases.{by-lt}
+use Rattle.payload_store.proofs.Cases.{by-index}
 use Rattle.stream_scheduler.specs.Link.{modelScheduler}
 use Rattle.stream_scheduler.specs.Words.{removeStream}
 use Rattle.stream_scheduler.proofs.Link.{remove-link}
@@ -51,7 +51,7 @@ use Rattle.queue_state.specs.Model.{nextOf, itemIn, pauseOf, streamOf, rowAt, o
 use Rattle.queue_state.specs.Good.{Shape, Good}
 use Rattle.queue_state.specs.Promise.{Reports}
 use Rattle.queue_state.proofs.Chains.{count-head, hit-same, hit-other, linked-frame, sum-frame, each-frame}
-use Rattle.queue_state.proofs.Splits.{by-index, row-once, total-has}
+use Rattle.queue_state.proofs.Splits.{row-once, total-has}
 use Rattle.queue_state.proofs.Frames.{Same, row-fits, short}
 use Rattle.queue_state.proofs.Inserts.{insert-link}
 use Rattle.queue_state.proofs.Looks.{Lookup, known-at, new-at, lookup, stream-found, stream-new, not-too-many, too-many-new, look-row, look-new, look-full}
@@ -65,6 +65,7 @@ use Rattle.linked_dropping.proofs.Sweeps.{sweep-all}
 use Rattle.linked_dropping.proofs.Walks.{may-sweep}
 use Rattle.linked_dropping.proofs.Closed.{closed-leaves}
 use Rattle.linked_dropping.proofs.Shut.{Fresh, bytes-fresh, bytes-sent, close-few, close-full, close-other, close-open, closed-empty, closed-whole, closed-behind}
+use Rattle.queue_words.proofs.Finds.{by-lt}
 
 -- ---- the words' definition, case by case
 

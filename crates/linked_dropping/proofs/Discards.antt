@@ -24,14 +24,13 @@ use Rattle.queue_model.proofs.Invariant.Events.{events-fit}
 use Rattle.queue_streams.specs.Events.{eventWords, placesIn}
 use Rattle.queue_streams.specs.Settings.{CalledWith, calledWith}
 use Rattle.queue_streams.specs.declared.answers.Call.the-variants.{Accepted, Refused}
-use Rattle.payload_store.proofs.Cases.{by-lt}
+use Rattle.payload_store.proofs.Cases.{by-index}
 use Rattle.message_chains.specs.Dropping.{droppedInState}
 use Rattle.queue_messages.specs.Discard.{discardIn, discard}
 use Rattle.queue_state.specs.Chains.{Linked, each}
 use Rattle.queue_state.specs.Model.{nextOf, itemIn, rowAt, model}
 use Rattle.queue_state.specs.Good.{Good}
 use Rattle.queue_state.specs.Promise.{Reports}
-use Rattle.queue_state.proofs.Splits.{by-index}
 use Rattle.queue_state.proofs.Heads.{head-first, head-fits}
 use Rattle.queue_state.proofs.Looks.{Lookup, known-at, new-at, lookup}
 use Rattle.queue_state.proofs.Singles.{model-streams}
@@ -39,6 +38,7 @@ use Rattle.linked_dropping.proofs.Ends.{ends, stays}
 use Rattle.linked_dropping.proofs.Meant.{discard-few, discard-none, discard-empty, discard-other, discard-head}
 use Rattle.queue_state.proofs.Facts.{streamHere, message-is, found-here}
 use Rattle.queue_state.proofs.Dropped.{DroppedIn, not-short, dropped-in-state}
+use Rattle.queue_words.proofs.Finds.{by-lt}
 
 -- ---- the words' definition, case by case
 

@@ -23,7 +23,6 @@ use Rattle.queue_streams.specs.Events.{eventWords, placesIn, written}
 use Rattle.queue_state.specs.Model.{model}
 use Rattle.queue_state.specs.Good.{Good}
 use Rattle.queue_state.proofs.Singles.{model-options, model-interleaving}
-use Rattle.payload_store.proofs.Cases.{by-lt}
 use Rattle.big_endian.specs.Numbers.{wrote}
 use Rattle.packets.specs.declared.filling.Filling as progress
 use Rattle.packets.specs.declared.packet.Packet.{Packet}
@@ -35,6 +34,7 @@ use Rattle.linked_sending.specs.Meaning.{bufferOf}
 use Rattle.linked_packets.specs.Meaning.{filledOf, Fills, FillMeets, fillCall}
 use Rattle.linked_packets.proofs.Calls.{chunks-long, Linked, filling-link}
 use Rattle.linked_packets.proofs.Numbers.{tells-of}
+use Rattle.queue_words.proofs.Finds.{by-lt}
 
 -- ------------------------------------------------------------------ the packet
 

@@ -14,7 +14,7 @@ use Rattle.receiver_model.specs.Assembly.{number, same-message}
 use Rattle.receiver_model.specs.Receive.{same-kind, same-chunk, same-place}
 use Rattle.receiver_model.proofs.Lists.{true≢false, and-left, and-right, eqb-is, Value, yes-is, no-is, value}
 use Rattle.receiver_model.proofs.Settled.{alike, is-alike}
-use Rattle.receiver_model.proofs.AnyCalls.{same-chunk-is}
+use Rattle.receiver_model.proofs.AnyCalls.{same-chunk-is, same-list-is}
 use Rattle.receiver_words.specs.Index.{samePlace, sameKey}
 use Rattle.receiver_words.specs.Chunks.{chunkOf}
 use Rattle.receiver_words.specs.declared.fragments.Fragment.{Fragment}
@@ -33,13 +33,6 @@ list-itself : (xs : List ℕ) → same-list xs xs ≡ true
 unfolding same-list
 list-itself [] = refl
 list-itself (x ∷ xs) = rw (eq-eqb x x refl) (list-itself xs)
-
-list-is : (xs ys : List ℕ) → same-list xs ys ≡ true → xs ≡ ys
-unfolding same-list
-list-is [] [] e = refl
-list-is [] (y ∷ ys) e = absurd (true≢false e refl)
-list-is (x ∷ xs) [] e = absurd (true≢false e refl)
-list-is (x ∷ xs) (y ∷ ys) e = ap₂ _∷_ (eqb-is (and-left (eqb x y) (same-list xs ys) e)) (list-is xs ys (and-right (eqb x y) (same-list xs ys) e))
 
 bool-itself : (a : Bool) → same-bool a a ≡ true
 unfolding same-bool
@@ -120,7 +113,7 @@ module _ (k : Kind) (f h : Fragment) (p q : List ℕ) (tsn : f .tsn ≡ h .tsn) 
   same-code = go (value (sameFields f h)) (value (same-list p q)) (value (same-chunk c d))
     where
       go : Value (sameFields f h) → Value (same-list p q) → Value (same-chunk c d) → pick (sameFields f h) (code (same-list p q)) 24 ≡ code (same-chunk c d)
-      go (yes-is a) (yes-is b) v = rw (a, b, ap (same-chunk c) (sym (fields-same a (list-is p q b))) ∙ chunk-itself c)
+      go (yes-is a) (yes-is b) v = rw (a, b, ap (same-chunk c) (sym (fields-same a (same-list-is p q b))) ∙ chunk-itself c)
       go (yes-is a) (no-is b) (yes-is e) = absurd (true≢false (ap (same-list p) (sym (ap (λ (x : Chunk). x .bytes) (same-chunk-is c d e))) ∙ list-itself p) b)
       go (yes-is a) (no-is b) (no-is e) = rw (a, b, e)
       go (no-is a) w (yes-is e) = absurd (true≢false (same-fields (same-chunk-is c d e)) a)

@@ -15,7 +15,7 @@ use Rattle.receiver_model.specs.Types.{Kind, Chunk, Assembled, fragments}
 use Rattle.receiver_model.specs.Assembly.{max-held, begins, gather, assembled, whole-from, whole-among}
 use Rattle.receiver_model.proofs.Lists.{true≢false, Value, yes-is, no-is, value, count-nil, count-here, count-there, count-cons, equal, other, compare-same, From, member-from, none≢some, some-is}
 use Rattle.receiver_model.proofs.Gather.{Closed, assembled-some, from-yes, from-no, among-nil, among-here, among-there, Or-none, is-none, is-some, or-none}
-use Rattle.receiver_model.proofs.Settled.{In, Distinct, own-message}
+use Rattle.receiver_model.proofs.Settled.{In, Distinct, own-message, assembled-is}
 use Rattle.receiver_words.specs.Fragments.{fragmentAt}
 use Rattle.receiver_words.specs.Index.{sameKey}
 use Rattle.receiver_words.specs.Chunks.{kindOf}
@@ -49,10 +49,6 @@ among-gather k cs (b ∷ bs) a e = go (or-none (whole-from k cs b)) (λ f. among
     go : Or-none (whole-from k cs b) → (whole-among k cs bs ≡ some a → FoundFrom k cs bs a) → FoundFrom k cs (b ∷ bs) a
     go (is-none f) ih = later (ih (sym (among-there k cs b bs f) ∙ e))
     go (is-some x f) ih = here (f ∙ ap {B = Option Assembled} some (some-is (sym (among-here k cs b bs x f) ∙ e))) (value (begins k b))
-
-assembled-is : (b : Chunk) (ds : List Chunk) → assembled b (some ds) ≡ some (record { head = b; tail = ds })
-unfolding assembled
-assembled-is b ds = refl
 
 -- where one begins and the others are gathered, one is found
 pub gather-among : (k : Kind) (cs bs : List Chunk) (b : Chunk) (ds : List Chunk) → In b bs → begins k b ≡ true → gather max-held k cs b ≡ some ds → whole-among k cs bs ≡ none → ⊥

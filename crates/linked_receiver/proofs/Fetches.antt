@@ -14,7 +14,6 @@ use Rattle.queue_model.specs.Logic.{if_then_else_}
 use Rattle.queue_model.specs.Table.{sum-by}
 use Rattle.queue_model.specs.Refusals.{_when_, first-refusal}
 use Rattle.payload_store.specs.Putting.{written}
-use Rattle.payload_store.proofs.Cases.{by-lt}
 use Rattle.payload_store.proofs.Puts.{written-part}
 use Rattle.receiver_model.specs.Lists.{count, join}
 use Rattle.receiver_model.specs.Types.{Chunk, Assembled, Receiver, Message, Step, reply, refused, none-ready, fragments}
@@ -38,6 +37,7 @@ use Rattle.linked_receiver.specs.Fetches.{answerOf, filled, Fetches}
 use Rattle.linked_receiver.proofs.Frees.{held-rows}
 use Rattle.linked_receiver.proofs.HandsOut.{payloads, payloads-length, measure-law}
 use Rattle.linked_receiver.proofs.Taken.{ready-as, taken-holds, its-held, its-few, its-walk, its-sum, hands, rows-left, good-left, stands-left, bytes-out}
+use Rattle.queue_words.proofs.Finds.{by-lt}
 
 -- ------------------------------------------------------------------ the model's step
 

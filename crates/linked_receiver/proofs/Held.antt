@@ -72,7 +72,7 @@ part-at : (b : Bool) (ws : List ℕ) (h x : ℕ) → partAfter ws b h ≡ x → 
 unfolding partAfter
 part-at b ws h x e = e
 
-first-past : (ws : List ℕ) (k : ℕ) (f : Fragment) (x : ℕ) (xs : List ℕ) → sameKey k (fragmentAt ws x) f ≡ false → firstKey ws k f (x ∷ xs) ≡ firstKey ws k f xs
+pub first-past : (ws : List ℕ) (k : ℕ) (f : Fragment) (x : ℕ) (xs : List ℕ) → sameKey k (fragmentAt ws x) f ≡ false → firstKey ws k f (x ∷ xs) ≡ firstKey ws k f xs
 unfolding firstKey
 first-past ws k f x xs e = rw e
 

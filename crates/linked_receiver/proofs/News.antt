@@ -18,6 +18,7 @@ use Rattle.receiver_words.specs.Ages.{older}
 use Rattle.receiver_messages.specs.Keys.{interleavedOf, previous}
 use Rattle.linked_receiver.specs.Rows.{Indexed}
 use Rattle.linked_receiver.specs.Good.{Ghost, wholeRows, Good, stands, Stands}
+use Rattle.queue_words.proofs.Numbers.{flag-bit}
 
 -- ------------------------------------------------------------------ the free rows
 
@@ -82,10 +83,6 @@ previous-fits t h = elim (compare-same t 0) [
   | equal e ↦ rw (eq-eqb t 0 e) (omega arith)
   | other d ↦ rw (ne-eqb t 0 d) (omega arith)
 ]
-
-flag-bit : (b : Bool) → flag (bit b) ≡ b
-flag-bit true = refl
-flag-bit false = refl
 
 nothing-in : {A : Type 0} (x : ℕ) → 0 < count x [] → A
 nothing-in x h = absurd (let z = count-nil x in omega arith)

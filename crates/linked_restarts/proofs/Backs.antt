@@ -25,10 +25,11 @@ use Rattle.queue_state.specs.Chains.{Linked, sumTo, each}
 use Rattle.queue_state.specs.Model.{nextOf, itemIn, rowAt, streamIn, streamsIn, model}
 use Rattle.queue_state.specs.Good.{Shape, Good}
 use Rattle.queue_state.proofs.Frames.{stream-is, row-below}
-use Rattle.queue_state.proofs.Splits.{by-index}
 use Rattle.queue_state.proofs.Sums.{item-length}
 use Rattle.queue_state.proofs.Singles.{model-streams}
 use Rattle.queue_state.proofs.Tabs.{tab-sum, tab-each}
+use Rattle.queue_state.proofs.Facts.{offset-is}
+use Rattle.payload_store.proofs.Cases.{by-index}
 
 -- ---- one stream
 
@@ -40,10 +41,6 @@ back-cons : (i : plain.Item) (is : List plain.Item) → put-back (i ∷ is) ≡ 
 unfolding put-back
 back-cons i is = refl
 
-item-offset : (ws st : List ℕ) (x : ℕ) → (itemIn ws st x) .offset ≡ itemAt ws x .offset
-unfolding itemIn
-item-offset ws st x = refl
-
 pub back-is : (ws st : List ℕ) (g : Shape ws st) (first : ℕ) (ps : List ℕ) → Linked (nextOf ws) first ps → putBack ws first ≡ put-back (each (itemIn ws st) ps)
 unfolding putBack rest
 back-is ws st g first [] l = rw (lt-ltb 1023 first (omega arith)) (sym back-nil)
@@ -51,7 +48,7 @@ back-is ws st g first (x ∷ xs) l =
     let e : first ≡ x = l .0 in
     let b : first ≤ 1023 = omega (arith, l .1) in
     let n : length ((itemIn ws st x) .payload) ≡ sizeOf ws x = item-length ws st g x (l .1) in
-    rw (le-ltb 1023 first b, back-cons (itemIn ws st x) (each (itemIn ws st) xs), n, item-offset ws st x, e)
+    rw (le-ltb 1023 first b, back-cons (itemIn ws st x) (each (itemIn ws st) xs), n, offset-is ws st x, e)
 
 -- What the stream in a position puts back.
 abbrev pub backAt : List ℕ → List ℕ → ℕ → ℕ

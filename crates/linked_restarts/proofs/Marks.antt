@@ -39,16 +39,9 @@ use Rattle.linked_restarts.proofs.Sweeps.{Turn, Swept, foldTo, sweep, s
 use Rattle.linked_restarts.proofs.Turns.{paused-is, no-turn, stored-turn}
 use Rattle.linked_restarts.proofs.Closings.{good-after}
 use Rattle.linked_restarts.proofs.Collects.{collected-is}
+use Rattle.queue_model.proofs.Arrivals.Ledger.{ready-id}
 
 -- ---- a paused stream marked
-
-pub marked-id : (s : Stream) → (paused-to-resetting s) .id ≡ s .id
-unfolding paused-to-resetting
-marked-id s = go (is-paused s)
-  where
-    go : (b : Bool) → (if b then with-pause resetting s else s) .id ≡ s .id
-    go true = refl
-    go false = refl
 
 marked-by : (s : Stream) (b : Bool) → is-paused s ≡ b → paused-to-resetting s ≡ (if b then with-pause resetting s else s)
 unfolding paused-to-resetting
@@ -138,10 +131,10 @@ module _ (ws st : List ℕ) (g : Good ws st) where
       rw (all-suc ws i) (mark-turn (markedAll ws i) st h a i hi′)
 
   swept : Swept paused-to-resetting still ws st (totalsAt ws .known) done-words
-  swept = sweep paused-to-resetting still marked-id ws st (g .shape) (all-known ws st (g .well)) (λ i. markedAll ws i) (all-zero ws) turn (totalsAt ws .known) (omega arith)
+  swept = sweep paused-to-resetting still ready-id ws st (g .shape) (all-known ws st (g .well)) (λ i. markedAll ws i) (all-zero ws) turn (totalsAt ws .known) (omega arith)
 
   after-streams : streamsIn done-words st ≡ map paused-to-resetting (streamsIn ws st)
-  after-streams = swept-streams paused-to-resetting still marked-id ws st (g .shape) (all-known ws st (g .well)) (λ i. markedAll ws i) (all-zero ws) turn
+  after-streams = swept-streams paused-to-resetting still ready-id ws st (g .shape) (all-known ws st (g .well)) (λ i. markedAll ws i) (all-zero ws) turn
 
   marked-model : model done-words st ≡ (run.step run.ready-ids (model ws st)) .next
   unfolding model

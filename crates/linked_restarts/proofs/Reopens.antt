@@ -38,6 +38,7 @@ use Rattle.linked_restarts.proofs.Sweeps.{Turn, Swept, turned, each-tab
 use Rattle.linked_restarts.proofs.Tallies.{room-for}
 use Rattle.linked_restarts.proofs.Turns.{resetting-is, first-is, wait-alike, no-turn, stored-turn, stored-wait}
 use Rattle.linked_restarts.proofs.Closings.{does-quietly}
+use Rattle.queue_model.proofs.Arrivals.Ledger.{reopened-id}
 
 -- ---- a stream opened
 
@@ -57,15 +58,6 @@ opened-is : (z : Bool) (id : ℕ) (s : OutgoingStream) (is : List plain.Item) �
 unfolding reset.opened pauseOf
 opened-is true id s is = refl
 opened-is false id s is = refl
-
-pub reopened-id : (z : Bool) (s : Stream) → (reopened z s) .id ≡ s .id
-unfolding reopened reset.opened
-reopened-id z s = go z (is-resetting s)
-  where
-    go : (z b : Bool) → (if b then reset.opened z s else s) .id ≡ s .id
-    go true true = refl
-    go false true = refl
-    go z false = refl
 
 reopened-by : (z : Bool) (s : Stream) (b : Bool) → is-resetting s ≡ b → reopened z s ≡ (if b then reset.opened z s else s)
 unfolding reopened

@@ -14,12 +14,12 @@ use Rattle.queue_model.specs.Types.{Stream, Scheduler}
 use Rattle.queue_model.specs.Streams.{put-stream, stream-key, reschedule, reschedule-each}
 use Rattle.queue_model.proofs.Scheduler.{each-nil, each-cons}
 use Rattle.stream_scheduler.specs.Link.{modelScheduler}
-use Rattle.payload_store.proofs.Cases.{by-lt}
 use Rattle.queue_state.specs.Model.{streamIn, streamsIn, tab}
 use Rattle.queue_state.specs.Good.{Shape}
 use Rattle.queue_state.proofs.Tabs.{Rises, tab-put, tab-map, tab-same}
 use Rattle.queue_state.proofs.Steps.{rises}
 use Rattle.queue_state.proofs.Rooms.{AllKnown}
+use Rattle.queue_words.proofs.Finds.{by-lt}
 
 -- ---- streams by position
 

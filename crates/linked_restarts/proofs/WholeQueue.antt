@@ -33,8 +33,9 @@ use Rattle.linked_restarts.proofs.Sweeps.{Turn, Swept, each-tab, sweep,
 use Rattle.linked_restarts.proofs.Tallies.{room-for}
 use Rattle.linked_restarts.proofs.Begins.{Counts, begun, begun-totals, begun-known, begun-scheduler, begun-listing}
 use Rattle.linked_restarts.proofs.Backs.{backAt, within, well-total, counted, stored, sums-are}
-use Rattle.linked_restarts.proofs.Wholes.{waited, reset-id, reset-turn}
+use Rattle.linked_restarts.proofs.Wholes.{waited, reset-turn}
 use Rattle.linked_restarts.proofs.Closings.{does-quietly}
+use Rattle.queue_model.proofs.Arrivals.Ledger.{reset-id}
 
 -- ---- the model's call
 

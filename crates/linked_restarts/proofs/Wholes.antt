@@ -38,6 +38,7 @@ use Rattle.linked_restarts.proofs.Sweeps.{Turn, turned}
 use Rattle.linked_restarts.proofs.Turns.{first-is, wait-turn, stored-turn}
 use Rattle.linked_restarts.proofs.Composes.{compose, turn-as}
 use Rattle.linked_restarts.proofs.Backs.{backAt, back-at, amount-at, sum-fits}
+use Rattle.queue_model.proofs.Arrivals.Ledger.{reset-id}
 
 -- ---- the model's stream in three parts
 
@@ -61,10 +62,6 @@ waited strict il = turned il has-items (reset-stream strict)
 both-is : (strict : Bool) (s : Stream) → headed strict (opened s) ≡ reset-stream strict s
 unfolding reset-stream
 both-is strict s = refl
-
-pub reset-id : (strict : Bool) (s : Stream) → (reset-stream strict s) .id ≡ s .id
-unfolding reset-stream
-reset-id strict s = refl
 
 reset-items : (strict : Bool) (s : Stream) → has-items (reset-stream strict s) ≡ has-items s
 unfolding reset-stream has-items some-items whole-head

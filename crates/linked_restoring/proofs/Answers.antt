@@ -16,7 +16,6 @@ use Rattle.queue_model.specs.Reader.{read-image}
 use Rattle.queue_model.specs.Restore.{restored, restore-read}
 use Rattle.queue_model.specs.Run as run
 use Rattle.queue_model.proofs.Checks.{restore-of}
-use Rattle.payload_store.proofs.Cases.{by-lt}
 use Rattle.queue_state.specs.Model.{streamIn, streamsIn, model, tab}
 use Rattle.queue_state.specs.Good.{Good}
 use Rattle.queue_state.proofs.Singles.{model-options, model-next, model-streams}
@@ -24,6 +23,7 @@ use Rattle.image_rules.specs.Code.{imageCode}
 use Rattle.image_rules.proofs.ReadLink.{handoverAt}
 use Rattle.image_rules.proofs.CodeLink.{Linked, code-link}
 use Rattle.handover.specs.Restore.{restoreCode}
+use Rattle.queue_words.proofs.Finds.{by-lt}
 
 nil-tab : {A : Type 0} (f : ℕ → A) (n : ℕ) → not (is-nil (tab f n)) ≡ ltb 0 n
 unfolding tab is-nil

@@ -18,7 +18,6 @@ use Rattle.queue_words.specs.declared.header.Remembered.the-variants as remembe
 use Rattle.queue_words.specs.declared.header.SchedulerState.{SchedulerState}
 use Rattle.queue_words.specs.declared.streams.OutgoingStream.{OutgoingStream}
 use Rattle.queue_words.proofs.Laws
-use Rattle.payload_store.proofs.Cases.{by-lt}
 use Rattle.queue_model.specs.Logic.{if_then_else_}
 use Rattle.queue_model.specs.Types.{Stream, Scheduler, Active}
 use Rattle.queue_model.specs.Types as plain
@@ -35,6 +34,7 @@ use Rattle.queue_state.proofs.Frames.{stream-is, row-below}
 use Rattle.queue_state.proofs.Singles.{Unmoved, shape-scheduler}
 use Rattle.restoring.specs.Recall.{halfSentAt, firstHalfSent, remembering, recalled}
 use Rattle.handover.specs.Restore.{recalledBy}
+use Rattle.queue_words.proofs.Finds.{by-lt}
 
 -- ---- one head
 

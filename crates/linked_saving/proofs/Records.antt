@@ -29,6 +29,7 @@ use Rattle.saving.proofs.Lengths.{plain-long}
 use Rattle.saving.proofs.Lengths as lengths
 use Rattle.saving.proofs.Passed.{countFrom}
 use Rattle.linked_saving.proofs.Messages.{chain-same}
+use Rattle.queue_model.proofs.Demand3.Restored.{stream-records-plain}
 
 -- ------------------------------------------------------------------ one stream's record
 
@@ -48,10 +49,6 @@ plain-same ws st i =
     sym (tests-same (eqb (streamAt ws (rowAt ws i) .«next_ssn» .0) 0) (eqb (streamAt ws (rowAt ws i) .«next_unordered_mid» .0) 0) (eqb (streamAt ws (rowAt ws i) .«next_ordered_mid» .0) 0)
     (eqb (streamAt ws (rowAt ws i) .priority) (defaultOf ws)))
 
-records-skip : (d : ℕ) (s : Stream) (ss : List Stream) → plain d (stream-record s) ≡ true → stream-records d (s ∷ ss) ≡ stream-records d ss
-unfolding stream-records
-records-skip d s ss e = rw e
-
 records-keep : (d : ℕ) (s : Stream) (ss : List Stream) → plain d (stream-record s) ≡ false → stream-records d (s ∷ ss) ≡ stream-record s ∷ stream-records d ss
 unfolding stream-records
 records-keep d s ss e = rw e
@@ -69,7 +66,7 @@ pub stream-same : (ws st : List ℕ) (i : ℕ) (more : List ℕ) (ss : List Stre
 stream-same ws st i more ss e = go (isPlain (streamAt ws (rowAt ws i)) (defaultOf ws)) refl
   where
     go : (b : Bool) → isPlain (streamAt ws (rowAt ws i)) (defaultOf ws) ≡ b → streamBytes ws i ++ more ≡ streams-bytes (stream-records (defaultOf ws) (streamIn ws st i ∷ ss))
-    go true h = rw (plain-long ws i h, records-skip (defaultOf ws) (streamIn ws st i) ss (plain-same ws st i ∙ h)) e
+    go true h = rw (plain-long ws i h, stream-records-plain (defaultOf ws) (streamIn ws st i) ss (plain-same ws st i ∙ h)) e
     go false h = rw (lengths.stream-is ws i h, records-keep (defaultOf ws) (streamIn ws st i) ss (plain-same ws st i ∙ h), bytes-cons, row-same ws st i, e)
 
 -- each record has 14 bytes

@@ -31,16 +31,9 @@ use Rattle.saving.proofs.Images.{pick-yes}
 use Rattle.linked_saving.specs.Meaning.{savedOf, SaveMeets}
 use Rattle.linked_saving.proofs.Sounds.{queue-pass}
 use Rattle.linked_saving.proofs.Records.{defaultOf, streamsOf, Same, same-all, streams-long}
+use Rattle.queue_model.proofs.Image.ReadWrite.{image-bytes-of, trailer-row-of}
 
 -- ------------------------------------------------------------------ the bytes
-
-image-parts : (h : Handover) → image-bytes h ≡ streams-bytes (h .streams) ++ (messages-bytes (h .messages) ++ row-bytes trailer-widths (trailer-row h))
-unfolding image-bytes
-image-parts h = refl
-
-trailer-of : (h : Handover) → trailer-row h ≡ h .next-message-id ∷ h .default-priority ∷ length (h .streams) ∷ length (h .messages) ∷ 1 ∷ length (messages-bytes (h .messages)) ∷ length (streams-bytes (h .streams)) ∷ []
-unfolding trailer-row
-trailer-of h = refl
 
 -- the handover record of the words
 abbrev pub handoverOf : List ℕ → List ℕ → ℕ → Handover
@@ -71,7 +64,7 @@ module _ (ws st : List ℕ) (time : ℕ) (t : Tally) (p : Passed ws st time t) w
   trailer-same =
       ap (row-bytes trailer-widths)
       (fields (t .streams) _ (t .messages) _ (t .bytes) _ (t .streams * 14) _ streams-count (p .count-is ∙ same .count-is) (p .bytes-is ∙ ap length (same .messages-are)) (p .streams-is ∙ ap length (same .streams-are))
-      ∙ sym (trailer-of (handoverOf ws st time)))
+      ∙ sym (trailer-row-of (handoverOf ws st time)))
     where
       row : ℕ → ℕ → ℕ → ℕ → List ℕ
       row s m b z = totalsAt ws .«next_message_id» .0 ∷ defaultOf ws ∷ s ∷ m ∷ 1 ∷ b ∷ z ∷ []
@@ -81,7 +74,7 @@ module _ (ws st : List ℕ) (time : ℕ) (t : Tally) (p : Passed ws st time t) w
 
   pub image-same : imageBytes ws st time t ≡ write-image time (model ws st)
   unfolding imageBytes
-  image-same = rw (same .streams-are, same .messages-are, trailer-same) (sym (image-parts (handoverOf ws st time))) ∙ sym (write-is ws st time)
+  image-same = rw (same .streams-are, same .messages-are, trailer-same) (sym (image-bytes-of (handoverOf ws st time))) ∙ sym (write-is ws st time)
 
   pub size-same : imageSize t ≡ length (write-image time (model ws st))
   unfolding imageBytes

@@ -27,10 +27,7 @@ use Rattle.queue_state.specs.Good.{Shape, Good}
 use Rattle.queue_state.proofs.Singles.{model-streams, model-total}
 use Rattle.queue_state.proofs.Sums.{item-length}
 use Rattle.linked_sending.proofs.Looking.{Choice}
-
-pub item-offset : (ws st : List ℕ) (x : ℕ) → (itemIn ws st x) .offset ≡ itemAt ws x .offset
-unfolding itemIn
-item-offset ws st x = refl
+use Rattle.queue_state.proofs.Facts.{offset-is}
 
 pub item-payload : (ws st : List ℕ) (x : ℕ) → (itemIn ws st x) .payload ≡ payloadOf ws st x
 unfolding itemIn
@@ -45,7 +42,7 @@ pub remaining-is : (ws st : List ℕ) (g : Shape ws st) (x : ℕ) → x < 1024 �
 unfolding rest
 remaining-is ws st g x h =
     let a : length ((itemIn ws st x) .payload) ≡ sizeOf ws x = item-length ws st g x h in
-    let b = item-offset ws st x in
+    let b = offset-is ws st x in
     rw (a, b)
 
 module _ (ws st : List ℕ) (g : Good ws st) (at : ℕ) (c : Choice ws st (g .shape) at) where
@@ -76,7 +73,7 @@ module _ (ws st : List ℕ) (g : Good ws st) (at : ℕ) (c : Choice ws st (g .sh
 
   -- There is a rest, and no message is longer than 262,144 bytes.
   pub offset-below : itemAt ws (c .first) .offset < sizeOf ws (c .first)
-  offset-below = omega (arith, well-item .unsent, item-length ws st (g .shape) (c .first) (c .first-fits), item-offset ws st (c .first))
+  offset-below = omega (arith, well-item .unsent, item-length ws st (g .shape) (c .first) (c .first-fits), offset-is ws st (c .first))
 
   pub length-small : sizeOf ws (c .first) ≤ 262144
   length-small = omega (arith, well-item .small, item-length ws st (g .shape) (c .first) (c .first-fits))

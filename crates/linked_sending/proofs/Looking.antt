@@ -29,7 +29,7 @@ use Rattle.queue_model.specs.Produce.{Look, nothing, broken, dropped, chosen, l
 use Rattle.queue_model.proofs.Calm.Calm.{HeadAt}
 use Rattle.queue_model.proofs.Invariant.Waits.{Listed, peek-in}
 use Rattle.queue_model.proofs.Invariant.Sends.{Head-for, head-for, head-of-at}
-use Rattle.payload_store.proofs.Cases.{by-lt}
+use Rattle.payload_store.proofs.Cases.{by-index}
 use Rattle.stream_scheduler.specs.Link.{entryAt, modelScheduler, Chooses, row-chosen, none-chosen}
 use Rattle.stream_scheduler.specs.Words.{peekWords}
 use Rattle.stream_scheduler.specs.declared.Peeked.{Peeked}
@@ -42,10 +42,10 @@ use Rattle.queue_state.specs.Chains.{each, Linked}
 use Rattle.queue_state.specs.Model.{nextOf, itemIn, rowAt, streamIn, streamsIn, model, expiresOf}
 use Rattle.queue_state.specs.Good.{Row, Shape, Good}
 use Rattle.queue_state.proofs.Chains.{linked-none, linked-some}
-use Rattle.queue_state.proofs.Splits.{by-index}
 use Rattle.queue_state.proofs.Frames.{stream-is, row-below}
 use Rattle.queue_state.proofs.Looks.{Lookup, known-at, new-at, lookup}
 use Rattle.queue_state.proofs.Singles.{model-streams, model-schedules, model-interleaving}
+use Rattle.queue_words.proofs.Finds.{by-lt}
 
 -- The scheduler's row `at` is of the known stream in a position, whose first message is in place `first`.
 pub record Choice (ws st : List ℕ) (g : Shape ws st) (at : ℕ) : Type 0 where

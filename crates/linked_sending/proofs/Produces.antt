@@ -16,7 +16,7 @@ use Rattle.queue_model.specs.Produce.{pass-over, produce, produce-checks}
 use Rattle.queue_model.specs.Run as run
 use Rattle.queue_model.specs.Streams.{waiting}
 use Rattle.queue_model.proofs.Invariant.Events.{potential, potential-fits}
-use Rattle.payload_store.proofs.Cases.{by-lt}
+use Rattle.payload_store.proofs.Cases.{by-index}
 use Rattle.queue_sending.specs.Data.{ProducedWith, producedWith, refusedWith}
 use Rattle.queue_sending.specs.Produce.{produceCode, produceNext, passOver, refusal, settled, settledAs}
 use Rattle.queue_sending.specs.declared.data.Produced.{Produced}
@@ -26,10 +26,10 @@ use Rattle.queue_streams.specs.Events.{eventWords, placesIn, written}
 use Rattle.queue_state.specs.Model.{model}
 use Rattle.queue_state.specs.Good.{Good}
 use Rattle.queue_state.proofs.Singles.{model-options}
-use Rattle.queue_state.proofs.Splits.{by-index}
 use Rattle.linked_sending.specs.Meaning.{Sends, ProduceMeets}
 use Rattle.linked_sending.proofs.Passing.{Passes, passes, model-waits}
 use Rattle.linked_sending.proofs.Numbers.{tells-of}
+use Rattle.queue_words.proofs.Finds.{by-lt}
 
 -- ---- what the model does
 

@@ -31,7 +31,7 @@ use Rattle.queue_model.proofs.Invariant.Sends.{Chosen, handed-well}
 use Rattle.payload_store.specs.Good.{payloadOf}
 use Rattle.payload_store.specs.Reading.{readCode, readPart}
 use Rattle.payload_store.specs.Words.{sizeOf, gapsOf}
-use Rattle.payload_store.proofs.Cases.{by-lt}
+use Rattle.payload_store.proofs.Cases.{by-index}
 use Rattle.payload_store.proofs.Reading.{read-law}
 use Rattle.stream_scheduler.specs.Link.{entryAt, modelScheduler}
 use Rattle.stream_scheduler.specs.Words.{acceptAt}
@@ -55,13 +55,14 @@ use Rattle.queue_state.proofs.Notes.{listed, sent-noted, written-append, writte
 use Rattle.queue_state.proofs.Sums.{item-length}
 use Rattle.queue_state.proofs.Heads.{head-may}
 use Rattle.queue_state.proofs.Rooms.{all-known}
-use Rattle.queue_state.proofs.Splits.{by-index}
 use Rattle.linked_sending.specs.Meaning.{Sends, dataOf, producedOf, bufferOf}
 use Rattle.linked_sending.proofs.Looking.{Choice}
 use Rattle.linked_sending.proofs.Numbering.{Numbers, numbers, Renumbered, renumbered, moved-is, data-is, part-length}
-use Rattle.linked_sending.proofs.Enough.{item-offset, item-payload, stream-amount, head-at, rest-is, rest-in-amount, amount-in-total, offset-below, length-small}
+use Rattle.linked_sending.proofs.Enough.{item-payload, stream-amount, head-at, rest-is, rest-in-amount, amount-in-total, offset-below, length-small}
 use Rattle.linked_sending.proofs.Part.{WentOn, went-on}
 use Rattle.linked_sending.proofs.Last.{Finished, the-finished, end-state}
+use Rattle.queue_state.proofs.Facts.{offset-is}
+use Rattle.queue_words.proofs.Finds.{by-lt}
 
 pub least-is : (a b : ℕ) → leastOf a b ≡ min a b
 unfolding leastOf

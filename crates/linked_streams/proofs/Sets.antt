@@ -39,9 +39,9 @@ use Rattle.queue_state.proofs.Frames.{stream-is}
 use Rattle.queue_state.proofs.Inserts.{insert-link}
 use Rattle.queue_state.proofs.Numbers.{tells}
 use Rattle.queue_state.proofs.Looks.{Lookup, known-at, new-at, lookup, stream-found, stream-new, not-too-many, too-many-new, look-row, look-new, look-full}
-use Rattle.payload_store.proofs.Cases.{by-lt}
 use Rattle.linked_streams.specs.Settings.{SetPriorityMeets, SetThresholdMeets}
 use Rattle.linked_streams.proofs.Stepped.{checked-first, does-refused, does-row, does-new}
+use Rattle.queue_words.proofs.Finds.{by-lt}
 
 -- ------------------------------------------------------------------ the model's streams, by their rows
 

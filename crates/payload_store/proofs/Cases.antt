@@ -7,6 +7,7 @@ use native.Mathlib.Decide.{ℕ-discrete}
 use borrow.Author.Tests.{ltb-true, ltb-false}
 use lib.Dec.{ltb}
 use Rattle.queue_words.specs.Flags.{pick}
+use Rattle.queue_words.proofs.Finds.{by-lt}
 
 pub by-index : {G : Type 0} (i j : ℕ) → (i ≡ j → G) → ((i ≡ j → ⊥) → G) → G
 by-index {G} i j f g = go (ℕ-discrete i j)
@@ -14,13 +15,6 @@ by-index {G} i j f g = go (ℕ-discrete i j)
     go : Dec (i ≡ j) → G
     go (yes e) = f e
     go (no ne) = g ne
-
-pub by-lt : {G : Type 0} (a b : ℕ) → (a < b → G) → (b ≤ a → G) → G
-by-lt {G} a b f g = go (ltb a b) refl
-  where
-    go : (t : Bool) → ltb a b ≡ t → G
-    go true e = f (ltb-true a b e)
-    go false e = g (ltb-false a b e)
 
 pub pick-else : {A : Type 0} (t : Bool) (a b v : A) → (a ≡ v → ⊥) → pick t a b ≡ v → (t ≡ false) × (b ≡ v)
 pick-else true a b v n e = absurd (n e)

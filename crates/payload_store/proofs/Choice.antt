@@ -11,10 +11,11 @@ use Rattle.queue_words.specs.Items.{putPlace}
 use Rattle.payload_store.specs.Words.{placeOf, sizeOf}
 use Rattle.payload_store.specs.Moving.{choose, least, moved, Pack, pack, turnAt, turn, turns, together}
 use Rattle.payload_store.specs.Searching.{lies}
-use Rattle.payload_store.proofs.Cases.{by-index, by-lt, false-true}
+use Rattle.payload_store.proofs.Cases.{by-index, false-true}
 use Rattle.payload_store.proofs.Found.{lies-yes, lies-in}
 use Rattle.payload_store.proofs.Moves.{moved-length}
 use Rattle.payload_store.proofs.Laws.{place-length, place-same, place-other, place-size}
+use Rattle.queue_words.proofs.Finds.{by-lt}
 
 -- b is the first among the first n rows; b ≥ 1024: there is none
 pub record Least (ws : List ℕ) (cur n b : ℕ) : Type 0 where

@@ -18,10 +18,11 @@ use Rattle.payload_store.specs.Gaps.{gaps, keeps, gapsLeft}
 use Rattle.payload_store.specs.Dropping.{dropCode, gapsThen, dropped, dropPayload}
 use Rattle.payload_store.specs.Good.{payloadOf, sumTo, ClearOf, Good}
 use Rattle.payload_store.specs.Promise.{Dropped}
-use Rattle.payload_store.proofs.Cases.{by-index, by-lt, pick-else}
+use Rattle.payload_store.proofs.Cases.{by-index, pick-else}
 use Rattle.payload_store.proofs.Laws.{size-length, size-same, size-other, size-place, bytes-length, bytes-place, bytes-size, bytes-used, bytes-gaps}
 use Rattle.payload_store.proofs.Clear.{Ordered, lay-ordered}
 use Rattle.payload_store.proofs.Sums.{sum-one, sum-has, sum-both}
+use Rattle.queue_words.proofs.Finds.{by-lt}
 
 pub record DropOk (ws : List ℕ) (i : ℕ) : Type 0 where
   pub row : i < 1024

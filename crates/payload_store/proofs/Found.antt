@@ -18,8 +18,9 @@ use Rattle.payload_store.specs.Words.{usedOf, placeOf, sizeOf}
 use Rattle.payload_store.specs.Gaps.{gaps}
 use Rattle.payload_store.specs.Searching.{lies, raised, reached, leftTo, reachTo, run, freeAt, greater, runOn, runTo, within, bytesOf, found}
 use Rattle.payload_store.specs.Good.{sumTo, ClearOf, Lay}
-use Rattle.payload_store.proofs.Cases.{by-index, by-lt, pick-else, false-true}
+use Rattle.payload_store.proofs.Cases.{by-index, pick-else, false-true}
 use Rattle.payload_store.proofs.Clear.{Ordered, lay-with}
+use Rattle.queue_words.proofs.Finds.{by-lt}
 
 -- byte x lies in piece x / 8192
 pub piece-low : (x : ℕ) → x / 8192 * 8192 ≤ x

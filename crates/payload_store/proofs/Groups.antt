@@ -11,9 +11,10 @@ use lib.Seq.{getD-set-same, getD-set-other}
 use Rattle.queue_words.specs.Items.{putPlace}
 use Rattle.payload_store.specs.Words.{placeOf, sizeOf}
 use Rattle.payload_store.specs.Moving.{choose, least, leastIn, better, Hint, Hints, Exact}
-use Rattle.payload_store.proofs.Cases.{by-index, by-lt}
+use Rattle.payload_store.proofs.Cases.{by-index}
 use Rattle.payload_store.proofs.Laws.{place-same, place-other, place-size}
 use Rattle.payload_store.proofs.Choice.{choose-dead, choose-low, choose-new, choose-less, choose-more}
+use Rattle.queue_words.proofs.Finds.{by-lt}
 
 module _ (ws : List ℕ) (b c : ℕ) where
   better-left : 1024 ≤ c → better ws b c ≡ b

@@ -19,7 +19,7 @@ use Rattle.payload_store.specs.Moving.{Pack, together}
 use Rattle.payload_store.specs.Putting.{allFit, Outcome, outcome, written, placed, putCode, putElsewhere, putPayload}
 use Rattle.payload_store.specs.Good.{payloadOf, sumTo, Apart, Lay, Good}
 use Rattle.payload_store.specs.Promise.{Together, Put}
-use Rattle.payload_store.proofs.Cases.{by-index, by-lt}
+use Rattle.payload_store.proofs.Cases.{by-index}
 use Rattle.payload_store.proofs.Laws.{place-length, place-same, place-other, place-size, size-length, size-same, size-other, size-place, bytes-length, bytes-place, bytes-size, bytes-used, bytes-gaps}
 use Rattle.payload_store.proofs.Sums.{sum-one}
 use Rattle.payload_store.proofs.Tests.{all-true, true-all, out-end, out-found, out-moved, out-elsewhere, out-refused}
@@ -27,6 +27,7 @@ use Rattle.payload_store.proofs.Clear.{ordered-right, lay-ordered, for-
 use Rattle.payload_store.proofs.Found.{found-lay}
 use Rattle.payload_store.proofs.Together.{payload-same, together-law}
 use Rattle.payload_store.proofs.Goods.{used-fits}
+use Rattle.queue_words.proofs.Finds.{by-lt}
 
 -- what is written into the middle of a store
 module _ (st : List ℕ) (at : ℕ) (bs : List ℕ) (h : at + length bs ≤ length st) where

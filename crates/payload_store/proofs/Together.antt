@@ -16,11 +16,12 @@ use Rattle.payload_store.specs.Words.{usedOf, placeOf, sizeOf}
 use Rattle.payload_store.specs.Moving.{least, moved, Pack, pack, turn, turns, together}
 use Rattle.payload_store.specs.Good.{payloadOf, sumTo, Apart, Lay}
 use Rattle.payload_store.specs.Promise.{Together}
-use Rattle.payload_store.proofs.Cases.{by-index, by-lt}
+use Rattle.payload_store.proofs.Cases.{by-index}
 use Rattle.payload_store.proofs.Sums.{sum-same, sum-one, sum-zero}
 use Rattle.payload_store.proofs.Moves.{moved-length, moved-other, moved-at, part-same}
 use Rattle.payload_store.proofs.Laws.{place-length, place-same, place-other, place-size, place-totals}
 use Rattle.payload_store.proofs.Choice.{Least, least-law, turn-moves, turn-rests, fits-turn}
+use Rattle.queue_words.proofs.Finds.{by-lt}
 
 -- a row's payload is the same by its bytes
 pub payload-same : (ws st ws′ st′ : List ℕ) (i : ℕ) → sizeOf ws′ i ≡ sizeOf ws i → placeOf ws i + sizeOf ws i ≤ length st → placeOf ws′ i + sizeOf ws i ≤ length st′

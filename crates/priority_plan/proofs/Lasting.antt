@@ -8,6 +8,7 @@ use Rattle.queue_model.specs.Types.{Item, Stream, Queue, expired}
 use Rattle.queue_model.specs.FairTurns.{none-expired}
 use Rattle.queue_model.proofs.Checks.{or-left, or-right}
 use Rattle.priority_plan.specs.Works.{All}
+use Rattle.queue_model.proofs.FairTurns.Steps.{not-true}
 
 -- No waiting message is expired at this time.
 abbrev pub NoneExpired : ℕ → List Stream → Type 0
@@ -23,10 +24,6 @@ passes-none : {A : Type 0} (P : A → Type 0) (test : A → Bool) → ((x : A) �
 unfolding any
 passes-none P test f [] a = refl
 passes-none P test f (x ∷ xs) a = ap₂ _||_ (f x (a .0)) (passes-none P test f xs (a .1))
-
-not-true : (b : Bool) → not b ≡ true → b ≡ false
-not-true true e = sym e
-not-true false e = refl
 
 module _ (now : ℕ) (q : Queue) where
   abbrev item-expired : Item → Bool

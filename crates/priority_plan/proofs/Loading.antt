@@ -27,6 +27,8 @@ use Rattle.queue_model.proofs.Invariant.Sixteen.{fine-step}
 use Rattle.priority_plan.specs.Works.{PlannedStream, first-entry, All}
 use Rattle.priority_plan.specs.Jobs.{Setting, priority, interleaving, setting-call, Adding, adding-call, last-priority, last-interleaving, first-size, Accepted, Prepared, set-up, loaded, Job}
 use Rattle.priority_plan.proofs.Lasting.{NoneExpired}
+use Rattle.queue_model.proofs.Demand3.Peel.{at-put-other}
+use Rattle.queue_model.proofs.Calm.Calm.{head-size-none}
 
 -- ---- accepted calls
 
@@ -42,9 +44,6 @@ accepted-next cs q r e = go (first-refusal cs) refl e
 
 at-put-own : (o : Options) (s : Stream) (ss : List Stream) → at o (put-stream s ss) (s .id) ≡ s
 at-put-own o s ss = at-found o (put-stream s ss) (s .id) s (find-put-same stream-key s ss)
-
-at-put-other : (o : Options) (s : Stream) (ss : List Stream) (k : ℕ) → (s .id ≡ k → ⊥) → at o (put-stream s ss) k ≡ at o ss k
-at-put-other o s ss k n = ap (λ (x : Option Stream). Option·getD x (new-stream o k)) (find-put-other stream-key k s ss n)
 
 -- ---- settings
 
@@ -70,15 +69,11 @@ resting-removed k sc r =
     let e = ap (Rattle.queue_model.specs.Scheduler.without-active k) (r .none-waits) ∙ without-nil active-key k in
     record { free = ap (forget k) (r .free); time-zero = ap (rest-time (sc .system-time)) e; none-waits = e }
 
-no-size : (is : List Item) → is ≡ [] → head-size is ≡ 0
-unfolding head-size
-no-size is e = ap head-size e
-
 resting-each : (b : Bool) (ss : List Stream) (sc : Scheduler) → Every Unused ss → Resting sc → Resting (reschedule-each b (λ s. true) ss sc)
 resting-each b [] sc u r = subst Resting (sym (each-nil b (λ s. true) sc)) r
 resting-each b (s ∷ ss) sc u r =
     subst Resting (sym (each-cons b (λ s. true) s ss sc))
-    (resting-each b ss (reschedule b s sc) (u .1) (subst Resting (sym (reschedule-of b s sc ∙ ap (λ (n : ℕ). set-bytes-remaining (s .id) n (weight-of b s) sc) (no-size (s .items) (u .0 .no-items)) ∙ set-none (s .id) (weight-of b s) sc)) (resting-removed (s .id) sc r)))
+    (resting-each b ss (reschedule b s sc) (u .1) (subst Resting (sym (reschedule-of b s sc ∙ ap (λ (n : ℕ). set-bytes-remaining (s .id) n (weight-of b s) sc) (head-size-none (s .items) (u .0 .no-items)) ∙ set-none (s .id) (weight-of b s) sc)) (resting-removed (s .id) sc r)))
 
 -- What a setting leaves of a stream's priority.
 abbrev Knows : ℕ → Option ℕ → Queue → Type 0

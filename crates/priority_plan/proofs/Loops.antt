@@ -35,7 +35,7 @@ pub any-end : (t : ℕ → Bool) (xs : List ℕ) (i : ℕ) → length xs ≤ i �
 unfolding any
 any-end t xs i h = ap (any t) (drop-of-length-le xs h)
 
-or-true : (x y : Bool) → y ≡ true → (x || y) ≡ true
+pub or-true : (x y : Bool) → y ≡ true → (x || y) ≡ true
 or-true true y e = refl
 or-true false y e = e
 
@@ -106,7 +106,7 @@ planned-end : (ids sizes : List ℕ) → length ids ≡ length sizes → planned
 unfolding planned-streams
 planned-end ids sizes e = ap₂ planned-streams (drop-of-length-le ids {i = length ids} (omega arith)) (drop-of-length-le sizes {i = length ids} (omega arith))
 
-planned-count : (ids sizes : List ℕ) → length ids ≡ length sizes → length (planned-streams ids sizes) ≡ length ids
+pub planned-count : (ids sizes : List ℕ) → length ids ≡ length sizes → length (planned-streams ids sizes) ≡ length ids
 unfolding planned-streams
 planned-count [] [] e = refl
 planned-count [] (n ∷ ns) e = refl

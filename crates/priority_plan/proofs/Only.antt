@@ -30,6 +30,7 @@ use Rattle.priority_plan.proofs.Loading.{loaded-well, loaded-on, loaded
 use Rattle.priority_plan.proofs.Request.{request13-entries, request13-order, entries-listed, entries-ids}
 use Rattle.priority_plan.proofs.More.{lasting-adds}
 use Rattle.priority_plan.proofs.Live.{live}
+use Rattle.priority_plan.proofs.Loops.{or-true}
 
 -- ---- runs of askings alone
 
@@ -85,10 +86,6 @@ abbrev Precedes : ℕ → ℕ → List ℕ → Type 0
 Precedes i j [] = ⊥
 Precedes i j (k ∷ is) = ((k ≡ i) × Has j is) ⊎ Precedes i j is
 
-or-true : (x y : Bool) → y ≡ true → (x || y) ≡ true
-or-true true y e = refl
-or-true false y e = e
-
 not-there : (s : ℕ) (is : List ℕ) → any (eqb s) is ≡ false → remove s is ≡ is
 unfolding any remove
 not-there s [] e = refl
@@ -117,12 +114,6 @@ unfolding any
 has-second i j [] p = absurd p
 has-second i j (k ∷ is) (inl p) = or-true (eqb j k) (any (eqb j) is) (p .1)
 has-second i j (k ∷ is) (inr p) = or-true (eqb j k) (any (eqb j) is) (has-second i j is p)
-
-has-first : (i j : ℕ) (is : List ℕ) → Precedes i j is → Has i is
-unfolding any
-has-first i j [] p = absurd p
-has-first i j (k ∷ is) (inl p) = ap (λ (b : Bool). b || any (eqb i) is) (eqb-true (sym (p .0)))
-has-first i j (k ∷ is) (inr p) = or-true (eqb i k) (any (eqb i) is) (has-first i j is p)
 
 -- In a list that names none twice, what precedes is another.
 precedes-other : (i j : ℕ) (is : List ℕ) → named-twice is ≡ false → Precedes i j is → i ≡ j → ⊥

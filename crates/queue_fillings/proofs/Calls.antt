@@ -21,6 +21,7 @@ use Rattle.queue_model.proofs.Fill.Sizes.{Past, past-checks}
 use Rattle.queue_model.proofs.Fill.Answers.{Gives, gives, waits-none, produce-gives}
 use Rattle.packets.specs.declared.packet.PacketFilled.the-variants as packet
 use Rattle.linked_packets.specs.Meaning.{filledOf}
+use Rattle.queue_model.proofs.Fill.Request5.{gives-none}
 
 -- ------------------------------------------------------------------ the answer
 
@@ -49,10 +50,6 @@ size-some : (idata : Bool) (limit used : ℕ) (q : Queue) → 36 ≤ limit → 1
 unfolding size-asked
 size-some true limit used q l m u e = omega arith
 size-some false limit used q l m u e = omega arith
-
-says-none : (size : ℕ) (a : Answer) → Gives size a → fragment-in a ≡ none → a ≡ nothing-waits
-says-none size _ (gives f l m) e = let z : _≡_ {A = ℕ} 0 1 = cc in absurd (omega arith)
-says-none size _ waits-none e = refl
 
 says-some : (size : ℕ) (a : Answer) (f : Fragment) → Gives size a → fragment-in a ≡ some f → a ≡ fragment f
 says-some size _ f (gives g l m) e = let h : g ≡ f = cc in ap fragment h
@@ -95,7 +92,7 @@ module _ (store places buffer now : ℕ) (p : Packet) (q : Queue) (w : Well q) (
   unfolding filling no-calls run.step
   all-asked =
       fill-induct (q .interleaving) store places now (p .limit) Kind keeps (λ used x s. Asks (q .interleaving) store places now (p .limit) used x (s .sizes))
-      (λ used x k z. full z) (λ n used x k z f. empty n z (says-none (suc n) _ (answers n used x k z) f)) (λ n used x f s k z g h. goes-on n f (s .sizes) z (says-some (suc n) _ f (answers n used x k z) g) h)
+      (λ used x k z. full z) (λ n used x k z f. empty n z (gives-none (suc n) _ (answers n used x k z) f)) (λ n used x f s k z g h. goes-on n f (s .sizes) z (says-some (suc n) _ f (answers n used x k z) g) h)
       (p .limit) common-header-length q (w, past .same-store) (omega arith)
 
   -- None is refused.
@@ -126,7 +123,7 @@ module _ (store places buffer now : ℕ) (p : Packet) (q : Queue) (w : Well q) (
   on-last n used x k z f u v = record {
     less = n;
     sizes-are = refl;
-    says = says-none (suc n) ((produce store places (suc n) now (suc n) x) .outcome .answer) (answers n used x k z) f;
+    says = gives-none (suc n) ((produce store places (suc n) now (suc n) x) .outcome .answer) (answers n used x k z) f;
   }
 
   on-more : (n used : ℕ) (x : Queue) (f : Fragment) (s : Filling) → Only used x (one-more (suc n) (produce store places (suc n) now (suc n) x) f s)

@@ -30,13 +30,9 @@ use Rattle.queue_fillings.specs.Expanded.{separately, sizesAsked, instea
 use Rattle.queue_fillings.proofs.Same.{Same, same-self, run-same, after-same}
 use Rattle.queue_fillings.proofs.Separate.{calls-next, AllWithin, sizes-within, accepted-next, refused-next, accepted-past, accepted-within}
 use Rattle.queue_fillings.proofs.Calls.{all-asked}
+use Rattle.queue_runs.proofs.Closing.{after-append}
 
 -- ------------------------------------------------------------------ lists
-
-pub after-append : (cs ds : List Call) (s : State) → runs.after (cs ++ ds) s ≡ runs.after ds (runs.after cs s)
-unfolding runs.after
-after-append [] ds s = refl
-after-append (c ∷ cs) ds s = after-append cs ds (step c s .next)
 
 pub run-append : (cs ds : List Call) (s : State) → runs.run (cs ++ ds) s ≡ runs.run cs s ++ runs.run ds (runs.after cs s)
 unfolding runs.run runs.after

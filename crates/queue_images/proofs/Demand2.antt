@@ -34,6 +34,7 @@ use Rattle.queue_runs.proofs.Steps.{Stepped, step-link, meant}
 use Rattle.queue_runs.proofs.Runs.{run-link}
 use Rattle.queue_runs.proofs.News.{new-link, reached}
 use Rattle.queue_images.specs.Demand2.{Saves, freshState, Restores, Demand2-images, Demand2-rust}
+use Rattle.queue_runs.proofs.Demand3.{restore-is}
 
 -- ---- the saved image
 
@@ -78,10 +79,6 @@ the-image s at size buffer after g h =
     (ap (λ n. take n after) (k .0) ∙ ap (take (length img)) (k .1) ∙ take-front img (drop (length img) buffer), k .2)
 
 -- ---- the theorem
-
-restore-is : (store now : ℕ) (i : List ℕ) (q : Queue) → run.step (run.restore store now i) q ≡ image.restore store now i q
-unfolding run.step
-restore-is store now i q = refl
 
 fresh-is : (o : plain.Options) (b : Bool) → (run.step (run.set-interleaving b) (new-queue o)) .next ≡ fresh o b
 unfolding fresh

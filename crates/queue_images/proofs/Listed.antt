@@ -17,7 +17,6 @@ use Rattle.queue_runs.specs.Creation.{Arguments, creation}
 use Rattle.queue_runs.specs.Numbers.{among}
 use Rattle.queue_runs.specs.Refusals.{callRefused}
 use Rattle.queue_runs.specs.Run.{State}
-use Rattle.queue_runs.proofs.Stays.{not-refused}
 use Rattle.saving.specs.Bytes.{imageSize}
 use Rattle.saving.specs.Measure.{tallyQueue}
 use Rattle.saving.specs.Save.{SavedAs, savedAs, saveWith, saveImage}
@@ -25,6 +24,7 @@ use Rattle.saving.specs.declared.image.Saved.the-variants.{Image, Refused}
 use Rattle.saving.specs.declared.measuring.Tally.{Tally}
 use Rattle.queue_images.specs.Refusals.{savedRefused}
 use Rattle.queue_images.specs.Numbers.{savedNumber, SaveRefusalsListed, SaveOtherStore, CreateRefused, CreateRefusals}
+use Rattle.payload_store.proofs.Cases.{false-true}
 
 -- ---- saving
 
@@ -41,7 +41,7 @@ list-refused b n h e = h
 
 list-saved : (us : List ℕ) (n : ℕ) → Lists (savedAs (Image n) us)
 unfolding Lists
-list-saved us n e = not-refused e
+list-saved us n e = false-true e
 
 listed : (ws st b : List ℕ) (time : ℕ) → Lists (saveImage ws st b time)
 unfolding saveImage
@@ -72,7 +72,7 @@ code-listed limit len = by (eqb limit 0) (ltb 65535 limit) (eqb len 0) (ltb 2000
     by false true c d e = refl
     by false false true d e = refl
     by false false false true e = refl
-    by false false false false e = not-refused e
+    by false false false false e = false-true e
 
 pub create-refusals : CreateRefusals
 unfolding create
@@ -89,4 +89,4 @@ create-refusals a s e = let p = by (ltb 0 code) (code-listed (a .limit) (length 
         → (among (callNumber (pick t (called (call.Refused code) (s .words)) (called (call.Accepted 0) us) .answer)) (1 ∷ 2 ∷ []) ≡ true)
         × (pick t (called (call.Refused code) (s .words)) (called (call.Accepted 0) us) .next ≡ s .words)
     by true h e = (h refl, refl)
-    by false h e = not-refused e
+    by false h e = false-true e

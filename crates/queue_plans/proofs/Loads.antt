@@ -18,10 +18,7 @@ use Rattle.priority_plan.proofs.OwnJob.{plan-job, ids-are}
 use Rattle.queue_plans.specs.Jobs.{settings, Adding, addingCall, Later, times, addedLater, prepared, loaded, addingsOf, Load, Timely}
 use Rattle.queue_plans.proofs.Calls.{laterOf, addings-link, times-link, added-link, added-typed}
 use Rattle.queue_plans.proofs.Queues.{Stands, accepted-there, plain-messages, settings-typed, messages-typed, prepared-stands, loaded-stands}
-
--- As many streams as ids.
-pub counted : (ids sizes : List ℕ) → length ids ≡ length sizes → length (planned-streams ids sizes) ≡ length ids
-counted ids sizes e = sym (length-map (planned-streams ids sizes) (λ (h : PlannedStream). h .stream-id)) ∙ ap length (ids-are ids sizes e)
+use Rattle.priority_plan.proofs.Loops.{planned-count}
 
 -- A right list, and a priority for each of its streams.
 pub record Given (a : Arguments) (s : State) (ids sizes ps : List ℕ) : Type 0 where
@@ -52,7 +49,7 @@ module _ (a : Arguments) (s : State) (ids sizes ps : List ℕ) (g : Given a s id
 
   pub job : (ms : List Adding) → Load a s ids sizes ps ms → model.Job (optionsWith a (length (s .store))) (planned-streams ids sizes) ps (requests.plan-settings (planned-streams ids sizes) ps) (addingsOf (length (s .store)) ms)
   job ms l =
-      plan-job o ids sizes ps (addingsOf len ms) (new-link a s (g .creates) .created) (g .ids-fit) (g .right) (g .one-each ∙ sym (counted ids sizes (g .right .same-count))) (g .allowed)
+      plan-job o ids sizes ps (addingsOf len ms) (new-link a s (g .creates) .created) (g .ids-fit) (g .right) (g .one-each ∙ sym (planned-count ids sizes (g .right .same-count))) (g .allowed)
       (messages-typed len (model.set-up o ss) (prepared a s ids ps) ms prepared-on (l .typed))
       (accepted-there len (model.set-up o ss) (prepared a s ids ps) (map addingCall ms) (map model.adding-call (addingsOf len ms)) prepared-on (l .typed) (addings-link len ms) (plain-messages ms) (l .accepted))
       (l .sizes-are)

@@ -19,8 +19,9 @@ use Rattle.queue_plans.specs.Jobs.{settings, Adding, Accepted, loaded, a
 use Rattle.queue_plans.specs.Plans.{KeepsOrder, Request13-plan}
 use Rattle.queue_plans.proofs.Calls.{laterOf, settings-link}
 use Rattle.queue_plans.proofs.Queues.{accepted-here, turn-here, plain-settings, settings-typed, new-stands}
-use Rattle.queue_plans.proofs.Loads.{counted, Given, loaded-on, job, lasts}
+use Rattle.queue_plans.proofs.Loads.{Given, loaded-on, job, lasts}
 use Rattle.queue_plans.proofs.Served.{serves-all}
+use Rattle.priority_plan.proofs.Loops.{planned-count}
 
 -- The settings are accepted.
 settings-accepted : (a : Arguments) (s : State) (ids sizes ps : List ℕ) → Given a s ids sizes ps → Accepted (runs.run (settings ids ps) (newState a s))
@@ -52,7 +53,7 @@ unfolding Request13-plan
 request13-plan a s ids sizes ps c f e =
     let m = plan.made-of (a .limit) ids sizes ps e in
     let w = m .set .works in
-    let g : Given a s ids sizes ps = record { creates = c; ids-fit = f; right = m .good; one-each = w .count ∙ counted ids sizes (m .good .same-count); allowed = w .allowed } in
+    let g : Given a s ids sizes ps = record { creates = c; ids-fit = f; right = m .good; one-each = w .count ∙ planned-count ids sizes (m .good .same-count); allowed = w .allowed } in
     record {
       settings-accepted = settings-accepted a s ids sizes ps g;
       keeps-order = λ ms l. keeps-order a s ids sizes ps ms g e l;

@@ -28,10 +28,7 @@ use Rattle.queue_streams.specs.declared.answers.Flag.the-variants as flag
 use Rattle.queue_streams.specs.declared.answers.Number.the-variants as number
 use Rattle.queue_questions.specs.declared.questions.Looked.{Looked}
 use Rattle.queue_questions.specs.declared.questions.Looked.the-variants as looked
-
--- the count of loaded totals
-count-of : (ws : List ℕ) (t : Totals) → t ≡ totalsAt ws → knownCount ws ≡ t .known
-count-of ws t e = ap (λ (x : Totals). x .known) (sym e)
+use Rattle.queue_streams.proofs.Exits.{count-of}
 
 -- ------------------------------------------------------------------ the questions
 

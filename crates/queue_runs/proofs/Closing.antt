@@ -35,7 +35,7 @@ use Rattle.queue_runs.proofs.CloseSteps.{stands-step, stands-after, par
 
 -- ------------------------------------------------------------------ lists of calls
 
-after-append : (cs ds : List Call) (s : State) → runs.after (cs ++ ds) s ≡ runs.after ds (runs.after cs s)
+pub after-append : (cs ds : List Call) (s : State) → runs.after (cs ++ ds) s ≡ runs.after ds (runs.after cs s)
 unfolding runs.after
 after-append [] ds s = refl
 after-append (c ∷ cs) ds s = after-append cs ds (step c s .next)

@@ -49,7 +49,7 @@ accepted-done : (o : Outcome) → Quiet o → refusal (quietOf o .answer) ≡ fa
 accepted-done o (quiet-refused n) e = let z : _≡_ {A = ℕ} 0 1 = cc in absurd (omega arith)
 accepted-done o quiet-done e = refl
 
-restore-is : (store now : ℕ) (i : List ℕ) (q : Queue) → run.step (run.restore store now i) q ≡ image.restore store now i q
+pub restore-is : (store now : ℕ) (i : List ℕ) (q : Queue) → run.step (run.restore store now i) q ≡ image.restore store now i q
 unfolding run.step
 restore-is store now i q = refl
 

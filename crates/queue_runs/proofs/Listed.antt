@@ -78,7 +78,7 @@ use Rattle.packets.specs.declared.packet.Packet.{Packet}
 use Rattle.packets.specs.declared.packet.PacketFilled.the-variants as packet
 use Rattle.packets.specs.Filling.{packetOf, kindOf, fillCode, oneFilled, FillingWith, fillingWith, reached, afterOne, andOn, sizeAsked, fillOn, FilledWith, filledWith, filledNumber, finishedAnswer, finishedPacket, finished, fillPacket}
 use Rattle.queue_runs.specs.Numbers.{among, RefusalsListed}
-use Rattle.queue_runs.proofs.Stays.{not-refused}
+use Rattle.payload_store.proofs.Cases.{false-true}
 
 -- ---- codes: a number of the list where it is above 0
 
@@ -91,7 +91,7 @@ code-pick l false x y f g = g
 
 code-none : (l : List ℕ) → Code l 0
 unfolding Code
-code-none l e = not-refused e
+code-none l e = false-true e
 
 code-in : (l : List ℕ) (n : ℕ) → among n l ≡ true → Code l n
 unfolding Code
@@ -112,7 +112,7 @@ quiet-refused l n ws h e = h
 
 quiet-done : (l : List ℕ) (k : ℕ) (ws : List ℕ) → Quiet l (called (call.Accepted k) ws)
 unfolding Quiet
-quiet-done l k ws e = not-refused e
+quiet-done l k ws e = false-true e
 
 reopen-listed : (z : Bool) (ws : List ℕ) → Quiet (16 ∷ []) (reopen z ws)
 unfolding reopen
@@ -179,7 +179,7 @@ loud-refused l n ws es h e = h
 
 loud-done : (l : List ℕ) (k : ℕ) (ws es : List ℕ) → Loud l (calledWith (call.Accepted k) ws es)
 unfolding Loud
-loud-done l k ws es e = not-refused e
+loud-done l k ws es e = false-true e
 
 -- refused with a code where it is above 0
 loud-code : (l : List ℕ) (n : ℕ) (ws es : List ℕ) (y : CalledWith) → Code l n → Loud l y → Loud l (pick (ltb 0 n) (calledWith (call.Refused n) ws es) y)
@@ -266,7 +266,7 @@ stores-refused l n ws st h e = h
 
 stores-done : (l : List ℕ) (k : ℕ) (ws st : List ℕ) → Stores l (adding.added (call.Accepted k) ws st)
 unfolding Stores
-stores-done l k ws st e = not-refused e
+stores-done l k ws st e = false-true e
 
 stores-code : (l : List ℕ) (n : ℕ) (ws st : List ℕ) (y : adding.Added) → Code l n → Stores l y → Stores l (pick (ltb 0 n) (adding.added (call.Refused n) ws st) y)
 unfolding Code
@@ -377,11 +377,11 @@ readies-refused ws e = refl
 
 collected-listed : (ws us : List ℕ) (n : ℕ) → Readies (readying.readied (readying.collected ws n) us)
 unfolding readying.collected Readies
-collected-listed ws us zero = λ e. not-refused e
+collected-listed ws us zero = λ e. false-true e
 collected-listed ws us (suc n) = go (readying.pausedAt ws (knownAt ws n .place)) (collected-listed ws us n)
   where
     go : (b : Bool) → Readies (readying.readied (readying.collected ws n) us) → Readies (readying.readied (pick b (readying.oneMore (readying.collected ws n) (knownAt ws n .id .0)) (readying.collected ws n)) us)
-    go true f = λ e. not-refused e
+    go true f = λ e. false-true e
     go false f = f
 
 ready-listed : (ws : List ℕ) → Readies (readying.ready ws)
@@ -395,7 +395,7 @@ Asks r = numberRefused r ≡ true → among (numberNumber r) (16 ∷ []) ≡ tru
 
 asked-listed : (f : OutgoingStream → ℕ) (x : Looked) → Asks (asked f x)
 unfolding Asks
-asked-listed f (looked.Stream s) e = not-refused e
+asked-listed f (looked.Stream s) e = false-true e
 asked-listed f looked.Broken e = refl
 
 unfoldable Tells : Flag → Type 0
@@ -411,7 +411,7 @@ tells-refused e = refl
 
 tells-value : (b : Bool) → Tells (flags.Value b)
 unfolding Tells
-tells-value b e = not-refused e
+tells-value b e = false-true e
 
 waits-listed : (x : Peeked) → Tells (waits x)
 waits-listed (peeked.At i) = tells-value true
@@ -436,7 +436,7 @@ count-listed ws = go (readying.ready ws .answer .answer) (ready-listed ws)
   where
     go : (a : Call) → (callRefused a ≡ true → among (callNumber a) (16 ∷ []) ≡ true)
         → numberRefused (readying.countOf a (readying.ready ws .answer .count)) ≡ true → among (numberNumber (readying.countOf a (readying.ready ws .answer .count))) (16 ∷ []) ≡ true
-    go (call.Accepted k) f e = not-refused e
+    go (call.Accepted k) f e = false-true e
     go (call.Refused n) f e = f e
 
 priority-asked : (ws : List ℕ) (id : ℕ) → Asks (priorityOf ws id)
@@ -472,7 +472,7 @@ module _ (l : List ℕ) (has : among 16 l ≡ true) where
 
   sends-nothing : (k : ℕ) (ws es bs : List ℕ) → Sends (producedWith (produced.Nothing k) ws es bs)
   unfolding Sends
-  sends-nothing k ws es bs e = not-refused e
+  sends-nothing k ws es bs e = false-true e
 
   sends-code : (n : ℕ) (ws es bs : List ℕ) (y : ProducedWith) → Code l n → Sends y → Sends (pick (ltb 0 n) (refusedWith n ws es bs) y)
   unfolding Code
@@ -491,7 +491,7 @@ module _ (l : List ℕ) (has : among 16 l ≡ true) where
   -- a fragment that is not refused
   sends-fragment : (a : Produced) (ws es bs : List ℕ) → sentRefused a ≡ false → Sends (producedWith a ws es bs)
   unfolding Sends
-  sends-fragment a ws es bs f e = not-refused (sym f ∙ e)
+  sends-fragment a ws es bs f e = false-true (sym f ∙ e)
 
   sent-listed : (ws st es bs : List ℕ) (k at id row : ℕ) (s : OutgoingStream) (m : Item) (n : ℕ) → Sends (sent ws st es bs k at id row s m n)
   unfolding sent
@@ -623,8 +623,8 @@ finished-listed r h = go (eqb (r .chunks) 0) (ltb 0 (r .code)) refl
     go : (a b : Bool) → ltb 0 (r .code) ≡ b
         → let x = pick a (pick b (packet.Refused (r .code)) (packet.Filled (r .events) 0 0)) (packet.Filled (r .events) (r .used) (r .chunks)) in fillRefused x ≡ true → among (filledNumber x) packing ≡ true
     go true true e f = coded (r .code) h e
-    go true false e f = not-refused f
-    go false b e f = not-refused f
+    go true false e f = false-true f
+    go false b e f = false-true f
 
 fills-listed : (turns : ℕ) (k : ChunkKind) (st : List ℕ) (time limit most : ℕ) (ws es bs : List ℕ) (used j chunks tsn : ℕ) → Ends (fillOn turns k st time limit most ws es bs used j chunks tsn)
 unfolding fillOn
@@ -682,10 +682,10 @@ refusals-listed (restore time image) s e = restore-listed (s .words) (s .store) 
 refusals-listed (ask-priority id) s e = priority-asked (s .words) id e
 refusals-listed (ask-amount id) s e = amount-asked (s .words) id e
 refusals-listed (ask-threshold id) s e = threshold-asked (s .words) id e
-refusals-listed ask-total s e = not-refused e
-refusals-listed ask-empty s e = not-refused e
+refusals-listed ask-total s e = false-true e
+refusals-listed ask-empty s e = false-true e
 refusals-listed ask-has-data s e = data-asked (s .words) e
 refusals-listed ask-streams-ready s e = streams-listed (s .words) e
 refusals-listed ask-ready-count s e = count-listed (s .words) e
-refusals-listed ask-readiness s e = not-refused e
-refusals-listed (ask-room r) s e = not-refused e
+refusals-listed ask-readiness s e = false-true e
+refusals-listed (ask-room r) s e = false-true e

@@ -47,9 +47,7 @@ use Rattle.handover.specs.Restore as restoring
 use Rattle.queue_runs.specs.Calls.{add, produce, fill, discard, close, ready-ids, commit, rollback, reset, set-threshold, set-priority, set-interleaving, restore, ask-priority, ask-amount, ask-threshold, ask-total, ask-empty, ask-has-data, ask-streams-ready, ask-ready-count, ask-readiness, ask-room}
 use Rattle.queue_runs.specs.Run.{State, state, step}
 use Rattle.queue_runs.specs.Refusals.{callRefused, sentRefused, fillRefused, RefusedUnchanged}
-
-pub not-refused : {G : Type 0} → false ≡ true → G
-not-refused e = let z : _≡_ {A = ℕ} 0 1 = cc in absurd (omega arith)
+use Rattle.payload_store.proofs.Cases.{false-true}
 
 -- ---- calls that leave words
 
@@ -67,7 +65,7 @@ quiet-refused ws n e = refl
 
 quiet-done : (ws us : List ℕ) (k : ℕ) → Quiet ws (called (call.Accepted k) us)
 unfolding Quiet
-quiet-done ws us k e = not-refused e
+quiet-done ws us k e = false-true e
 
 reopen-stays : (z : Bool) (ws : List ℕ) → Quiet ws (reopen z ws)
 unfolding reopen
@@ -106,7 +104,7 @@ loud-refused ws es n e = (refl, refl)
 
 loud-done : (ws es us vs : List ℕ) (k : ℕ) → Loud ws es (calledWith (call.Accepted k) us vs)
 unfolding Loud
-loud-done ws es us vs k e = not-refused e
+loud-done ws es us vs k e = false-true e
 
 threshold-stays : (ws es : List ℕ) (id t : ℕ) → Loud ws es (setThreshold ws es id t)
 unfolding setThreshold
@@ -167,7 +165,7 @@ stores-refused ws st n e = (refl, refl)
 
 stores-done : (ws st us ut : List ℕ) (k : ℕ) → Stores ws st (adding.added (call.Accepted k) us ut)
 unfolding Stores
-stores-done ws st us ut k e = not-refused e
+stores-done ws st us ut k e = false-true e
 
 add-stays : (ws st : List ℕ) (time : ℕ) (m : Message) (bs : List ℕ) → Stores ws st (adding.add ws st time m bs)
 unfolding adding.add adding.addTo
@@ -204,20 +202,20 @@ ready-stays ws = go (readying.allPlacesFit ws (totalsAt ws .known))
 
     go : (b : Bool) → callRefused (pick b (readying.readied (readying.collected ws (totalsAt ws .known)) (readying.markedAll ws (totalsAt ws .known))) (readying.readied readying.refusedReady ws) .answer .answer) ≡ true
         → pick b (readying.readied (readying.collected ws (totalsAt ws .known)) (readying.markedAll ws (totalsAt ws .known))) (readying.readied readying.refusedReady ws) .next ≡ ws
-    go true e = not-refused (sym (collected-done (totalsAt ws .known)) ∙ e)
+    go true e = false-true (sym (collected-done (totalsAt ws .known)) ∙ e)
     go false e = refl
 
 -- ---- the next fragment
 
 sent-code : (r : Produced) → sentRefused r ≡ true → (n : ℕ) × (r ≡ produced.Refused n)
-sent-code (produced.Nothing k) e = not-refused e
-sent-code (produced.Fragment k d) e = not-refused e
+sent-code (produced.Nothing k) e = false-true e
+sent-code (produced.Fragment k d) e = false-true e
 sent-code (produced.Refused n) e = (n, refl)
 
 -- ---- filling a packet
 
 fill-code : (r : PacketFilled) → fillRefused r ≡ true → (n : ℕ) × (r ≡ packet.Refused n)
-fill-code (packet.Filled k bytes chunks) e = not-refused e
+fill-code (packet.Filled k bytes chunks) e = false-true e
 fill-code (packet.Refused n) e = (n, refl)
 
 -- ---- the theorem

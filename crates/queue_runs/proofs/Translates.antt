@@ -10,8 +10,7 @@ use lib.Dec.{T, eqb, ltb}
 use lib.Pow.{areBytes}
 use lib.ListN.{length, replicate, length-replicate}
 use Rattle.queue_words.specs.Flags.{pick}
-use Rattle.payload_store.proofs.Cases.{by-lt}
-use Rattle.queue_state.proofs.Splits.{by-index}
+use Rattle.payload_store.proofs.Cases.{by-index}
 use Rattle.queue_model.specs.Types as plain
 use Rattle.queue_model.specs.Types.{Queue, refuse}
 use Rattle.queue_model.specs.Demands as demands
@@ -42,6 +41,7 @@ use Rattle.queue_runs.specs.Calls as calls
 use Rattle.queue_runs.specs.Calls.{Call, callOf, areWords, Words, Typed}
 use Rattle.queue_runs.proofs.Tells.{Long}
 use Rattle.queue_runs.proofs.Images.{read-long, read-nil}
+use Rattle.queue_words.proofs.Finds.{by-lt}
 
 -- ------------------------------------------------------------------ what is to be shown
 

@@ -16,9 +16,9 @@ use Rattle.queue_words.specs.declared.active.ActiveStreamInfo.{ActiveStreamInfo
 use Rattle.queue_words.specs.declared.items.Item.{Item}
 use Rattle.queue_words.specs.declared.known.Found.the-variants as found
 use Rattle.queue_words.specs.declared.streams.OutgoingStream.{OutgoingStream}
-use Rattle.queue_words.proofs.Finds.{find-hit}
+use Rattle.queue_words.proofs.Finds.{find-hit, by-lt}
 use Rattle.payload_store.specs.Reading.{readCode}
-use Rattle.payload_store.proofs.Cases.{by-lt, pick-else}
+use Rattle.payload_store.proofs.Cases.{pick-else}
 use Rattle.stream_scheduler.specs.Words.{peekWords}
 use Rattle.stream_scheduler.specs.declared.Peeked.the-variants as peeked
 use Rattle.message_chains.specs.Amounts.{rest}

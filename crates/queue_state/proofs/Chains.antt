@@ -81,11 +81,6 @@ linked-append nx nx′ f p x xs l once hf ef el same =
     let l′ : Linked nx p (x ∷ xs ++ []) = subst (λ r. Linked nx p (x ∷ r)) (sym (append-nil xs)) l in
     linked-redirect nx nx′ p x xs [] (f ∷ []) l′ once (el, hf, ef) same
 
--- CUT: what hangs behind a first part
-pub linked-rest : (nx : ℕ → ℕ) (p x : ℕ) (xs rest : List ℕ) → Linked nx p (x ∷ xs ++ rest) → Linked nx (nx (lastOf x xs)) rest
-linked-rest nx p x [] rest l = l .2
-linked-rest nx p x (y ∷ ys) rest l = linked-rest nx (nx x) y ys rest (l .2)
-
 pub count-append : (x : ℕ) (ps qs : List ℕ) → count x (ps ++ qs) ≡ count x ps + count x qs
 count-append x [] qs = omega arith
 count-append x (y ∷ ys) qs = omega (arith, count-append x ys qs)
@@ -113,18 +108,10 @@ pub linked-le : (nx : ℕ → ℕ) (p : ℕ) (ps : List ℕ) → Linked nx p ps 
 linked-le nx p [] l = omega arith
 linked-le nx p (x ∷ xs) l = omega arith
 
-pub last-le : (nx : ℕ → ℕ) (p d : ℕ) (ps : List ℕ) → d ≤ 1024 → Linked nx p ps → lastOf d ps ≤ 1024
-last-le nx p d [] h l = h
-last-le nx p d (x ∷ xs) h l = last-le nx (nx x) x xs (omega arith) (l .2)
-
 -- the last place is the end only where the chain is empty
 pub last-lt : (nx : ℕ → ℕ) (p x : ℕ) (xs : List ℕ) → Linked nx p (x ∷ xs) → lastOf x xs < 1024
 last-lt nx p x [] l = l .1
 last-lt nx p x (y ∷ ys) l = last-lt nx (nx x) y ys (l .2)
-
-pub sum-bound : (g : ℕ → ℕ) (b : ℕ) (ps : List ℕ) → ((x : ℕ) → g x ≤ 4294967295) → sumOf g ps ≤ length ps * 4294967295
-sum-bound g b [] f = omega arith
-sum-bound g b (x ∷ xs) f = omega (arith, f x, sum-bound g b xs f)
 
 -- the last place is one of the chain's, if it is not the end
 pub last-member : (ps : List ℕ) → (lastOf 1024 ps ≡ 1024 → ⊥) → 1 ≤ count (lastOf 1024 ps) ps

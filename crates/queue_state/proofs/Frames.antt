@@ -24,7 +24,8 @@ use Rattle.queue_state.specs.Chains.{chain, Linked, lastOf, count, each,
 use Rattle.queue_state.specs.Model.{nextOf, itemOf, itemIn, streamOf, rowAt, itemsAt, streamIn, streamsIn, tab}
 use Rattle.queue_state.specs.Good.{Row, Shape}
 use Rattle.queue_state.proofs.Chains.{linked-frame, each-frame, linked-chain}
-use Rattle.queue_state.proofs.Splits.{row-short, total-has, by-index}
+use Rattle.queue_state.proofs.Splits.{row-short, total-has}
+use Rattle.payload_store.proofs.Cases.{by-index}
 
 -- The message in place x is as it was, and so is what is behind it.
 pub record Same (ws st ws′ st′ : List ℕ) (x : ℕ) : Type 0 where

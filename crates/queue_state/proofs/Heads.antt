@@ -31,10 +31,11 @@ use Rattle.queue_state.specs.Chains.{Linked, lastOf, count, sumOf, each}
 use Rattle.queue_state.specs.Model.{nextOf, itemIn, streamOf, rowAt, streamsIn}
 use Rattle.queue_state.specs.Good.{Row, Shape}
 use Rattle.queue_state.proofs.Chains.{hit-other, count-head, linked-frame, sum-frame, linked-le}
-use Rattle.queue_state.proofs.Splits.{by-index, far-tail, far-free, row-once, total-has}
+use Rattle.queue_state.proofs.Splits.{far-tail, far-free, row-once, total-has}
 use Rattle.queue_state.proofs.Frames.{Same, Kept, same-item, same-both, row-fits, free-fits, row-below, items-frame}
 use Rattle.queue_state.proofs.Releases.{Gone, gone}
 use Rattle.queue_state.proofs.Steps.{After, step}
+use Rattle.payload_store.proofs.Cases.{by-index}
 
 -- ---- a row stored: messages, payloads and the rest are the same
 

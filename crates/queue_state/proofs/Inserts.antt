@@ -22,7 +22,7 @@ use Rattle.queue_words.proofs.Laws
 use Rattle.queue_model.specs.Streams.{put-stream, stream-key}
 use Rattle.payload_store.specs.Words.{sizeOf, usedOf}
 use Rattle.payload_store.specs.Promise.{SamePlaces}
-use Rattle.payload_store.proofs.Cases.{by-lt}
+use Rattle.payload_store.proofs.Cases.{by-index}
 use Rattle.payload_store.proofs.Goods.{good-same, payload-kept}
 use Rattle.stream_scheduler.specs.Link.{GoodScheduler, modelScheduler}
 use Rattle.stream_scheduler.proofs.Link.{scheduler-same}
@@ -31,9 +31,10 @@ use Rattle.queue_state.specs.Chains.{count, sumOf, sumTo, total, each, S
 use Rattle.queue_state.specs.Model.{itemIn, streamOf, rowAt, streamIn, streamsIn, tab}
 use Rattle.queue_state.specs.Good.{Row, Shape}
 use Rattle.queue_state.proofs.Chains.{sum-frame}
-use Rattle.queue_state.proofs.Splits.{by-index, total-upto, total-agree}
+use Rattle.queue_state.proofs.Splits.{total-upto, total-agree}
 use Rattle.queue_state.proofs.Tabs.{tab-insert}
 use Rattle.queue_state.proofs.Frames.{Same, Kept, same-item, row-frame, free-frame, items-frame, stream-row, free-fits, row-fits, short, stream-key-in}
+use Rattle.queue_words.proofs.Finds.{by-lt}
 
 -- ------------------------------------------------------------------ an empty list put between
 

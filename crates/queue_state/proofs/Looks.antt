@@ -14,7 +14,7 @@ use Rattle.queue_words.specs.Known.{knownAt, idAt}
 use Rattle.queue_words.specs.Find.{findStream}
 use Rattle.queue_words.specs.declared.known.Found.{Found}
 use Rattle.queue_words.specs.declared.known.Found.the-variants.{At, Gap, Broken}
-use Rattle.queue_words.proofs.Finds.{find-at, find-gap, NotKnown}
+use Rattle.queue_words.proofs.Finds.{find-at, find-gap, NotKnown, by-lt}
 use Rattle.queue_model.specs.Logic.{is-some}
 use Rattle.queue_model.specs.Types.{Stream, Queue}
 use Rattle.queue_model.specs.Streams.{find-stream, stream-key, stream-at, new-stream, too-many}
@@ -24,11 +24,10 @@ use Rattle.queue_streams.specs.declared.known.Place.{Place}
 use Rattle.queue_streams.specs.declared.known.Place.the-variants as place
 use Rattle.queue_state.specs.Model.{rowAt, optionsOf, streamIn, streamsIn, model, tab}
 use Rattle.queue_state.specs.Good.{Shape}
-use Rattle.queue_state.proofs.Splits.{by-index}
 use Rattle.queue_state.proofs.Tabs.{tab-find, tab-none, tab-length}
 use Rattle.queue_state.proofs.Frames.{row-below, stream-key-in}
 use Rattle.queue_state.proofs.Steps.{rises}
-use Rattle.payload_store.proofs.Cases.{by-lt}
+use Rattle.payload_store.proofs.Cases.{by-index}
 
 -- A known stream, in position i; or a stream that belongs at position p.
 pub data Lookup (ws st : List ℕ) (id : ℕ) : Type 0 where

@@ -13,8 +13,8 @@ use Rattle.queue_model.specs.Amounts.{low-event, total-falls, stream-falls, lif
 use Rattle.queue_streams.specs.Events.{placeWords, eventWords, putEvent, written}
 use Rattle.message_chains.specs.Notes.{Notes, notes, noted, lowNoted, lifecycleNoted}
 use Rattle.message_chains.specs.Heads.{totalNotes, streamNotes, sentNotes, dropNotes}
-use Rattle.payload_store.proofs.Cases.{by-lt}
 use Rattle.queue_state.specs.Model.{optionsOf}
+use Rattle.queue_words.proofs.Finds.{by-lt}
 
 -- ---- the list
 

@@ -23,9 +23,10 @@ use Rattle.queue_state.specs.Chains.{count, each}
 use Rattle.queue_state.specs.Model.{nextOf, itemOf, itemIn, streamOf, rowAt, streamsIn}
 use Rattle.queue_state.specs.Good.{Shape}
 use Rattle.queue_state.proofs.Chains.{linked-frame, each-frame, sum-frame, absent}
-use Rattle.queue_state.proofs.Splits.{by-index, free-apart, row-once, far-tail}
+use Rattle.queue_state.proofs.Splits.{free-apart, row-once, far-tail}
 use Rattle.queue_state.proofs.Frames.{Same, Kept, same-item, free-frame, row-fits, free-fits, row-below}
 use Rattle.queue_state.proofs.Steps.{After, step}
+use Rattle.payload_store.proofs.Cases.{by-index}
 
 module _ (ws st : List ℕ) (g : Shape ws st) (i : ℕ) (hk : i < totalsAt ws .known) (x : ℕ) (hx : 1 ≤ count x (g .q i)) (m : Item) (fits : FitsItem m)
     (next-same : m .next ≡ itemAt ws x .next) (place-same : m .place ≡ itemAt ws x .place) (length-same : m .length ≡ itemAt ws x .length) where

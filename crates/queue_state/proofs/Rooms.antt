@@ -43,6 +43,8 @@ use Rattle.queue_state.proofs.Looks.{Lookup, known-at, new-at, lookup, 
 use Rattle.queue_state.proofs.Steps.{rises}
 use Rattle.queue_state.proofs.Tabs.{tab-rising}
 use Rattle.queue_state.proofs.Sums.{item-length}
+use Rattle.queue_state.proofs.Facts.{offset-is}
+use Rattle.queue_streams.proofs.Walk.{parameters-fit}
 
 -- ---- a table whose keys are all found in another is no longer than it
 
@@ -235,10 +237,6 @@ pub record Let (ws st : List ℕ) (g : Shape ws st) (us : List ℕ) (sc : Schedu
   pub scheduler : modelScheduler us ≡ sc
   pub known : AllKnown us st
 
-fits-parameters : (il : Bool) (p : ℕ) → p < 65536 → FitsParameters (parametersFor il p)
-fits-parameters true p h = h
-fits-parameters false p h = tt
-
 let-of : (ws st : List ℕ) (g : Shape ws st) (us : List ℕ) (sc : Scheduler) → Untouched ws us → GoodScheduler us → modelScheduler us ≡ sc → Listing (streamsIn ws st) (sc .active) → Let ws st g us sc
 let-of ws st g us sc u d e l =
     let m : Unmoved ws st g us = shape-scheduler ws st us g u d in
@@ -254,7 +252,7 @@ module _ (ws st : List ℕ) (g : Shape ws st) (a : AllKnown ws st) (id : ℕ) (k
   pub set-known : (bytes : ℕ) (il : Bool) (p : ℕ) → p < 65536 → Let ws st g ((setBytesRemaining ws id bytes (parametersFor il p)) .next) (set-bytes-remaining id bytes (weightOf (parametersFor il p)) (modelScheduler ws))
   set-known bytes il p h =
       let us : List ℕ = (setBytesRemaining ws id bytes (parametersFor il p)) .next in
-      let s : Steps ws (setBytesRemaining ws id bytes (parametersFor il p)) (set-bytes-remaining id bytes (weightOf (parametersFor il p)) (modelScheduler ws)) = set-link ws (g .schedules) id bytes (parametersFor il p) (known-fits-id ws st g id k) (fits-parameters il p h) (room-of ws st g a id k) in
+      let s : Steps ws (setBytesRemaining ws id bytes (parametersFor il p)) (set-bytes-remaining id bytes (weightOf (parametersFor il p)) (modelScheduler ws)) = set-link ws (g .schedules) id bytes (parametersFor il p) (known-fits-id ws st g id k) (parameters-fit il p h) (room-of ws st g a id k) in
       let-of ws st g us (set-bytes-remaining id bytes (weightOf (parametersFor il p)) (modelScheduler ws)) (untouched-set ws id bytes (parametersFor il p)) (s .step-good) (s .step-model)
       (listing-set (streamsIn ws st) id bytes (weightOf (parametersFor il p)) (modelScheduler ws) k a)
 
@@ -285,7 +283,7 @@ module _ (ws st : List ℕ) (g : Shape ws st) (a : AllKnown ws st) where
       → Let ws st g ((acceptLast ws i ((entryAt ws i) .stream-id) sent bytes (parametersFor il p)) .next) (set-bytes-remaining ((entryAt ws i) .stream-id) bytes (weightOf (parametersFor il p)) (accept (entryAt ws i) sent (modelScheduler ws)))
   last-known i sent bytes il p h le f =
       let id : ℕ = (entryAt ws i) .stream-id in
-      let s = last-link ws (g .schedules) i sent h bytes (parametersFor il p) (fits-parameters il p f) le in
+      let s = last-link ws (g .schedules) i sent h bytes (parametersFor il p) (parameters-fit il p f) le in
       let-of ws st g ((acceptLast ws i id sent bytes (parametersFor il p)) .next) (set-bytes-remaining id bytes (weightOf (parametersFor il p)) (accept (entryAt ws i) sent (modelScheduler ws))) (untouched-last ws i id sent bytes (parametersFor il p)) (s .step-good) (s .step-model)
       (listing-set (streamsIn ws st) id bytes (weightOf (parametersFor il p)) (accept (entryAt ws i) sent (modelScheduler ws)) (row-known i h) (listing-accept (streamsIn ws st) (entryAt ws i) sent (modelScheduler ws) (row-known i h) a))
 
@@ -299,10 +297,6 @@ size-cons : (i : plain.Item) (is : List plain.Item) → head-size (i ∷ is) ≡
 unfolding head-size
 size-cons i is = refl
 
-item-offset : (ws st : List ℕ) (x : ℕ) → (itemIn ws st x) .offset ≡ itemAt ws x .offset
-unfolding itemIn
-item-offset ws st x = refl
-
 pub head-is : (ws st : List ℕ) (g : Shape ws st) (first : ℕ) (ps : List ℕ) → Linked (nextOf ws) first ps → headSize ws first ≡ head-size (each (itemIn ws st) ps)
 unfolding headSize
 head-is ws st g first [] l = rw (le-ltb first 1024 (omega arith)) (sym size-nil)
@@ -310,7 +304,7 @@ head-is ws st g first (x ∷ xs) l =
     let e : first ≡ x = l .0 in
     let b : first < 1024 = omega (arith, l .1) in
     let n : length ((itemIn ws st x) .payload) ≡ sizeOf ws x = item-length ws st g x (l .1) in
-    rw (lt-ltb first 1024 b, size-cons (itemIn ws st x) (each (itemIn ws st) xs), n, item-offset ws st x, e)
+    rw (lt-ltb first 1024 b, size-cons (itemIn ws st x) (each (itemIn ws st) xs), n, offset-is ws st x, e)
 
 -- So a known stream is let wait as in the model: s is it, with its first message in the place `first`.
 pub reschedule-sized : (ws st : List ℕ) (g : Shape ws st) → AllKnown ws st → (il : Bool) (s : Stream) (first : ℕ) → KnownTo (streamsIn ws st) (s .id) → s .priority < 65536

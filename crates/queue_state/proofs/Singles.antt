@@ -16,7 +16,7 @@ use Rattle.queue_words.specs.declared.header.Totals.{Totals}
 use Rattle.queue_words.specs.declared.items.Item.{Item}
 use Rattle.queue_words.specs.declared.known.Known.{Known}
 use Rattle.queue_words.specs.declared.streams.OutgoingStream.{OutgoingStream}
-use Rattle.queue_words.proofs.Finds.{rising-same}
+use Rattle.queue_words.proofs.Finds.{rising-same, by-lt}
 use Rattle.queue_words.proofs.Laws
 use Rattle.queue_model.specs.Types.{Stream, Queue, Active, Scheduler}
 use Rattle.queue_model.specs.Types as plain
@@ -36,7 +36,6 @@ use Rattle.queue_state.proofs.Splits.{total-agree}
 use Rattle.queue_state.proofs.Tabs.{tab-same}
 use Rattle.queue_state.proofs.Frames.{Same, Kept, same-item, row-frame, free-frame, items-frame, stream-frame, row-fits, free-fits, short, row-below, stream-row, stream-is}
 use Rattle.queue_state.proofs.Steps.{Step, After, step}
-use Rattle.payload_store.proofs.Cases.{by-lt}
 
 -- ---- the model, put together from its parts
 

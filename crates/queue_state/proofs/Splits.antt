@@ -11,6 +11,8 @@ use lib.ListN.{length}
 use Rattle.queue_words.specs.Flags.{pick}
 use Rattle.queue_state.specs.Chains.{hit, count, upd, sumTo, total, one, range, Linked, Split}
 use Rattle.queue_state.proofs.Chains.{hit-same, hit-eq, hit-other, count-head, count-snoc, length-snoc}
+use Rattle.payload_store.proofs.Sums.{sum-same, sum-has, sum-both}
+use Rattle.payload_store.proofs.Cases.{by-index}
 
 pub upd-same : (q : ℕ → List ℕ) (i : ℕ) (v : List ℕ) → upd q i v i ≡ v
 unfolding upd
@@ -20,39 +22,12 @@ pub upd-other : (q : ℕ → List ℕ) (i : ℕ) (v : List ℕ) (j : ℕ) → (i
 unfolding upd
 upd-other q i v j ne = rw (ne-eqb i j ne)
 
--- by cases: is it the i-th
-pub by-index : {G : Type 0} (i j : ℕ) → (i ≡ j → G) → ((i ≡ j → ⊥) → G) → G
-by-index {G} i j f g = go (ℕ-discrete i j)
-  where
-    go : Dec (i ≡ j) → G
-    go (yes e) = f e
-    go (no ne) = g ne
-
-sum-same : (g g′ : ℕ → ℕ) (n : ℕ) → ((j : ℕ) → j < n → g′ j ≡ g j) → sumTo g′ n ≡ sumTo g n
-unfolding sumTo
-sum-same g g′ zero f = refl
-sum-same g g′ (suc n) f = rw (f n (omega arith), sum-same g g′ n (λ j h. f j (omega arith)))
-
 sum-one : (g g′ : ℕ → ℕ) (i n : ℕ) → i < n → ((j : ℕ) → (i ≡ j → ⊥) → g′ j ≡ g j) → sumTo g′ n + g i ≡ sumTo g n + g′ i
 unfolding sumTo
 sum-one g g′ i zero h f = absurd (omega arith)
 sum-one g g′ i (suc n) h f = by-index i n
     (λ e. let s : sumTo g′ n ≡ sumTo g n = sum-same g g′ n (λ j l. f j (λ z. omega arith)) in rw e (omega arith))
     (λ ne. omega (arith, f n ne, sum-one g g′ i n (omega arith) f))
-
-sum-has : (g : ℕ → ℕ) (i n : ℕ) → i < n → g i ≤ sumTo g n
-unfolding sumTo
-sum-has g i zero h = absurd (omega arith)
-sum-has g i (suc n) h = by-index i n (λ e. rw e (omega arith)) (λ ne. omega (arith, sum-has g i n (omega arith)))
-
-sum-two : (g : ℕ → ℕ) (i j n : ℕ) → i < n → j < n → (i ≡ j → ⊥) → g i + g j ≤ sumTo g n
-unfolding sumTo
-sum-two g i j zero h k ne = absurd (omega arith)
-sum-two g i j (suc n) h k ne = by-index i n
-    (λ e. let b : j < n = omega arith in rw e (omega (arith, sum-has g j n b)))
-    (λ ni. by-index j n
-    (λ e. let b : i < n = omega arith in rw e (omega (arith, sum-has g i n b)))
-    (λ nj. omega (arith, sum-two g i j n (omega arith) (omega arith) ne)))
 
 module _ (h : List ℕ → ℕ) (q : ℕ → List ℕ) where
   pub total-upd : (i : ℕ) (v : List ℕ) → i < 256 → total h (upd q i v) + h (q i) ≡ total h q + h v
@@ -67,7 +42,7 @@ module _ (h : List ℕ → ℕ) (q : ℕ → List ℕ) where
 
   pub total-two : (i j : ℕ) → i < 256 → j < 256 → (i ≡ j → ⊥) → h (q i) + h (q j) ≤ total h q
   unfolding total
-  total-two i j l k ne = sum-two (λ j. h (q j)) i j 256 l k ne
+  total-two i j l k ne = sum-both (λ j. h (q j)) i j 256 l k ne
 
 -- the same where the measure changes too, but not of the other lists
 pub total-change : (h h′ : List ℕ → ℕ) (q : ℕ → List ℕ) (i : ℕ) (v : List ℕ) → i < 256 → ((j : ℕ) → (i ≡ j → ⊥) → h′ (q j) ≡ h (q j)) → total h′ (upd q i v) + h (q i) ≡ total h q + h′ v
@@ -100,24 +75,6 @@ module _ (q : ℕ → List ℕ) (fr : List ℕ) (s : Split q fr) where
 
   pub row-short : (j : ℕ) → j < 256 → length (q j) ≤ 1024
   row-short j h = omega (arith, s .all, total-has length q j h)
-
--- GIVE: the first free place goes to the end of the i-th list
-pub split-give : (q : ℕ → List ℕ) (f : ℕ) (fr : List ℕ) (i : ℕ) → i < 256 → Split q (f ∷ fr) → Split (upd q i (q i ++ (f ∷ []))) fr
-split-give q f fr i h s = record {
-  once = λ x. omega (arith, s .once x, total-upd (count x) q i (q i ++ (f ∷ [])) h, count-snoc x f (q i));
-  all = omega (arith, s .all, total-upd length q i (q i ++ (f ∷ [])) h, length-snoc f (q i));
-}
-
--- TAKE: the first place of the i-th list goes to the free ones
-pub split-take : (q : ℕ → List ℕ) (x : ℕ) (xs fr : List ℕ) (i : ℕ) → i < 256 → q i ≡ x ∷ xs → Split q fr → Split (upd q i xs) (x ∷ fr)
-split-take q x xs fr i h e s = record {
-  once = λ y.
-      let k : count y (q i) ≡ hit y x + count y xs = ap (count y) e in
-      omega (arith, s .once y, total-upd (count y) q i xs h);
-  all =
-      let k : length (q i) ≡ suc (length xs) = ap length e in
-      omega (arith, s .all, total-upd length q i xs h);
-}
 
 -- FAR: places of different lists are different places
 module _ (q : ℕ → List ℕ) (fr : List ℕ) (s : Split q fr) where

@@ -31,11 +31,6 @@ unfolding tab sumTo
 tab-sum h f zero = refl
 tab-sum h f (suc n) = omega (arith, tab-sum h (λ j. f (suc j)) n, sum-front (λ j. h (f j)) n)
 
-pub tab-every : {A : Type 0} (P : A → Type 0) (f : ℕ → A) (n : ℕ) → ((j : ℕ) → j < n → P (f j)) → Every P (tab f n)
-unfolding tab
-tab-every P f zero h = tt
-tab-every P f (suc n) h = (h 0 (omega arith), tab-every P (λ j. f (suc j)) n (λ j l. h (suc j) (omega arith)))
-
 pub tab-each : {A : Type 0} (P : A → Type 0) (f : ℕ → A) (n j : ℕ) → Every P (tab f n) → j < n → P (f j)
 unfolding tab
 tab-each P f zero j h l = absurd (omega arith)

@@ -28,7 +28,7 @@ use Rattle.queue_streams.specs.declared.known.Place.{Place}
 use Rattle.queue_streams.specs.declared.known.Place.the-variants as place
 
 -- the count of loaded totals
-count-of : (ws : List ℕ) (t : Totals) → t ≡ totalsAt ws → knownCount ws ≡ t .known
+pub count-of : (ws : List ℕ) (t : Totals) → t ≡ totalsAt ws → knownCount ws ≡ t .known
 count-of ws t e = ap (λ (x : Totals). x .known) (sym e)
 
 -- ------------------------------------------------------------------ where a stream is

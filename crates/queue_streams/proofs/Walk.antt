@@ -194,7 +194,7 @@ pub none-passed : (state : PauseState) → passedOver true state ≡ false
 unfolding passedOver
 none-passed state = refl
 
-parameters-fit : (il : Bool) (p : ℕ) → p < 65536 → FitsParameters (parametersFor il p)
+pub parameters-fit : (il : Bool) (p : ℕ) → p < 65536 → FitsParameters (parametersFor il p)
 parameters-fit true p h = h
 parameters-fit false p h = tt
 

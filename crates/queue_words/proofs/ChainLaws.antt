@@ -7,6 +7,7 @@ use native.Mathlib.Omega.{arith, ne-cases}
 use lib.ListN.{length, set, length-set}
 use Rattle.queue_words.specs.Rows.{row}
 use Rattle.queue_words.specs.Header.{optionsOf, optionsAt, totalsOf, totalsAt, schedulerOf, schedulerAt}
+use Rattle.queue_words.specs.Leasts.{leastsAt}
 use Rattle.queue_words.specs.Known.{knownOf, knownAt}
 use Rattle.queue_words.specs.Streams.{streamOf, streamAt, putChain, withChain}
 use Rattle.queue_words.specs.Items.{itemOf, itemAt}
@@ -44,6 +45,10 @@ module _ (ws : List ℕ) (i amount first last : ℕ) where
   pub scheduler-put-chain : schedulerAt (putChain ws i amount first last) ≡ schedulerAt ws
   unfolding schedulerAt
   scheduler-put-chain = ap schedulerOf (others 18 3 (inr (omega arith)))
+
+  pub leasts-put-chain : leastsAt (putChain ws i amount first last) ≡ leastsAt ws
+  unfolding leastsAt
+  leasts-put-chain = others 21 11 (inr (omega arith))
 
   pub known-put-chain : (j : ℕ) → j < 256 → knownAt (putChain ws i amount first last) j ≡ knownAt ws j
   unfolding knownAt

@@ -37,7 +37,7 @@ by-pick : {A : Type 0} (P : A → Type 0) (b : Bool) {x y : A} → (b ≡ true �
 by-pick P true f g = f refl
 by-pick P false f g = g refl
 
-by-lt : {G : Type 0} (a b : ℕ) → (a < b → G) → (b ≤ a → G) → G
+pub by-lt : {G : Type 0} (a b : ℕ) → (a < b → G) → (b ≤ a → G) → G
 by-lt {G} a b f g = go (ltb a b) refl
   where
     go : (t : Bool) → ltb a b ≡ t → G
@@ -301,47 +301,6 @@ rising-same ws ls same e fits r i j h k =
     omega (arith, r i j h (omega arith))
 
 -- THE SEARCH AFTER A STORE ELSEWHERE
-
-pub find-put-options : (ws : List ℕ) (o : Options) (id : ℕ) → findStream (putOptions ws o) id ≡ findStream ws id
-find-put-options ws o id =
-    find-same ws (putOptions ws o) id (λ j h. known-put-options ws o j) (ap (λ (t : Totals). t .known) (totals-put-options ws o))
-
-pub find-put-scheduler : (ws : List ℕ) (s : SchedulerState) (id : ℕ) → findStream (putScheduler ws s) id ≡ findStream ws id
-find-put-scheduler ws s id =
-    find-same ws (putScheduler ws s) id (λ j h. known-put-scheduler ws s j) (ap (λ (t : Totals). t .known) (totals-put-scheduler ws s))
-
-pub find-put-stream : (ws : List ℕ) (i : ℕ) (s : OutgoingStream) (id : ℕ) → findStream (putStream ws i s) id ≡ findStream ws id
-find-put-stream ws i s id =
-    find-same ws (putStream ws i s) id (λ j h. known-put-stream ws i s j h) (ap (λ (t : Totals). t .known) (totals-put-stream ws i s))
-
-pub find-put-item : (ws : List ℕ) (i : ℕ) (m : Item) (id : ℕ) → findStream (putItem ws i m) id ≡ findStream ws id
-find-put-item ws i m id =
-    find-same ws (putItem ws i m) id (λ j h. known-put-item ws i m j h) (ap (λ (t : Totals). t .known) (totals-put-item ws i m))
-
-pub find-put-active : (ws : List ℕ) (i : ℕ) (a : ActiveStreamInfo) (id : ℕ) → findStream (putActive ws i a) id ≡ findStream ws id
-find-put-active ws i a id =
-    find-same ws (putActive ws i a) id (λ j h. known-put-active ws i a j h) (ap (λ (t : Totals). t .known) (totals-put-active ws i a))
-
-pub find-put-next : (ws : List ℕ) (i v : ℕ) (id : ℕ) → findStream (putNext ws i v) id ≡ findStream ws id
-find-put-next ws i v id =
-    find-same ws (putNext ws i v) id (λ j h. known-put-next ws i v j h) (ap (λ (t : Totals). t .known) (totals-put-next ws i v))
-
-pub find-put-place : (ws : List ℕ) (i v : ℕ) (id : ℕ) → findStream (putPlace ws i v) id ≡ findStream ws id
-find-put-place ws i v id =
-    find-same ws (putPlace ws i v) id (λ j h. known-put-place ws i v j h) (ap (λ (t : Totals). t .known) (totals-put-place ws i v))
-
-pub find-put-length : (ws : List ℕ) (i v : ℕ) (id : ℕ) → findStream (putLength ws i v) id ≡ findStream ws id
-find-put-length ws i v id =
-    find-same ws (putLength ws i v) id (λ j h. known-put-length ws i v j h) (ap (λ (t : Totals). t .known) (totals-put-length ws i v))
-
--- the count that is stored with the totals
-pub count-put-totals : (ws : List ℕ) (t : Totals) → length ws ≡ 20768 → knownCount (putTotals ws t) ≡ t .known
-unfolding totalsAt putTotals
-count-put-totals ws t l = ap (λ vs. getD vs 3 0) (row-put-same ws 7 (totalsWords t) (omega arith))
-
-pub find-put-totals : (ws : List ℕ) (t : Totals) (id : ℕ) → length ws ≡ 20768 → t .known ≡ knownCount ws
-    → findStream (putTotals ws t) id ≡ findStream ws id
-find-put-totals ws t id l e = find-same ws (putTotals ws t) id (λ j h. known-put-totals ws t j) (count-put-totals ws t l ∙ e)
 
 -- ------------------------------------------------------------------ the search without its tests
 

@@ -268,25 +268,9 @@ pub totals-put-options : (ws : List ℕ) (o : Options) → totalsAt (putOptions 
 unfolding totalsAt putOptions
 totals-put-options ws o = ap totalsOf (row-put-other ws 0 (optionsWords o) 7 11 (inl (omega arith)))
 
-pub scheduler-put-options : (ws : List ℕ) (o : Options) → schedulerAt (putOptions ws o) ≡ schedulerAt ws
-unfolding schedulerAt putOptions
-scheduler-put-options ws o = ap schedulerOf (row-put-other ws 0 (optionsWords o) 18 3 (inl (omega arith)))
-
 pub known-put-options : (ws : List ℕ) (o : Options) (j : ℕ) → knownAt (putOptions ws o) j ≡ knownAt ws j
 unfolding knownAt putOptions
 known-put-options ws o j = ap knownOf (row-put-other ws 0 (optionsWords o) (32 + j * 2) 2 (inl (omega arith)))
-
-pub stream-put-options : (ws : List ℕ) (o : Options) (j : ℕ) → streamAt (putOptions ws o) j ≡ streamAt ws j
-unfolding streamAt putOptions
-stream-put-options ws o j = ap streamOf (row-put-other ws 0 (optionsWords o) (544 + j * 10) 9 (inl (omega arith)))
-
-pub item-put-options : (ws : List ℕ) (o : Options) (j : ℕ) → itemAt (putOptions ws o) j ≡ itemAt ws j
-unfolding itemAt putOptions
-item-put-options ws o j = ap itemOf (row-put-other ws 0 (optionsWords o) (3104 + j * 16) 15 (inl (omega arith)))
-
-pub active-put-options : (ws : List ℕ) (o : Options) (j : ℕ) → activeAt (putOptions ws o) j ≡ activeAt ws j
-unfolding activeAt putOptions
-active-put-options ws o j = ap activeOf (row-put-other ws 0 (optionsWords o) (19488 + j * 5) 5 (inl (omega arith)))
 
 -- AFTER A STORE OF THE TOTALS
 
@@ -486,10 +470,6 @@ leasts-put-active ws i a l =
     leasts-at-put (activeIn ws i a) (groupOf i) stale (row-put-length ws (19488 + i * 5) (activeWords a) ∙ l) (omega arith)
     ∙ ap (λ vs. set vs (groupOf i) stale) (row-put-other ws (19488 + i * 5) (activeWords a) 21 11 (inr (omega arith)))
 
-pub leasts-put-options : (ws : List ℕ) (o : Options) → leastsAt (putOptions ws o) ≡ leastsAt ws
-unfolding leastsAt putOptions
-leasts-put-options ws o = row-put-other ws 0 (optionsWords o) 21 11 (inl (omega arith))
-
 pub leasts-put-totals : (ws : List ℕ) (t : Totals) → leastsAt (putTotals ws t) ≡ leastsAt ws
 unfolding leastsAt putTotals
 leasts-put-totals ws t = row-put-other ws 7 (totalsWords t) 21 11 (inl (omega arith))
@@ -633,17 +613,9 @@ pub length-put-next : (ws : List ℕ) (i v j : ℕ) → itemAt (putNext ws i v) 
 unfolding itemAt putNext
 length-put-next ws i v j = getD-set-other ws (3104 + i * 16 + 14) (3104 + j * 16 + 12) v 0 (λ e. omega arith)
 
-pub next-put-place : (ws : List ℕ) (i v j : ℕ) → itemAt (putPlace ws i v) j .next ≡ itemAt ws j .next
-unfolding itemAt putPlace
-next-put-place ws i v j = getD-set-other ws (3104 + i * 16 + 11) (3104 + j * 16 + 14) v 0 (λ e. omega arith)
-
 pub length-put-place : (ws : List ℕ) (i v j : ℕ) → itemAt (putPlace ws i v) j .length ≡ itemAt ws j .length
 unfolding itemAt putPlace
 length-put-place ws i v j = getD-set-other ws (3104 + i * 16 + 11) (3104 + j * 16 + 12) v 0 (λ e. omega arith)
-
-pub next-put-length : (ws : List ℕ) (i v j : ℕ) → itemAt (putLength ws i v) j .next ≡ itemAt ws j .next
-unfolding itemAt putLength
-next-put-length ws i v j = getD-set-other ws (3104 + i * 16 + 12) (3104 + j * 16 + 14) v 0 (λ e. omega arith)
 
 pub place-put-length : (ws : List ℕ) (i v j : ℕ) → itemAt (putLength ws i v) j .place ≡ itemAt ws j .place
 unfolding itemAt putLength

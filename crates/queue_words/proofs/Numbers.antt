@@ -37,12 +37,6 @@ pub parameters-of-word : (p : SchedulingParameters) → ((w : ℕ) → p ≡ Wei
 parameters-of-word RoundRobin f = refl
 parameters-of-word (WeightedFairQueuing w) f = rw (lt-ltb _ _ (f w refl))
 
-pub parameters-of-weight : (w : ℕ) → w < 65536 → parametersOf w ≡ WeightedFairQueuing w
-parameters-of-weight w h = rw (lt-ltb _ _ h)
-
-pub parameters-word-of : (w : ℕ) → w < 65536 → parametersWord (parametersOf w) ≡ w
-parameters-word-of w h = rw (lt-ltb _ _ h)
-
 -- ---- the remembered stream
 
 pub remembered-of-word : (r : Remembered) → FitsRemembered r → rememberedOf (rememberedWord r) ≡ r

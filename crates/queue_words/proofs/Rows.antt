@@ -17,7 +17,7 @@ length-putFrom (v ∷ vs) ws at k = length-putFrom vs (set ws (at + k) v) at (su
 abbrev Out : ℕ → ℕ → ℕ → Type 0
 Out j a n = (j < a) ⊎ (a + n ≤ j)
 
-out-getD : (vs ws : List ℕ) (at k j : ℕ) → Out j (at + k) (length vs) → getD (putFrom ws at k vs) j 0 ≡ getD ws j 0
+pub out-getD : (vs ws : List ℕ) (at k j : ℕ) → Out j (at + k) (length vs) → getD (putFrom ws at k vs) j 0 ≡ getD ws j 0
 out-getD [] ws at k j o = refl
 out-getD (v ∷ vs) ws at k j o =
     out-getD vs (set ws (at + k) v) at (suc k) j (⊎-elim (λ l. inl (omega arith)) (λ l. inr (omega arith)) o)

@@ -9,8 +9,6 @@ const BASE: usize = 21;
 
 pub const GROUP: usize = 24;
 
-pub const GROUPS: usize = 11;
-
 // The word of a stale group: no place in a group.
 pub const STALE: u64 = 24;
 

@@ -20,12 +20,10 @@ use Rattle.receiver_store.proofs.Exits.{read-ok}
 use Rattle.receiver_messages.specs.Walks.{partAfter}
 use Rattle.receiver_fragments.specs.declared.freeing.Measure.{Measure}
 use Rattle.receiver_fragments.specs.Freeing.{measure, measured, freeRow, HandedOut, handedOut, handOut}
+use Rattle.receiver_messages.proofs.Steps.{none-left}
 
 turn : (n : ℕ) → n < 4096 → 4096 - n ≡ suc (4096 - (n + 1))
 turn n h = omega arith
-
-no-turn : (n : ℕ) → 4096 ≤ n → 4096 - n ≡ 0
-no-turn n h = omega arith
 
 -- ------------------------------------------------------------------ measure: r is what the whole message measures
 
@@ -67,7 +65,7 @@ module _ (ws : List ℕ) (b : Bool) (i len left n place size : ℕ) (out : Bool)
 pub measure-end : (ws : List ℕ) (b : Bool) (i len left n : ℕ) (r : Measure) → 4096 ≤ n → measured (4096 - n) ws b i len left ≡ r → measure false left ≡ r
 unfolding measured
 measure-end ws b i len left n r h inv =
-    let w : measured (4096 - n) ws b i len left ≡ measure false left = rw (no-turn n h) in
+    let w : measured (4096 - n) ws b i len left ≡ measure false left = rw (none-left n h) in
     sym w ∙ inv
 
 -- ------------------------------------------------------------------ hand_out: r is what the whole message leaves
@@ -123,5 +121,5 @@ module _ (ws st out ws′ out′ : List ℕ) (b : Bool) (i at n : ℕ) (f : Frag
 pub hand-end : (ws st out : List ℕ) (b : Bool) (i at n : ℕ) (r : HandedOut) → 4096 ≤ n → handOut (4096 - n) ws st out b i at ≡ r → handedOut ws out ≡ r
 unfolding handOut
 hand-end ws st out b i at n r h inv =
-    let w : handOut (4096 - n) ws st out b i at ≡ handedOut ws out = rw (no-turn n h) in
+    let w : handOut (4096 - n) ws st out b i at ≡ handedOut ws out = rw (none-left n h) in
     sym w ∙ inv

@@ -15,7 +15,7 @@ use Rattle.receiver_messages.specs.Readiness.{Turned, turned, takeMessag
 left : (n : ℕ) → n < 4096 → 4096 - n ≡ suc (4096 - (n + 1))
 left n h = omega arith
 
-none-left : (n : ℕ) → 4096 ≤ n → 4096 - n ≡ 0
+pub none-left : (n : ℕ) → 4096 ≤ n → 4096 - n ≡ 0
 none-left n h = omega arith
 
 -- ------------------------------------------------------------------ reaches_last: r is what the whole walk finds

@@ -17,7 +17,7 @@ use Rattle.receiver_model.specs.Fetch as fetching
 use Rattle.receiver_model.specs.Fetch.{as-message, with-ready, fetch-from}
 use Rattle.receiver_model.specs.Run.{Call, receive, fetch, step, after}
 use Rattle.receiver_model.proofs.AnyCalls.{Change, stays, accepts, takes, change-receive, change-fetch}
-use Rattle.receiver_model.proofs.Bounds.{Bounded, always-bounded}
+use Rattle.receiver_model.proofs.Bounds.{Bounded, always-bounded, settle-store}
 use Rattle.receiver_model.proofs.Window.{Window, TypedTsn, TypedTsns, always-window}
 
 -- ------------------------------------------------------------------ reached receivers
@@ -61,14 +61,9 @@ came-bounded r v = subst Bounded (v .is) (always-bounded (v .kind) (v .store) (v
 
 -- ------------------------------------------------------------------ kind and store
 
-settle-same : (c : Chunk) (p : Passed) (r : Receiver) (cs : List Chunk) (o : Option Assembled) → (settle c p r cs o) .store-length ≡ r .store-length
-unfolding settle
-settle-same c p r cs none = refl
-settle-same c p r cs (some a) = refl
-
 accept-same : (c : Chunk) (r : Receiver) → (accept c r) .store-length ≡ r .store-length
 unfolding accept
-accept-same c r = settle-same c (pass (suc (length (r .ahead))) (r .last-tsn) (c .tsn ∷ r .ahead)) r (c ∷ r .loose) (whole-among (r .kind) (c ∷ r .loose) (c ∷ r .loose))
+accept-same c r = settle-store c (pass (suc (length (r .ahead))) (r .last-tsn) (c .tsn ∷ r .ahead)) r (c ∷ r .loose) (whole-among (r .kind) (c ∷ r .loose) (c ∷ r .loose))
 
 changed : (r q : Receiver) → Change r q → q .store-length ≡ r .store-length
 changed r q (stays e) = ap (λ (x : Receiver). x .store-length) e

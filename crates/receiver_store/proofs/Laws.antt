@@ -8,7 +8,6 @@ use lib.ListN.{length, getD, take, drop, length-drop}
 use lib.Seq.{length-take-le}
 use Rattle.queue_words.specs.Flags.{pick}
 use Rattle.payload_store.specs.Putting.{Outcome, outcome, written}
-use Rattle.payload_store.proofs.Cases.{by-lt}
 use Rattle.payload_store.proofs.Puts.{written-length, written-below, written-part}
 use Rattle.queue_model.specs.Table.{sum-by}
 use Rattle.receiver_model.specs.Lists.{count, same-list}
@@ -30,6 +29,7 @@ use Rattle.receiver_store.proofs.Lies.{in-lies}
 use Rattle.receiver_store.proofs.Exits.{put-refused, put-at-end, put-packed}
 use Rattle.receiver_store.proofs.Orders.{sum-same, sum-without, below-in, below-without, below-frame}
 use Rattle.receiver_store.proofs.Packs.{payload-same, payload-words, used-in, packed-law, pack-code-zero}
+use Rattle.queue_words.proofs.Finds.{by-lt}
 
 -- ------------------------------------------------------------------ what other changes leave
 

@@ -28,10 +28,6 @@ pub length-onto : (xs ys : List ℕ) → length (onto xs ys) ≡ length xs + len
 length-onto [] ys = omega arith
 length-onto (x ∷ xs) ys = let ih = length-onto xs (x ∷ ys) in omega arith
 
-pub sum-onto : (g : ℕ → ℕ) (xs ys : List ℕ) → sum-by g (onto xs ys) ≡ sum-by g xs + sum-by g ys
-sum-onto g [] ys = omega arith
-sum-onto g (x ∷ xs) ys = let ih = sum-onto g xs (x ∷ ys) in omega arith
-
 pub sum-same : (g g′ : ℕ → ℕ) (xs : List ℕ) → ((x : ℕ) → 0 < count x xs → g′ x ≡ g x) → sum-by g′ xs ≡ sum-by g xs
 sum-same g g′ [] f = refl
 sum-same g g′ (x ∷ xs) f =

@@ -9,7 +9,6 @@ use borrow.Author.Tests.{le-leb, lt-leb, eq-eqb, ne-eqb}
 use lib.ListN.{length, getD}
 use Rattle.payload_store.specs.Moving.{moved, Pack, pack}
 use Rattle.payload_store.specs.Putting.{Outcome, outcome}
-use Rattle.payload_store.proofs.Cases.{by-lt}
 use Rattle.payload_store.proofs.Moves.{moved-length, moved-other, moved-at, part-same}
 use Rattle.queue_model.specs.Table.{sum-by}
 use Rattle.receiver_model.specs.Lists.{count}
@@ -32,6 +31,7 @@ use Rattle.receiver_store.specs.Promise.{Packed}
 use Rattle.receiver_store.proofs.Lies.{in-lies}
 use Rattle.receiver_store.proofs.Exits.{rows-kept, goal-above, goal-room}
 use Rattle.receiver_store.proofs.Orders.{onto, count-onto, length-onto, sum-same, Rising, rising-low, rising-end, rising-in, rising-onto, below-sum, below-in, below-frame, rising-frame}
+use Rattle.queue_words.proofs.Finds.{by-lt}
 
 -- a row's payload is the same by its bytes
 pub payload-same : (ws st ws′ st′ : List ℕ) (i : ℕ) → sizeOf ws′ i ≡ sizeOf ws i → placeOf ws i + sizeOf ws i ≤ length st → placeOf ws′ i + sizeOf ws i ≤ length st′

@@ -10,7 +10,7 @@ use Rattle.queue_model.specs.Bytes.{number-bytes, row-bytes, width}
 use Rattle.queue_model.proofs.Image.ByteRows.{length-number-bytes}
 use Rattle.big_endian.specs.Numbers.{wrote}
 use Rattle.big_endian.proofs.Halves.{wrote-length, wrote-twice}
-use Rattle.big_endian.proofs.Rows.{row-wrote, row-length}
+use Rattle.big_endian.proofs.Rows.{row-wrote, row-length, wrote-none}
 use Rattle.queue_model.specs.Chunks.{padding}
 use Rattle.reset_model.specs.Wire.{re-config, outgoing-request, parameter-length, chunk-length, request-size, id-bytes, request-widths, request-head, request-bytes}
 
@@ -68,10 +68,6 @@ ids-snoc : (ks : List ℕ) (k : ℕ) → id-bytes (ks ++ (k ∷ [])) ≡ id-byte
 unfolding id-bytes number-bytes
 ids-snoc [] k = refl
 ids-snoc (j ∷ ks) k = ap (λ (l : List ℕ). number-bytes 2 j ++ l) (ids-snoc ks k) ∙ sym (append-assoc (number-bytes 2 j) (id-bytes ks) (number-bytes 2 k))
-
-wrote-none : (b : List ℕ) (at : ℕ) → b ≡ wrote b at []
-unfolding wrote
-wrote-none b at = let z : at + 0 ≡ at = omega arith in rw (z, take-append-drop)
 
 pub ids-start : (b ids : List ℕ) → b ≡ wrote b 20 (id-bytes (take 0 ids))
 unfolding id-bytes

@@ -13,14 +13,14 @@ use Rattle.queue_words.specs.Known.{idAt}
 use Rattle.queue_words.specs.Streams.{streamAt}
 use Rattle.queue_state.specs.Chains.{sumOf}
 use Rattle.queue_state.specs.Model.{rowAt}
-use Rattle.queue_state.proofs.Splits.{by-index}
-use Rattle.payload_store.proofs.Cases.{by-lt}
+use Rattle.payload_store.proofs.Cases.{false-true, by-index}
 use Rattle.saving.specs.declared.measuring.Tally.{Tally}
 use Rattle.saving.specs.Measure.{tallyStart, failed, isPlain, tallyStream, tallyFrom, tallyQueue}
 use Rattle.saving.specs.Sound.{placesAt, StreamOk, Sound}
 use Rattle.saving.specs.Bytes.{streamBytes, streamsFrom, chainBytes, messagesFrom}
-use Rattle.saving.proofs.Passing.{pick-by, never, sizeAt, recordsOf, StreamPassed, stream-passed}
+use Rattle.saving.proofs.Passing.{pick-by, sizeAt, recordsOf, StreamPassed, stream-passed}
 use Rattle.saving.proofs.Lengths.{chain-long, plain-long, stream-long}
+use Rattle.queue_words.proofs.Finds.{by-lt}
 
 -- a stream's records have 14 bytes each
 pub records-long : (ws : List ℕ) (i : ℕ) → length (streamBytes ws i) ≡ recordsOf ws i * 14
@@ -79,7 +79,7 @@ pub passed : (ws st : List ℕ) (time : ℕ) → tallyQueue ws (length st) .ok �
 unfolding tallyQueue
 passed ws st time =
     pick-by (λ (u : Tally). u .ok ≡ true → Passed ws st time u) (ltb 256 (totalsAt ws .known)) (failed tallyStart) (tallyFrom ws (length st) tallyStart 0 (totalsAt ws .known))
-    (λ _ e. never e)
+    (λ _ e. false-true e)
     (λ h e. whole (ltb-false 256 (totalsAt ws .known) h) (from-passed ws st time tallyStart 0 (totalsAt ws .known) e))
   where
     whole : totalsAt ws .known ≤ 256 → FromPassed ws st time tallyStart 0 (totalsAt ws .known) (tallyFrom ws (length st) tallyStart 0 (totalsAt ws .known)) → Passed ws st time (tallyFrom ws (length st) tallyStart 0 (totalsAt ws .known))

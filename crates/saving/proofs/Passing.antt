@@ -19,6 +19,7 @@ use Rattle.queue_state.specs.Model.{nextOf, rowAt}
 use Rattle.saving.specs.declared.measuring.Tally.{Tally}
 use Rattle.saving.specs.Measure.{tally, tallyStart, failed, soundItem, tallyItem, tallyChain, ended, isPlain, tallyRow, tallyStream, tallyFrom, tallyQueue, Small}
 use Rattle.saving.specs.Sound.{ItemOk, AllOk, placesAt, StreamOk}
+use Rattle.payload_store.proofs.Cases.{false-true}
 
 -- ------------------------------------------------------------------ cases
 
@@ -26,12 +27,9 @@ pub pick-by : {A : Type 0} (G : A → Type 0) (b : Bool) (x y : A) → (b ≡ tr
 pick-by G true x y f g = f refl
 pick-by G false x y f g = g refl
 
-pub never : {G : Type 0} → false ≡ true → G
-never e = absurd (holds false e)
-
 picked : (b x : Bool) → pick b false x ≡ true → (b ≡ false) × (x ≡ true)
 picked false x e = (refl, e)
-picked true x e = never e
+picked true x e = false-true e
 
 -- ------------------------------------------------------------------ a message
 
@@ -185,7 +183,7 @@ chain-more ws len t f ih =
     item-by
     (λ (u : Tally). tallyChain ws len u f .ok ≡ true → ChainPassed ws len t (t .place ∷ chain (nextOf ws) (nextOf ws (t .place)) f) (tallyChain ws len u f)) t (itemAt ws (t .place)) len
     (λ o l w. joined (ih (advanced t (itemAt ws (t .place))) w) o)
-    (λ w. never (ih (failed t) w .was-ok))
+    (λ w. false-true (ih (failed t) w .was-ok))
   where
     joined : {ps : List ℕ} {u : Tally} → ChainPassed ws len (advanced t (itemAt ws (t .place))) ps u → ItemOk (itemAt ws (t .place)) len → ChainPassed ws len t (t .place ∷ ps) u
     joined r o = record { was-ok = r .was-ok; items = (o, r .items); count-is = omega (arith, r .count-is); bytes-is = omega (arith, r .bytes-is) }
@@ -224,7 +222,7 @@ stream-passed-by : (ws : List ℕ) (len i k : ℕ) (t : Tally) → rowAt ws i < 
 stream-passed-by ws len i k t h ek =
     ended-by (λ (u : Tally). u .ok ≡ true → StreamPassed ws len t i u) (tallyChain ws len v 1025)
     (λ _ e. from (chain-passed ws len v 1025 e))
-    (λ e. never e)
+    (λ e. false-true e)
   where
     v : Tally
     v = tally (t .ok) (streamAt ws (rowAt ws i) .first) (t .streams + k) (t .messages) (t .bytes)
@@ -241,7 +239,7 @@ stream-passed-by ws len i k t h ek =
 pub stream-passed : (ws : List ℕ) (len i : ℕ) (t : Tally) → tallyStream ws len i t .ok ≡ true → StreamPassed ws len t i (tallyStream ws len i t)
 stream-passed ws len i t =
     stream-by (λ (u : Tally). u .ok ≡ true → StreamPassed ws len t i u) ws len i t
-    (λ e. never e)
+    (λ e. false-true e)
     (λ h p. zero-more h p)
     (λ h p. stream-passed-by ws len i 1 t h (rw p))
   where

@@ -49,10 +49,6 @@ model-of ws l s as′ el es ea =
     ap (λ (x : SchedulerState). make ((optionsAt ws) .«payload_limit») (currentOf (x .current)) (x .«system_virtual_time») (tableOf (entryAt ws) (x .active))) es
     ∙ ap₂ (λ (x : ℕ) (y : List Active). make x (currentOf (s .current)) (s .«system_virtual_time») y) el ea
 
-model-parts : (ws : List ℕ) → modelScheduler ws ≡ make ((optionsAt ws) .«payload_limit») (currentOf ((schedulerAt ws) .current)) ((schedulerAt ws) .«system_virtual_time») (tableOf (entryAt ws) ((schedulerAt ws) .active))
-unfolding modelScheduler
-model-parts ws = refl
-
 -- ---- rows after a store
 
 pub entry-put : (ws : List ℕ) (i : ℕ) (a : ActiveStreamInfo) → length ws ≡ 20768 → i < 256 → FitsActive a → entryAt (putActive ws i a) i ≡ entryOf a

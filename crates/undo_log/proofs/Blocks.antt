@@ -13,18 +13,12 @@ use lib.ListN.{length, getD, set, drop, length-set}
 use lib.Seq.{getD-set-same, getD-set-other}
 use Rattle.queue_words.specs.Flags.{pick}
 use Rattle.queue_words.specs.Rows.{rowFrom, putFrom, row, putRow}
-use Rattle.queue_words.proofs.Rows.{row-put-length, row-put-same}
+use Rattle.queue_words.proofs.Rows.{row-put-length, row-put-same, out-getD}
 use Rattle.undo_log.specs.Log.{block, undoneBlock}
 
 -- index j is not among the n from a on
 abbrev pub Out : ℕ → ℕ → ℕ → Type 0
 Out j a n = (j < a) ⊎ (a + n ≤ j)
-
-pub out-getD : (vs ws : List ℕ) (at k j : ℕ) → Out j (at + k) (length vs) → getD (putFrom ws at k vs) j 0 ≡ getD ws j 0
-out-getD [] ws at k j o = refl
-out-getD (v ∷ vs) ws at k j o =
-    out-getD vs (set ws (at + k) v) at (suc k) j (⊎-elim (λ l. inl (omega arith)) (λ l. inr (omega arith)) o)
-    ∙ getD-set-other ws (at + k) j v 0 (λ e. ⊎-elim (λ l. omega arith) (λ l. omega arith) o)
 
 row-count : (n k : ℕ) (ws : List ℕ) (at : ℕ) → length (rowFrom ws at k n) ≡ n
 row-count zero k ws at = refl

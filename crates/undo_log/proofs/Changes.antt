@@ -23,7 +23,7 @@ use Rattle.queue_words.specs.declared.header.SchedulerState.{SchedulerState}
 use Rattle.queue_words.specs.declared.header.Totals.{Totals}
 use Rattle.queue_words.specs.declared.items.Item.{Item}
 use Rattle.queue_words.specs.declared.streams.OutgoingStream.{OutgoingStream}
-use Rattle.queue_words.proofs.Rows.{row-put-length}
+use Rattle.queue_words.proofs.Rows.{row-put-length, out-getD}
 use Rattle.active_table.specs.Rows.{seek, seekFrom}
 use Rattle.queue_model.specs.Logic.{if_then_else_}
 use Rattle.stream_scheduler.specs.Words.{Outcome, outcome, droppedRow, takenOut, removeStream, setIn, setBytesRemaining}
@@ -37,7 +37,7 @@ use Rattle.message_chains.specs.Dropping.{scheduledBehind, endPending, behindDr
 use Rattle.message_chains.specs.Heads.{headCode, released, headDropped, dropNotes}
 use Rattle.message_chains.specs.Notes.{Notes}
 use Rattle.undo_log.specs.Log.{header, waitingRow}
-use Rattle.undo_log.proofs.Blocks.{Out, out-getD, Agree, putBack, back-agree, Behind}
+use Rattle.undo_log.proofs.Blocks.{Out, Agree, putBack, back-agree, Behind}
 
 -- where the totals and the scheduler's state begin in the header (queue_words: specs/Header)
 abbrev totals : ℕ

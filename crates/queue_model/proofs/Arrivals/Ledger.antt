@@ -241,7 +241,7 @@ ready-view n s = go (s .pause-state) refl
     go paused e = rw e
     go resetting e = rw e
 
-ready-id : (s : Stream) → (paused-to-resetting s) .id ≡ s .id
+pub ready-id : (s : Stream) → (paused-to-resetting s) .id ≡ s .id
 unfolding paused-to-resetting
 ready-id s = go (is-paused s)
   where
@@ -273,7 +273,7 @@ reopened-view n z s = go (s .pause-state) refl
     go paused e = rw e
     go resetting e = rw e (opened-view n z (with-pause resetting s))
 
-reopened-id : (z : Bool) (s : Stream) → (reopened z s) .id ≡ s .id
+pub reopened-id : (z : Bool) (s : Stream) → (reopened z s) .id ≡ s .id
 unfolding reopened
 reopened-id z s = go (is-resetting s)
   where
@@ -297,7 +297,7 @@ reset-view : (strict : Bool) (n : ℕ) (s : Stream) → stream-view n (reset-str
 unfolding reset-stream reset-ledger
 reset-view strict n s = refl
 
-reset-id : (strict : Bool) (s : Stream) → (reset-stream strict s) .id ≡ s .id
+pub reset-id : (strict : Bool) (s : Stream) → (reset-stream strict s) .id ≡ s .id
 unfolding reset-stream
 reset-id strict s = refl
 

@@ -139,7 +139,7 @@ set-calm o il c s ss h =
     ∙ ap (λ (t : ℕ). calm-with o c (put-active (scheduled (o .payload-limit) (s .id) (weight-of il s) t (head-size (s .items))) (actives (o .payload-limit) il ss)))
     (start-zero (s .id) (actives (o .payload-limit) il ss) (actives-start (o .payload-limit) il ss))
 
-head-size-none : (is : List Item) → is ≡ [] → head-size is ≡ 0
+pub head-size-none : (is : List Item) → is ≡ [] → head-size is ≡ 0
 unfolding head-size
 head-size-none is e = ap head-size e
 

@@ -30,7 +30,7 @@ append-bytes (x ∷ xs) ys a b = both (ltb x 256) (areBytes xs) (areBytes (xs ++
     both true q r t f = f t
     both false q r t f = t
 
-number-are-bytes : (w n : ℕ) → T (areBytes (number-bytes w n))
+pub number-are-bytes : (w n : ℕ) → T (areBytes (number-bytes w n))
 unfolding number-bytes
 number-are-bytes zero n = tt
 number-are-bytes (suc w) n = and-intro (ltb ((n / 256 ^ w) % 256) 256) (areBytes (number-bytes w n)) (lt→ltb ((n / 256 ^ w) % 256) 256 (omega arith)) (number-are-bytes w n)

@@ -18,15 +18,15 @@ use Rattle.queue_model.proofs.Demand3.Restored.{blank}
 
 -- ---- a scheduler without streams
 
-none-listed : (il : Bool) (as′ : List Active) → Every (Listed il []) as′ → as′ ≡ []
+pub none-listed : (il : Bool) (as′ : List Active) → Every (Listed il []) as′ → as′ ≡ []
 none-listed il [] e = refl
 none-listed il (a ∷ as′) e = let z = size-unknown (a .stream-id) [] (find-nil stream-key (a .stream-id)) in let s = e .0 .sized in let p = e .0 .positive in absurd (omega arith)
 
-none-remembered : (c : Option ℕ) (as′ : List Active) → Remembers c as′ → as′ ≡ [] → c ≡ none
+pub none-remembered : (c : Option ℕ) (as′ : List Active) → Remembers c as′ → as′ ≡ [] → c ≡ none
 none-remembered none as′ r e = refl
 none-remembered (some k) as′ r e = absurd (not-in-nil active-key k (r .0) (ap (find-active k) (sym e) ∙ r .1))
 
-new-waits : (limit : ℕ) (il : Bool) (sc : Scheduler) → Waits limit (Listed il []) sc → sc ≡ new-scheduler limit
+pub new-waits : (limit : ℕ) (il : Bool) (sc : Scheduler) → Waits limit (Listed il []) sc → sc ≡ new-scheduler limit
 unfolding new-scheduler
 new-waits limit il sc w =
     let f : ℕ → Option ℕ → ℕ → List Active → Scheduler = λ l c t as′. record { payload-limit = l; current = c; system-time = t; active = as′ } in

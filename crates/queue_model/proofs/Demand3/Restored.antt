@@ -223,7 +223,7 @@ put-messages o now s i (x ∷ xs) a q e = elim (tri (x .id) (s .id)) [
       ∙ ap (λ (m : List MessageRecord). m ++ (message-record now (s .id) i ∷ [])) (sym z))
 ]
 
-stream-records-plain : (d : ℕ) (s : Stream) (ss : List Stream) → plain d (stream-record s) ≡ true → stream-records d (s ∷ ss) ≡ stream-records d ss
+pub stream-records-plain : (d : ℕ) (s : Stream) (ss : List Stream) → plain d (stream-record s) ≡ true → stream-records d (s ∷ ss) ≡ stream-records d ss
 unfolding stream-records
 stream-records-plain d s ss e = ap (λ (b : Bool). (if b then stream-records d ss else stream-record s ∷ stream-records d ss)) e
 

@@ -14,7 +14,7 @@ use Rattle.queue_model.proofs.Tests.{leb-true, leb-false, eqb-true}
 use Rattle.queue_model.proofs.Table.{Rising, rising-put, rising-without, Every, every-put, every-weaken, every-both}
 use Rattle.queue_model.proofs.Scheduler.{set-none, set-some}
 use Rattle.queue_model.proofs.Choice.{AtMost, sooner, level, least-below}
-use Rattle.queue_model.proofs.Invariant.Waits.{But, but-put, but-without, peek-in, scheduled-id}
+use Rattle.queue_model.proofs.Invariant.Waits.{But, but-put, but-without, peek-in, scheduled-id, rest-le}
 
 -- ---- the invariant
 
@@ -76,11 +76,6 @@ unfolding rest-time
 rest-fair limit t p [] e = tt
 rest-fair limit t p (a ∷ as′) e = e
 
-rest-fits : (t : ℕ) (as′ : List Active) → t ≤ max-word → rest-time t as′ ≤ max-word
-unfolding rest-time
-rest-fits t [] h = omega arith
-rest-fits t (a ∷ as′) h = h
-
 forget-none : (k : ℕ) (c : Option ℕ) → c ≡ none → forget k c ≡ none
 unfolding forget
 forget-none k c e = ap (forget k) e
@@ -94,7 +89,7 @@ unfolding remove-stream
 fair-remove limit p k sc l r h f e = record {
   limit-is = l;
   rises = rising-without active-key k (sc .active) r;
-  time-fits = rest-fits (sc .system-time) (without-active k (sc .active)) h;
+  time-fits = rest-le (sc .system-time) (without-active k (sc .active)) h;
   nobody = f;
   each = rest-fair limit (sc .system-time) p (without-active k (sc .active)) (but-without (Fair (sc .system-time) limit p) k (sc .active) e);
 }

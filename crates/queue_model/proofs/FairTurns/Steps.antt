@@ -129,7 +129,7 @@ unfolding any
 any-false test [] e = tt
 any-false test (x ∷ xs) e = (or-left (test x) (any test xs) e, any-false test xs (or-right (test x) (any test xs) e))
 
-not-true : (b : Bool) → not b ≡ true → b ≡ false
+pub not-true : (b : Bool) → not b ≡ true → b ≡ false
 not-true true e = sym e
 not-true false e = refl
 

@@ -19,6 +19,7 @@ use Rattle.queue_model.proofs.Checks.{Passed, all-passed, checked-past}
 use Rattle.queue_model.proofs.Fill.Calls.{fill-induct}
 use Rattle.queue_model.proofs.Fill.Sizes.{Past, past-checks}
 use Rattle.queue_model.specs.Calls
+use Rattle.queue_model.proofs.Invariant.Sends.{drop-in-options, handed-options}
 
 -- ---- the next fragment after events of earlier calls
 
@@ -77,20 +78,13 @@ PlainLook q broken = Unit {0}
 PlainLook q (dropped r ds) = r .options ≡ q .options
 PlainLook q (chosen a s i is) = Unit {0}
 
-plain-drop : (p : PauseState) (q : Queue) (s : Stream) (i : Item) (is : List Item) → (drop-in p q s i is) .options ≡ q .options
-unfolding drop-in drop-head
-plain-drop not-paused q s i is = refl
-plain-drop pending q s i is = refl
-plain-drop paused q s i is = refl
-plain-drop resetting q s i is = refl
-
 plain-look : (now : ℕ) (q : Queue) → PlainLook q (look now q)
 unfolding look look-for look-at look-expired
 plain-look now q = go (peek (q .scheduler))
   where
     two : (a : Active) (s : Stream) (i : Item) (is : List Item) (x y : Bool) → PlainLook q (if x then (if y then broken else dropped (drop-in (s .pause-state) q s i is) (drop-head-events q s i)) else chosen a s i is)
     two a s i is true true = tt
-    two a s i is true false = plain-drop (s .pause-state) q s i is
+    two a s i is true false = drop-in-options (s .pause-state) q s i is
     two a s i is false y = tt
 
     at-one : (a : Active) (h : Head) → PlainLook q (look-at now q a h)
@@ -100,14 +94,6 @@ plain-look now q = go (peek (q .scheduler))
     go : (x : Option Active) → PlainLook q (look-for now q x)
     go none = tt
     go (some a) = at-one a (head-of (find-stream (a .stream-id) (q .streams)))
-
-handed-plain : (q : Queue) (a : Active) (s : Stream) (i : Item) (is : List Item) (n : ℕ) → (handed-out q a s i is n) .options ≡ q .options
-unfolding handed-out handed-out-last handed-out-part
-handed-plain q a s i is n = go (eqb n (remaining i))
-  where
-    go : (b : Bool) → (if b then handed-out-last q a s i is n else handed-out-part q a s i is n) .options ≡ q .options
-    go true = refl
-    go false = refl
 
 after-plain : (again : Queue → List Event → Option Step) (size : ℕ) (q : Queue) (es : List Event) (l : Look) → PlainLook q l → ((r : Queue) (ds : List Event) → PlainMaybe r (again r ds)) → PlainMaybe q (after-look again size q es l)
 unfolding after-look hand-out
@@ -125,7 +111,7 @@ after-plain again size q es (chosen a s i is) f h = go (short-of-head q s i n)
 
     go : (b : Bool) → PlainMaybe q (if b then none else some (reply (fragment (make-fragment s ((numbered (s .counters) i) .item) n)) (es ++ sent-events q s n) (handed-out q a s i is n)))
     go true = tt
-    go false = record { plain-answer = refl; plain-options = handed-plain q a s i is n }
+    go false = record { plain-answer = refl; plain-options = handed-options q a s i is n }
 
 pass-plain : (turns now size : ℕ) (q : Queue) (es : List Event) → PlainMaybe q (pass-over turns now size q es)
 unfolding pass-over

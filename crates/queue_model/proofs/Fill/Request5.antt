@@ -32,7 +32,7 @@ gives-some size _ f (gives g l m) e =
     let h : g ≡ f = cc in (ap fragment h, subst (λ (x : Fragment). (1 ≤ length (x .bytes)) × (length (x .bytes) ≤ size)) h (l, m))
 gives-some size _ f waits-none e = let z : _≡_ {A = ℕ} 0 1 = cc in absurd (omega arith)
 
-gives-none : (size : ℕ) (a : Answer) → Gives size a → fragment-in a ≡ none → a ≡ nothing-waits
+pub gives-none : (size : ℕ) (a : Answer) → Gives size a → fragment-in a ≡ none → a ≡ nothing-waits
 gives-none size _ (gives g l m) e = let z : _≡_ {A = ℕ} 0 1 = cc in absurd (omega arith)
 gives-none size _ waits-none e = refl
 

@@ -176,7 +176,7 @@ only-right-of : (h : Handover) → only-right h ≡ only-if (handover-right h) (
 unfolding only-right
 only-right-of h = refl
 
-image-bytes-of : (h : Handover) → image-bytes h ≡ streams-bytes (h .streams) ++ (messages-bytes (h .messages) ++ row-bytes trailer-widths (trailer-row h))
+pub image-bytes-of : (h : Handover) → image-bytes h ≡ streams-bytes (h .streams) ++ (messages-bytes (h .messages) ++ row-bytes trailer-widths (trailer-row h))
 unfolding image-bytes
 image-bytes-of h = refl
 
@@ -201,7 +201,7 @@ agrees t bs h =
     parts : Bool
     parts = eqb (getD t 6 0) (14 * getD t 2 0)
 
-trailer-row-of : (h : Handover) → trailer-row h ≡ h .next-message-id ∷ h .default-priority ∷ length (h .streams) ∷ length (h .messages) ∷ 1 ∷ length (messages-bytes (h .messages)) ∷ length (streams-bytes (h .streams)) ∷ []
+pub trailer-row-of : (h : Handover) → trailer-row h ≡ h .next-message-id ∷ h .default-priority ∷ length (h .streams) ∷ length (h .messages) ∷ 1 ∷ length (messages-bytes (h .messages)) ∷ length (streams-bytes (h .streams)) ∷ []
 unfolding trailer-row
 trailer-row-of h = refl
 

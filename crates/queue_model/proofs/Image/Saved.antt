@@ -19,6 +19,7 @@ use Rattle.queue_model.proofs.Image.ByteRows.{and-intro, length-row-byt
 use Rattle.queue_model.proofs.Image.ReadWrite.{read-image-bytes, length-streams-bytes, messages-bytes-cons, message-bytes-of, messages-bytes-nil}
 use Rattle.queue_model.proofs.Invariant.Messages.{WellItem, WellRest, WellItems, WellStream, AllWell, WellQueue}
 use Rattle.queue_model.proofs.Demand3.Restored.{message-records-cons, message-records-nil}
+use Rattle.queue_model.proofs.Tests.{holds}
 
 -- ---- the flags
 
@@ -150,9 +151,6 @@ rest-right : (now k : ℕ) (is : List Item) (rs : List MessageRecord) → WellRe
 rest-right now k [] rs w t = t
 rest-right now k (i ∷ is) rs w t =
     record-after now k k i (map (message-record now k) is ++ rs) (omega arith) (message-keeps (ltb k k) now k i (w .0) (λ e. absurd (none-given (i .mid) (w .1 .0) e))) (rest-right now k is rs (w .1 .1) t)
-
-test-true : (b : Bool) → b ≡ true → T b
-test-true b e = subst T (sym e) tt
 
 -- Items of a stream by cases, with their well-formedness.
 records-after : (now j : ℕ) (ss : List Stream) → After stream-key j ss → Rising stream-key ss → AllWell ss → T (messages-right-after j (message-records now ss))

@@ -30,6 +30,7 @@ use Rattle.queue_model.proofs.Invariant.Fine.{Fine, fine-checked, all-r
 use Rattle.queue_model.proofs.Invariant.Recalls.{recall-kept}
 use Rattle.queue_model.proofs.Demand3.Restored.{Rules, rules, first-mid, give-none, Quiet, quiet-up, quiet-put, bases}
 use Rattle.queue_model.specs.Restore
+use Rattle.queue_model.proofs.Slips.{no-mid-restored}
 
 -- ---- payloads of an image are bytes
 
@@ -83,10 +84,6 @@ restored-well now r h u f b =
       bytes = b;
     }
 
-restored-mid : (now : ℕ) (r : MessageRecord) → has-flag 2 (r .flags) ≡ false → (restored-item now r) .mid ≡ none
-unfolding restored-item give
-restored-mid now r e = ap (λ (b : Bool). give b (r .mid)) e
-
 quiet-find : (k j : ℕ) (ss : List Stream) → k < j → Quiet k ss → Every (λ s. s .id ≡ j → s .items ≡ []) ss
 quiet-find k j [] h q = tt
 quiet-find k j (s ∷ ss) h q = ((λ e. q .0 (omega arith)), quiet-find k j ss h (q .1))
@@ -114,7 +111,7 @@ module _ (o : Options) (creation : Created o) (now : ℕ) (early : now ≤ max-t
         priority-fits = k .priority-fits;
         threshold-fits = k .threshold-fits;
         counters-fit = k .counters-fit;
-        well-items = well-snoc (s .items) i (k .well-items) (restored-well now r early u f b) (λ e. restored-mid now r (n e));
+        well-items = well-snoc (s .items) i (k .well-items) (restored-well now r early u f b) (λ e. no-mid-restored now r (n e));
         counted = omega arith;
       } in
       record { in-order = rising-put stream-key (with-message s i) ss (g .in-order); all-kept = every-put stream-key Kept (with-message s i) ss v (g .all-kept) }

@@ -150,7 +150,7 @@ recalled-at q k a = every-at (Recalled (q .scheduler .current)) (q .options) k (
 
 -- ---- add
 
-snoc-positive : (is : List Item) (i : Item) → WellItems is → 0 < remaining i → 0 < head-size (is ++ (i ∷ []))
+pub snoc-positive : (is : List Item) (i : Item) → WellItems is → 0 < remaining i → 0 < head-size (is ++ (i ∷ []))
 unfolding head-size
 snoc-positive [] i w h = h
 snoc-positive (j ∷ is) i w h = let u = w .0 .unsent in omega arith

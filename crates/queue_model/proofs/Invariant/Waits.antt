@@ -110,7 +110,7 @@ forget-fits k (some c) h = go (eqb c k)
     go true = omega arith
     go false = h
 
-rest-le : (t : ℕ) (as′ : List Active) → t ≤ max-word → rest-time t as′ ≤ max-word
+pub rest-le : (t : ℕ) (as′ : List Active) → t ≤ max-word → rest-time t as′ ≤ max-word
 unfolding rest-time
 rest-le t [] h = omega arith
 rest-le t (a ∷ as′) h = h
