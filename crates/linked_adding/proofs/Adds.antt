@@ -36,6 +36,7 @@ use Rattle.stream_scheduler.specs.Link.{modelScheduler}
 use Rattle.stream_scheduler.specs.Link as link
 use Rattle.queue_streams.specs.Known.{newStream, lookUp, inserted}
 use Rattle.queue_streams.specs.declared.answers.Call.the-variants.{Accepted, Refused}
+use Rattle.queue_streams.specs.declared.known.Place.{Place}
 use Rattle.queue_streams.specs.declared.known.Place.the-variants as place
 use Rattle.queue_state.specs.Chains.{each}
 use Rattle.queue_state.specs.Model.{nextOf, itemIn, pauseOf, streamOf, rowAt, optionsOf, streamIn, streamsIn, model}
@@ -114,11 +115,11 @@ no-overflow q s n a b = rw (le-ltb 18446744073709551615 (q .total + n) a, le-ltb
 -- ---- the call
 
 -- What an accepted message has passed.
-record Passed (ws st : List ℕ) (bs : List ℕ) : Type 0 where
-  some-bytes : 1 ≤ length bs
-  few-bytes : length bs ≤ 262144
-  room-left : usedOf ws + length bs ≤ length st
-  place-left : totalsAt ws .waiting < 1024
+pub record Passed (ws st : List ℕ) (bs : List ℕ) : Type 0 where
+  pub some-bytes : 1 ≤ length bs
+  pub few-bytes : length bs ≤ 262144
+  pub room-left : usedOf ws + length bs ≤ length st
+  pub place-left : totalsAt ws .waiting < 1024
 
 arguments-past : (a b : Bool) (n : ℕ) → ltb 0 (argumentsBy a b (ltb n 1) (ltb 262144 n)) ≡ false → (1 ≤ n) × (n ≤ 262144)
 arguments-past a b n e = go a b (ltb n 1) refl (ltb 262144 n) refl e
@@ -217,6 +218,11 @@ module _ (ws st : List ℕ) (g : Good ws st) (time : ℕ) (m : Message) (bs : Li
         let z : g .shape .q i ≡ [] = linked-none (nextOf ws) (streamAt ws (rowAt ws i) .first) (g .shape .q i) (g .shape .rows i hk .linked) k in
         idle-model (ap (λ (x : Stream). x .items) (at-is ∙ stream-is ws st (g .shape) i hk) ∙ ap (each (itemIn ws st)) z)
 
+    known-unbroken : Passed ws st bs → brokenCode ws (length st) (streamAt ws (rowAt ws i)) (length bs) ≡ 0
+    known-unbroken p =
+        broken-none ws st (g .shape) id (streamAt ws (rowAt ws i)) bs (g .shape .q i) (p .place-left) (p .room-left) (total-fits (p .few-bytes)) (row-amount (p .few-bytes)) (g .shape .rows i hk)
+        (room-of ws st (g .shape) listed-all id (streamIn ws st i, found)) idle
+
     joins : Passed ws st bs → Joined ws st i time m bs (appended ws st time m bs (rowAt ws i) (streamAt ws (rowAt ws i)) .words) (appended ws st time m bs (rowAt ws i) (streamAt ws (rowAt ws i)) .store)
     joins p =
         joined ws st (g .shape) listed-all i hk time m bs id-is (item-fits ws time m bs typed) (p .some-bytes) (p .room-left) (total-fits (p .few-bytes)) (row-amount (p .few-bytes)) (p .place-left) idle
@@ -226,8 +232,7 @@ module _ (ws st : List ℕ) (g : Good ws st) (time : ℕ) (m : Message) (bs : Li
     unfolding addTo
     add-known past =
         placed-link (streamAt ws (rowAt ws i)) (appended ws st time m bs (rowAt ws i) (streamAt ws (rowAt ws i))) past (not-too-many ws st id (streamIn ws st i) found)
-        (λ p. broken-none ws st (g .shape) id (streamAt ws (rowAt ws i)) bs (g .shape .q i) (p .place-left) (p .room-left) (total-fits (p .few-bytes)) (row-amount (p .few-bytes)) (g .shape .rows i hk)
-        (room-of ws st (g .shape) listed-all id (streamIn ws st i, found)) idle)
+        known-unbroken
         (λ p. let j = joins p in (j .shape, j .store, j .options, added-is ws st time (messageOf m bs) (streamIn ws st i) _ _ at-is (j .options) (j .interleaving) (j .total) (j .next-id) (j .streams) (j .scheduler)))
 
   -- ---- a new stream, that belongs at position p
@@ -290,15 +295,34 @@ module _ (ws st : List ℕ) (g : Good ws st) (time : ℕ) (m : Message) (bs : Li
         (es ∙ put-twice (with-message s i) s (streamsIn ws st) (streams-rise ws st (g .shape)) refl)
         (j .scheduler ∙ rw (ei, en, in-us, ins .scheduler-is))
 
+    new-unbroken : Passed ws st bs → brokenCode ws (length st) fresh (length bs) ≡ 0
+    new-unbroken k =
+        broken-none ws st (g .shape) id fresh bs [] (k .place-left) (k .room-left) (total-fits (k .few-bytes)) (omega (arith, k .few-bytes)) (record { linked = refl; last-is = refl })
+        (link.free (omega (arith, rows-few ws st (g .shape) listed-all))) (λ e. idle-new)
+
     add-new : ltb 0 (argumentsCode ws (length st) time (m .lifetime) (length bs)) ≡ false
         → Does call ws st (addTo ws st time m bs (place.New p) .answer) (addTo ws st time m bs (place.New p) .words) (addTo ws st time m bs (place.New p) .store)
     unfolding addTo
     add-new past =
         placed-link fresh (appended us st time m bs (totalsAt ws .known) fresh) past
         (too-many-new ws st id (g .shape) missing ∙ lt-leb 256 (totalsAt ws .known) few)
-        (λ k. broken-none ws st (g .shape) id fresh bs [] (k .place-left) (k .room-left) (total-fits (k .few-bytes)) (omega (arith, k .few-bytes)) (record { linked = refl; last-is = refl })
-        (link.free (omega (arith, rows-few ws st (g .shape) listed-all))) (λ e. idle-new))
+        new-unbroken
         (λ k. let j = joins-new k in (j .shape, j .store, j .options ∙ ins .options-is, model-new _ _ j))
+
+  -- ---- where 16 is not given: the stream has a place with which the message is not refused, or is the 257th
+  abbrev pub Sound : Place → Type 0
+  Sound (place.Row row) = brokenCode ws (length st) (streamAt ws row) (length bs) ≡ 0
+  Sound (place.New position) = brokenCode ws (length st) (newStream (optionsAt ws)) (length bs) ≡ 0
+  Sound (place.Refused code) = code ≡ 6
+
+  sound : Passed ws st bs → Lookup ws st id → Sound (lookUp ws id)
+  sound k (known-at i h e f s) = rw (look-row ws id i (rowAt ws i) f) (known-unbroken i h e s k)
+  sound k (new-at p h lo hi f s) = by-lt (totalsAt ws .known) 256
+      (λ few. rw (look-new ws id p f few) (new-unbroken p h few lo hi s k))
+      (λ full. rw (look-full ws id p f full) refl)
+
+  pub place-sound : Passed ws st bs → Sound (lookUp ws id)
+  place-sound k = sound k (lookup ws st (g .shape) id)
 
   -- ---- the whole call
   add-placed : ltb 0 (argumentsCode ws (length st) time (m .lifetime) (length bs)) ≡ false → Lookup ws st id

@@ -1,2 +1,3 @@
 -- What the proofs of several functions use. Assumes nothing.
 pub mod Lemmas
+pub mod Append

@@ -29,15 +29,17 @@ use Rattle.queue_messages.specs.declared.message.Message.{Message}
 
 -- ------------------------------------------------------------------ refusals, in checking order; 0 for none
 
--- 2: "or not of its creation length later". 4: "A time or lifetime is above 4,611,686,018,427,387,903." 5: "The payload is empty or above 262,144 bytes."
-unfoldable pub argumentsCode : List ℕ → ℕ → ℕ → Lifetime → ℕ → ℕ
-argumentsCode ws len now life n =
-    pick (eqb (optionsAt ws .«store_length») len)
-    (pick (ltb 4611686018427387903 now) 4
+-- 4: "A time or lifetime is above 4,611,686,018,427,387,903." 5: "The payload is empty or above 262,144 bytes."
+abbrev pub askedCode : ℕ → Lifetime → ℕ → ℕ
+askedCode now life n =
+    pick (ltb 4611686018427387903 now) 4
     (pick (ltb 4611686018427387903 (nanoseconds life)) 4
     (pick (eqb n 0) 5
-    (pick (ltb 262144 n) 5 0))))
-    2
+    (pick (ltb 262144 n) 5 0)))
+
+-- 2: "or not of its creation length later".
+unfoldable pub argumentsCode : List ℕ → ℕ → ℕ → Lifetime → ℕ → ℕ
+argumentsCode ws len now life n = pick (eqb (optionsAt ws .«store_length») len) (askedCode now life n) 2
 
 -- 7: "The message would be the 1,025th waiting." 8: "The payload is longer than the free bytes."
 unfoldable pub fullCode : List ℕ → ℕ → ℕ → ℕ
@@ -139,6 +141,13 @@ unfoldable pub appended : List ℕ → List ℕ → ℕ → Message → List ℕ
 appended ws st now m bs row s =
     pick (ltb 1023 (totalsAt ws .free)) (stored ws st)
     (appendedAt ws st now m bs row s (totalsAt ws .free) (itemAt ws (totalsAt ws .free) .next))
+
+-- The tests say that a message of n bytes has a place, and that its payload may be put there: 16 is not given.
+pub record MayAppend (ws : List ℕ) (len now : ℕ) (m : Message) (n : ℕ) : Type 0 where
+  pub time-fits : now ≤ 4611686018427387903
+  pub lifetime-fits : nanoseconds (m .lifetime) ≤ 4611686018427387903
+  pub place-fits : totalsAt ws .free < 1024
+  pub may-put : putCode (putItem ws (totalsAt ws .free) (newItem now (totalsAt ws .«next_message_id») m)) len (totalsAt ws .free) n ≤ 1
 
 -- ------------------------------------------------------------------ the call
 

@@ -3,8 +3,8 @@ ghost use mathlib.Core.Path.{_≡_};
 ghost use Prim.Native.Nat.{_<_, _≤_};
 ghost use lib.ListN.{length};
 ghost use Rattle.queue_messages.specs.Message.{nanoseconds};
-ghost use Rattle.queue_messages.specs.Add.{argumentsCode, fullCode, mayStart, starts, hasRoom, placesCode, brokenCode, messageCode, lostCode, refusedPlace};
-ghost use Rattle.queue_messages.specs.Add.{linkedLast, counted, started, stored, appendedAt, appended};
+ghost use Rattle.queue_messages.specs.Add.{askedCode, argumentsCode, fullCode, mayStart, starts, hasRoom, placesCode, brokenCode, messageCode, lostCode, refusedPlace};
+ghost use Rattle.queue_messages.specs.Add.{linkedLast, counted, started, stored, appendedAt, appended, MayAppend};
 ghost use Rattle.queue_messages.specs.Add.{HasPlace, streamFor, rowFor, madeKnown, added, addTo, add};
 use crate::message::Lifetime;
 use crate::message::Message;
@@ -13,6 +13,7 @@ use crate::message::new_item;
 use message_chains::amounts::minus;
 use message_chains::amounts::plus;
 use payload_store::put_code;
+use payload_store::put_own;
 use payload_store::put_payload;
 use queue_streams::answers::Call;
 use queue_streams::known::Place;
@@ -39,14 +40,10 @@ use queue_words::streams::load_stream;
 use queue_words::streams::store_chain;
 use stream_scheduler::begin_waiting;
 
-// The refusals that the arguments decide: 2, 4, 4, 5, or 0.
-fn arguments_code(queue: &[u64; QUEUE_WORDS], len: u64, time: u64, lifetime: Lifetime, n: u64) -> u8
-    ensures { λ r. ⌜ r ≡ argumentsCode (now (queue .entry)) len time lifetime n ⌝ }
+// The refusals that what is asked for decides: 4, 4, 5, or 0.
+pub fn asked_code(time: u64, lifetime: Lifetime, n: u64) -> u8
+    ensures { λ r. ⌜ r ≡ askedCode time lifetime n ⌝ }
 {
-    let o = load_options(queue);
-    if o.store_length != len {
-        return 2;
-    }
     if time > MAX_TIME {
         return 4;
     }
@@ -63,8 +60,19 @@ fn arguments_code(queue: &[u64; QUEUE_WORDS], len: u64, time: u64, lifetime: Lif
     0
 }
 
+// The refusals that the arguments decide: 2, 4, 4, 5, or 0.
+fn arguments_code(queue: &[u64; QUEUE_WORDS], len: u64, time: u64, lifetime: Lifetime, n: u64) -> u8
+    ensures { λ r. ⌜ r ≡ argumentsCode (now (queue .entry)) len time lifetime n ⌝ }
+{
+    let o = load_options(queue);
+    if o.store_length != len {
+        return 2;
+    }
+    asked_code(time, lifetime, n)
+}
+
 // 7 or 8 where no message more fits, else 0.
-fn full_code(queue: &[u64; QUEUE_WORDS], len: u64, n: u64) -> u8
+pub fn full_code(queue: &[u64; QUEUE_WORDS], len: u64, n: u64) -> u8
     ensures { λ r. ⌜ r ≡ fullCode (now (queue .entry)) len n ⌝ }
 {
     let t = load_totals(queue);
@@ -231,6 +239,25 @@ fn start(queue: &mut [u64; QUEUE_WORDS], id: u16, s: OutgoingStream, n: u64)
     }
 }
 
+// Hangs a message of n bytes, whose row and payload are written, to the end of its stream's chain, and lets the stream wait if that starts it;
+// `free` comes first among the free places then.
+fn hang(
+    queue: &mut [u64; QUEUE_WORDS],
+    id: u16,
+    row: usize,
+    s: OutgoingStream,
+    place: u64,
+    free: u64,
+    n: u64,
+)
+    requires { ⌜ row < 256 ⌝ }
+    ensures { λ _. ⌜ now (queue .exit) ≡ started (counted (linkedLast (now (queue .entry)) row s place n) free n) id s n ⌝ }
+{
+    link_last(queue, row, s, place, n);
+    count_message(queue, free, n);
+    start(queue, id, s, n);
+}
+
 // The message in a place, at the end of its stream's chain; `free` comes first among the free places then.
 fn append_at(
     queue: &mut [u64; QUEUE_WORDS],
@@ -251,9 +278,7 @@ fn append_at(
     let item = new_item(time, t.next_message_id, m);
     store_item(queue, place, item);
     put_payload(queue, store, place, payload);
-    link_last(queue, row, s, place as u64, n);
-    count_message(queue, free, n);
-    start(queue, m.stream_id.0, s, n);
+    hang(queue, m.stream_id.0, row, s, place as u64, free, n);
 }
 
 // The message goes to the first free place and to the end of its stream's chain. The test has passed.
@@ -278,8 +303,31 @@ fn append(
     append_at(queue, store, time, m, payload, row, s, place, free);
 }
 
+// The same, where the tests say that the message has a place and its payload may be put: nothing is tested again.
+pub fn append_own(
+    queue: &mut [u64; QUEUE_WORDS],
+    store: &mut [u8],
+    time: u64,
+    m: Message,
+    payload: &[u8],
+    row: usize,
+    s: OutgoingStream,
+)
+    requires { ⌜ (row < 256) × MayAppend (now queue) (length (now store)) time m (length (now payload)) ⌝ }
+    ensures { λ _. ⌜ stored (now (queue .exit)) (now (store .exit)) ≡ appended (now (queue .entry)) (now (store .entry)) time m (now (payload .entry)) row s ⌝ }
+{
+    let n = payload.len() as u64;
+    let t = load_totals(&*queue);
+    let place = t.free as usize;
+    let free = load_next(&*queue, place);
+    let item = new_item(time, t.next_message_id, m);
+    store_item(queue, place, item);
+    put_own(queue, store, place, payload);
+    hang(queue, m.stream_id.0, row, s, place as u64, free, n);
+}
+
 // The stream's row as it is, or that of a stream that the message makes known.
-fn stream_for(queue: &[u64; QUEUE_WORDS], place: Place) -> OutgoingStream
+pub fn stream_for(queue: &[u64; QUEUE_WORDS], place: Place) -> OutgoingStream
     requires { ⌜ HasPlace (now queue) place ⌝ }
     ensures { λ r. ⌜ r ≡ streamFor (now (queue .entry)) place ⌝ }
 {
@@ -297,7 +345,7 @@ fn stream_for(queue: &[u64; QUEUE_WORDS], place: Place) -> OutgoingStream
 }
 
 // The number of that row.
-fn row_for(queue: &[u64; QUEUE_WORDS], place: Place) -> usize
+pub fn row_for(queue: &[u64; QUEUE_WORDS], place: Place) -> usize
     requires { ⌜ HasPlace (now queue) place ⌝ }
     ensures { λ r. ⌜ r ≡ rowFor (now (queue .entry)) place ⌝ }
 {
@@ -312,7 +360,7 @@ fn row_for(queue: &[u64; QUEUE_WORDS], place: Place) -> usize
 }
 
 // Makes the stream known, if it is not.
-fn make_known(queue: &mut [u64; QUEUE_WORDS], place: Place, id: u16)
+pub fn make_known(queue: &mut [u64; QUEUE_WORDS], place: Place, id: u16)
     requires { ⌜ HasPlace (now queue) place ⌝ }
     ensures { λ _. ⌜ now (queue .exit) ≡ madeKnown (now (queue .entry)) id place ⌝ }
 {

@@ -1,4 +1,4 @@
--- `queue_messages::adding::append_at` meets its contract: each return is what its definition says, by what the calls ensure and the tests taken. Assumes nothing.
+-- `queue_messages::adding::append_at` meets its contract: each return is what its definition says, by what the calls ensure. Assumes nothing.
 use borrow.Author.Needs.{needs}
 use Rattle.queue_messages.specs.Add.{appendedAt}
 use Rattle.queue_messages.proofs.adding.append_at.Statement.{statement}
@@ -6,27 +6,7 @@ use Rattle.queue_messages.proofs.adding.append_at.Tie as tie
 
 returns : tie.Need-returns
 unfolding appendedAt
-returns c =
-    rw (
-      ← (c .before .before .before .before .before .before .before .before .before .before .before .before .before .before .load-totals .ensures),
-      ← (c .before .before .before .before .before .before .before .before .before .before .before .before .before .new-item .ensures),
-      ← (c .before .before .before .before .before .before .before .before .before .before .before .store-item .ensures),
-      ← (c .before .before .before .before .before .before .before .before .put-payload .ensures),
-      ← (c .before .before .before .before .link-last .ensures),
-      ← (c .before .before .count-message .ensures),
-      ← (c .start .ensures),
-    )
+returns c = rw (← (c .before .before .before .before .before .before .before .before .before .before .load-totals .ensures), ← (c .before .before .before .before .before .before .before .before .before .new-item .ensures), ← (c .before .before .before .before .before .before .before .store-item .ensures), ← (c .before .before .before .before .put-payload .ensures), ← (c .hang .ensures))
 
 pub append-at-spec : {M : Type 1} → statement M
-append-at-spec =
-    tie.close
-    (tie.spec
-    (λ c. search needs)
-    (λ c. search needs)
-    (λ c. search needs)
-    (λ c. search needs)
-    (λ c. search needs)
-    (λ c. search needs)
-    (λ c. search needs)
-    (λ c. search needs)
-    returns)
+append-at-spec = tie.close (tie.spec (λ c κs. search needs) (λ c κs. search needs) (λ c κs. search needs) (λ c κs. search needs) (λ c κs. search needs) (λ c. search needs) returns)

@@ -1,85 +1,17 @@
--- `queue_messages::adding::arguments_code` meets its contract: each return is what its definition says, by what the calls ensure and the tests taken. Assumes nothing.
+-- `queue_messages::adding::arguments_code` meets its contract: each return is what its definition says, by what the calls ensure and the test taken. Assumes nothing.
 use borrow.Author.Needs.{needs}
-use borrow.Author.Tests.{eq-eqb, le-ltb, lt-ltb, ne-eqb}
+use borrow.Author.Tests.{eq-eqb, ne-eqb}
 use Rattle.queue_messages.specs.Add.{argumentsCode}
 use Rattle.queue_messages.proofs.adding.arguments_code.Statement.{statement}
 use Rattle.queue_messages.proofs.adding.arguments_code.Tie as tie
 
 returns : tie.Need-returns
 unfolding argumentsCode
-returns c =
-    rw (
-      ← (c .before .before .load-options .ensures),
-      ne-eqb _ _ (c .if1 .taken),
-    )
+returns c = rw (← (c .before .before .load-options .ensures), ne-eqb _ _ (c .if1 .taken))
 
 returns-2 : tie.Need-returns-2
 unfolding argumentsCode
-returns-2 c =
-    rw (
-      ← (c .before .before .before .load-options .ensures),
-      eq-eqb _ _ (c .before .if1 .left),
-      lt-ltb _ _ (c .if2 .taken),
-    )
-
-returns-3 : tie.Need-returns-3
-unfolding argumentsCode
-returns-3 c =
-    rw (
-      ← (c .before .before .before .before .before .load-options .ensures),
-      eq-eqb _ _ (c .before .before .before .if1 .left),
-      le-ltb _ _ (c .before .before .if2 .left),
-      ← (c .before .nanoseconds .ensures),
-      lt-ltb _ _ (c .if3 .taken),
-    )
-
-returns-4 : tie.Need-returns-4
-unfolding argumentsCode
-returns-4 c =
-    rw (
-      ← (c .before .before .before .before .before .before .load-options .ensures),
-      eq-eqb _ _ (c .before .before .before .before .if1 .left),
-      le-ltb _ _ (c .before .before .before .if2 .left),
-      ← (c .before .before .nanoseconds .ensures),
-      le-ltb _ _ (c .before .if3 .left),
-      eq-eqb _ _ (c .if4 .taken),
-    )
-
-returns-5 : tie.Need-returns-5
-unfolding argumentsCode
-returns-5 c =
-    rw (
-      ← (c .before .before .before .before .before .before .before .load-options .ensures),
-      eq-eqb _ _ (c .before .before .before .before .before .if1 .left),
-      le-ltb _ _ (c .before .before .before .before .if2 .left),
-      ← (c .before .before .before .nanoseconds .ensures),
-      le-ltb _ _ (c .before .before .if3 .left),
-      ne-eqb _ _ (c .before .if4 .left),
-      lt-ltb _ _ (c .if5 .taken),
-    )
-
-returns-6 : tie.Need-returns-6
-unfolding argumentsCode
-returns-6 c =
-    rw (
-      ← (c .before .before .before .before .before .before .before .load-options .ensures),
-      eq-eqb _ _ (c .before .before .before .before .before .if1 .left),
-      le-ltb _ _ (c .before .before .before .before .if2 .left),
-      ← (c .before .before .before .nanoseconds .ensures),
-      le-ltb _ _ (c .before .before .if3 .left),
-      ne-eqb _ _ (c .before .if4 .left),
-      le-ltb _ _ (c .if5 .left),
-    )
+returns-2 c = rw (← (c .before .before .before .load-options .ensures), eq-eqb _ _ (c .before .if1 .left)) (c .asked-code .ensures)
 
 pub arguments-code-spec : {M : Type 1} → statement M
-arguments-code-spec =
-    tie.close
-    (tie.spec
-    (λ c. search needs)
-    returns
-    returns-2
-    (λ c. search needs)
-    returns-3
-    returns-4
-    returns-5
-    returns-6)
+arguments-code-spec = tie.close (tie.spec (λ c κs. search needs) returns (λ c κs. search needs) returns-2)

@@ -1,0 +1,23 @@
+-- `queue_messages::adding::asked_code` meets its contract: each return is what its definition says, by what the calls ensure and the tests taken. Assumes nothing.
+use borrow.Author.Needs.{needs}
+use borrow.Author.Tests.{eq-eqb, le-ltb, lt-ltb, ne-eqb}
+use Rattle.queue_messages.proofs.adding.asked_code.Statement.{statement}
+use Rattle.queue_messages.proofs.adding.asked_code.Tie as tie
+
+returns : tie.Need-returns
+returns c = rw (lt-ltb _ _ (c .if1 .taken))
+
+returns-2 : tie.Need-returns-2
+returns-2 c = rw (le-ltb _ _ (c .before .before .if1 .left), ← (c .before .nanoseconds .ensures), lt-ltb _ _ (c .if2 .taken))
+
+returns-3 : tie.Need-returns-3
+returns-3 c = rw (le-ltb _ _ (c .before .before .before .if1 .left), ← (c .before .before .nanoseconds .ensures), le-ltb _ _ (c .before .if2 .left), eq-eqb _ _ (c .if3 .taken))
+
+returns-4 : tie.Need-returns-4
+returns-4 c = rw (le-ltb _ _ (c .before .before .before .before .if1 .left), ← (c .before .before .before .nanoseconds .ensures), le-ltb _ _ (c .before .before .if2 .left), ne-eqb _ _ (c .before .if3 .left), lt-ltb _ _ (c .if4 .taken))
+
+returns-5 : tie.Need-returns-5
+returns-5 c = rw (le-ltb _ _ (c .before .before .before .before .if1 .left), ← (c .before .before .before .nanoseconds .ensures), le-ltb _ _ (c .before .before .if2 .left), ne-eqb _ _ (c .before .if3 .left), le-ltb _ _ (c .if4 .left))
+
+pub asked-code-spec : {M : Type 1} → statement M
+asked-code-spec = tie.close (tie.spec returns (λ c κs. search needs) returns-2 returns-3 returns-4 returns-5)
