@@ -1,0 +1,2 @@
+-- What the owned call for the ready ids answers. Assumes nothing.
+pub mod Ready
