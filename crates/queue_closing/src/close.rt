@@ -4,8 +4,9 @@ ghost use Prim.Native.Nat.{_<_};
 ghost use Rattle.message_chains.specs.Notes.{notes};
 ghost use Rattle.queue_streams.specs.Settings.{calledWith};
 ghost use Rattle.queue_closing.specs.Walk.{walkFailed, mayGo, walkItem, walk, maySweep};
-ghost use Rattle.queue_closing.specs.Sweep.{swept, sweepNotes, sweepItem, sweep};
-ghost use Rattle.queue_closing.specs.Close.{closeWhole, closeBehind, closeOpen, closeIn, close};
+ghost use Rattle.queue_closing.specs.Sweep.{swept, sweepNotes, sweepItem, sweep, sweepFrom};
+ghost use Rattle.queue_closing.specs.Close.{wholeLeft, closeWhole, behindLeft, closeBehind, closeOpen, closeIn, close};
+ghost use Rattle.queue_streams.specs.declared.answers.Call.the-variants.{Accepted};
 use message_chains::amounts::minus;
 use message_chains::amounts::remaining;
 use message_chains::heads::release;
@@ -202,6 +203,36 @@ fn sweep_chain(
     w
 }
 
+// All messages dropped, of a stream that does not wait: paused. The events written.
+pub fn sweep_whole(
+    queue: &mut [u64; QUEUE_WORDS],
+    events: &mut [u64],
+    id: u16,
+    row: usize,
+    s: OutgoingStream,
+) -> usize
+    requires { ⌜ row < 256 ⌝ }
+    ensures { λ r. ⌜ calledWith (Accepted r) (now (queue .exit)) (now (events .exit)) ≡ wholeLeft (sweepFrom (now (queue .entry)) (now (events .entry)) id (s .«low_threshold») (s .first) (s .«buffered_amount»)) row s ⌝ }
+{
+    let w = sweep_chain(
+        queue,
+        events,
+        id,
+        s.low_threshold,
+        Sweep {
+            place: s.first,
+            count: 0,
+            amount: s.buffered_amount,
+        },
+    );
+    let mut o = with_pause(s, PauseState::Paused);
+    o.buffered_amount = w.amount;
+    o.first = NO_MESSAGE;
+    o.last = NO_MESSAGE;
+    store_stream(queue, row, o);
+    w.count
+}
+
 // The closed stream without messages: paused.
 fn close_whole(
     queue: &mut [u64; QUEUE_WORDS],
@@ -217,26 +248,42 @@ fn close_whole(
     if sweeps {
         let stopped = remove_stream(queue, id);
         if stopped {
-            let w = sweep_chain(
-                queue,
-                events,
-                id,
-                s.low_threshold,
-                Sweep {
-                    place: s.first,
-                    count: 0,
-                    amount: s.buffered_amount,
-                },
-            );
-            let mut o = with_pause(s, PauseState::Paused);
-            o.buffered_amount = w.amount;
-            o.first = NO_MESSAGE;
-            o.last = NO_MESSAGE;
-            store_stream(queue, row, o);
-            return Call::Accepted(w.count);
+            let k = sweep_whole(queue, events, id, row, s);
+            return Call::Accepted(k);
         }
     }
     Call::Refused(16)
+}
+
+// The messages behind a half-sent head dropped: pending. The events written.
+pub fn sweep_behind(
+    queue: &mut [u64; QUEUE_WORDS],
+    events: &mut [u64],
+    id: u16,
+    row: usize,
+    s: OutgoingStream,
+    next: u64,
+) -> usize
+    requires { ⌜ (row < 256) × (s .first < 1024) ⌝ }
+    ensures { λ r. ⌜ calledWith (Accepted r) (now (queue .exit)) (now (events .exit)) ≡ behindLeft (sweepFrom (now (queue .entry)) (now (events .entry)) id (s .«low_threshold») next (s .«buffered_amount»)) row s ⌝ }
+{
+    let w = sweep_chain(
+        queue,
+        events,
+        id,
+        s.low_threshold,
+        Sweep {
+            place: next,
+            count: 0,
+            amount: s.buffered_amount,
+        },
+    );
+    store_next(queue, s.first as usize, NO_MESSAGE);
+    let mut o = with_pause(s, PauseState::Pending);
+    o.buffered_amount = w.amount;
+    o.last = s.first;
+    store_stream(queue, row, o);
+    w.count
 }
 
 // The closed stream with its half-sent head alone: pending.
@@ -253,23 +300,8 @@ fn close_behind(
 {
     let sweeps = may_sweep(&*queue, next, s.buffered_amount);
     if sweeps {
-        let w = sweep_chain(
-            queue,
-            events,
-            id,
-            s.low_threshold,
-            Sweep {
-                place: next,
-                count: 0,
-                amount: s.buffered_amount,
-            },
-        );
-        store_next(queue, s.first as usize, NO_MESSAGE);
-        let mut o = with_pause(s, PauseState::Pending);
-        o.buffered_amount = w.amount;
-        o.last = s.first;
-        store_stream(queue, row, o);
-        return Call::Accepted(w.count);
+        let k = sweep_behind(queue, events, id, row, s, next);
+        return Call::Accepted(k);
     }
     Call::Refused(16)
 }

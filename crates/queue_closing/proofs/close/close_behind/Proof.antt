@@ -1,4 +1,4 @@
--- `queue_closing::close::close_behind` meets its contract: each return is what its definition says, by what the calls ensure and the tests taken. Assumes nothing.
+-- `queue_closing::close::close_behind` meets its contract: each return is a case of `closeBehind`. Assumes nothing.
 use borrow.Author.Needs.{needs}
 use Rattle.queue_closing.specs.Close.{closeBehind}
 use Rattle.queue_closing.proofs.close.close_behind.Statement.{statement}
@@ -6,25 +6,18 @@ use Rattle.queue_closing.proofs.close.close_behind.Tie as tie
 
 returns : tie.Need-returns
 unfolding closeBehind
-returns c = rw (← (c .before .before .before .before .before .before .before .before .before .before .before .may-sweep .ensures), (c .before .before .before .before .before .before .before .before .before .before .if1 .taken), ← (c .before .before .before .before .before .before .before .sweep-chain .ensures), ← (c .before .before .before .store-next .ensures), (c .store-stream .ensures), (c .before .before .with-pause .ensures))
+returns c = rw (← (c .before .before .before .before .before .before .may-sweep .ensures), (c .before .before .before .before .before .if1 .taken)) (c .before .before .sweep-behind .ensures)
 
 returns-2 : tie.Need-returns-2
 unfolding closeBehind
-returns-2 c =
-    rw (
-      ← (c .before .may-sweep .ensures),
-      (c .if1 .left),
-    )
+returns-2 c = rw (← (c .before .may-sweep .ensures), (c .if1 .left))
 
 pub close-behind-spec : {M : Type 1} → statement M
 close-behind-spec =
     tie.close
     (tie.spec
-    (λ c. search needs)
-    (λ c. search needs)
-    (λ c. search needs)
-    (λ c. search needs)
-    (λ c. search needs)
+    (λ c κs. search needs)
+    (λ c κs. search needs)
     (λ c. search needs)
     returns
     returns-2)
