@@ -1,7 +1,7 @@
-"""One check of a crate and of others below it from their sources, over a folder that keeps what was checked between runs: for scripts that
-change a crate and look what the crate above it says. `rt check` gives the verdict; this one is quicker, since the crates below are neither
-built nor checked twice. The crates that are not named are read as they were last proved (target/rlib)."""
-import pathlib, re, subprocess
+"""One check of a crate and of others below it from their sources, for scripts that change a crate and look what the crate above it says.
+`rt check` gives the verdict; this one is quicker: it starts from what was checked when the crates were last proved (target/rlib), so only
+what a change touches is checked, and crates below are not built. The crates that are not named are read as they were last proved."""
+import pathlib, re, shutil, subprocess
 
 
 def kit():
@@ -23,9 +23,19 @@ def source(tree, crate):
     return tree / "crates" / crate / "src" / "lib.rt"
 
 
+def filled(kept, crates, target):
+    """The folder in which a check finds what was checked, with what these crates had when they were last proved."""
+    found = [p.name for p in kept.parent.glob("*/antt-checked*")]  # the checker's own name for it, once it has run
+    for crate in crates if found else []:
+        for file in (target / f"{crate}.rlib" / "toolchain" / "checked").glob("*.oantt"):
+            (kept / found[0]).mkdir(parents=True, exist_ok=True)
+            shutil.copy(file, kept / found[0])
+
+
 def check(tree, crate, below, kept, target):
-    """Whether `crate` and those `below` are proved, and what was said. `kept` is the folder that is kept, `target` has the other crates."""
+    """Whether `crate` and those `below` are proved, and what was said. `kept` is the folder of what was checked, `target` has the libraries."""
     deps, target = dependencies(tree), target / "rlib"
+    filled(kept, [crate, *below], target)
     words = ["--crate-name", crate, source(tree, crate), "--extern", f"std={OWN}/rlib/std.rlib"]
     for d in list(dict.fromkeys(deps[crate] + [d for b in below for d in deps[b]])):
         if d in below:
