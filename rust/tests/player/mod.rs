@@ -331,7 +331,7 @@ impl Player {
             return self.by_rule("p", Refusal::BufferShort);
         }
         // Both ways in turn, where a buffer of that size can be had.
-        let into = self.calls.is_multiple_of(2) && size <= MAX_PAYLOAD as u64;
+        let into = self.calls % 2 == 0 && size <= MAX_PAYLOAD as u64;
         let mut answer =
             if into { self.produce_into(now, size as usize) } else { self.produce_lent(now, size as usize) };
         self.events(&mut answer);

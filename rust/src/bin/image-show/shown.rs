@@ -14,7 +14,7 @@ pub fn number(n: u64) -> String {
     let digits = n.to_string();
     let mut out = String::new();
     for (k, digit) in digits.chars().enumerate() {
-        if k > 0 && (digits.len() - k).is_multiple_of(3) {
+        if k > 0 && (digits.len() - k) % 3 == 0 {
             out.push(',');
         }
         out.push(digit);
