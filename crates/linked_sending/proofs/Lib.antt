@@ -2,6 +2,7 @@
 pub mod Looking
 pub mod Numbering
 pub mod Enough
+pub mod Further
 pub mod Part
 pub mod Last
 pub mod Expired

@@ -75,6 +75,11 @@ renumbered s m = go (areGiven (m .numbers)) refl (m .unordered) refl
     go false e true f = record { offset-same = rw (e, f); length-same = rw (e, f); next-same = rw (e, f); place-same = rw (e, f); first-same = rw (e, f); last-same = rw (e, f); amount-same = rw (e, f); threshold-same = rw (e, f); priority-same = rw (e, f); state-same = rw (e, f) }
     go false e false f = record { offset-same = rw (e, f); length-same = rw (e, f); next-same = rw (e, f); place-same = rw (e, f); first-same = rw (e, f); last-same = rw (e, f); amount-same = rw (e, f); threshold-same = rw (e, f); priority-same = rw (e, f); state-same = rw (e, f) }
 
+-- A message that has its numbers keeps them, and so does its stream.
+pub numbered-before : (s : OutgoingStream) (m : Item) → areGiven (m .numbers) ≡ true → (numberedStream s m ≡ s) × (numberedItem s m ≡ m)
+unfolding numberedItem numberedStream
+numbered-before s m e = (rw e, rw e)
+
 -- ---- the fragment
 
 expiry-is : (e : Expiry) → meaning.expiryOf (expiresOf e) ≡ e

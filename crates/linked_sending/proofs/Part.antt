@@ -1,11 +1,13 @@
 -- A part of a message handed out: what the words then stand for. Assumes nothing.
 use mathlib.Core.Path.{_≡_, refl, sym, ap, _∙_, subst}
+use mathlib.Core.Bool.{Bool, true, false}
 use mathlib.Core.List.{List, [], _∷_}
 use Prim.Native.Nat.{ℕ, _+_, _-_, _≤_, _<_}
 use native.Mathlib.Omega.{arith}
 use lib.ListN.{length}
 use Rattle.queue_words.specs.Header.{optionsAt, totalsAt, putTotals, FitsTotals}
-use Rattle.queue_words.specs.Items.{itemAt, putItem, FitsItem}
+use Rattle.queue_words.specs.Flags.{pick}
+use Rattle.queue_words.specs.Items.{areGiven, itemAt, putItem, FitsItem}
 use Rattle.queue_words.specs.Known.{knownAt, idAt}
 use Rattle.queue_words.specs.Streams.{streamAt, putStream, FitsStream}
 use Rattle.queue_words.specs.declared.header.Options.{Options}
@@ -21,7 +23,7 @@ use Rattle.queue_model.specs.Streams.{put-stream, stream-key}
 use Rattle.payload_store.specs.Good.{payloadOf}
 use Rattle.stream_scheduler.specs.Link.{entryAt, modelScheduler}
 use Rattle.stream_scheduler.specs.Words.{acceptAt}
-use Rattle.queue_sending.specs.Fragment.{lessTotal, lessAmount, wentOn}
+use Rattle.queue_sending.specs.Fragment.{lessTotal, lessAmount, wentOn, wentFurther}
 use Rattle.queue_sending.specs.Numbers.{numberedItem, numberedStream, movedOn}
 use Rattle.queue_state.specs.Chains.{count, each, upd}
 use Rattle.queue_state.specs.Model.{itemOf, itemIn, streamOf, rowAt, streamIn, streamsIn}
@@ -30,14 +32,15 @@ use Rattle.queue_state.proofs.Chains.{count-head, each-frame}
 use Rattle.queue_state.proofs.Splits.{upd-same}
 use Rattle.queue_state.proofs.Frames.{Same, row-below, row-fits}
 use Rattle.queue_state.proofs.Steps.{After}
-use Rattle.queue_state.proofs.Singles.{Alike, Unmoved, alike-untouched, shape-totals, shape-row, row-streams}
+use Rattle.queue_state.proofs.Singles.{Alike, Unmoved, unmoved, alike-untouched, shape-totals, shape-row, row-streams}
 use Rattle.stream_scheduler.proofs.Link.{scheduler-same}
 use Rattle.queue_state.proofs.OneItem.{shape-item, items-first, item-streams, item-scheduler}
 use Rattle.queue_state.proofs.Rooms.{AllKnown, Let, accept-known}
 use Rattle.queue_state.proofs.Twice.{put-twice}
 use Rattle.queue_state.proofs.Alikes.{alike-same, alike-both, alike-totals}
+use Rattle.linked_sending.proofs.Further.{Further, further}
 use Rattle.linked_sending.proofs.Looking.{Choice}
-use Rattle.linked_sending.proofs.Numbering.{Renumbered, renumbered, MovedOn, moved-same, stream-fits, item-fits, moved-fits}
+use Rattle.linked_sending.proofs.Numbering.{Renumbered, renumbered, numbered-before, MovedOn, moved-same, stream-fits, item-fits, moved-fits}
 
 -- The words after a part of the chosen message.
 pub record WentOn (ws st : List ℕ) (g : Shape ws st) (at : ℕ) (c : Choice ws st g at) (n : ℕ) (us : List ℕ) : Type 0 where
@@ -243,3 +246,27 @@ module _ (ws st : List ℕ) (g : Shape ws st) (known : AllKnown ws st) (at : ℕ
 
   pub went-on : WentOn ws st g at c n (wentOn ((acceptAt ws at n) .next) (rowAt ws (c .pos)) (numberedStream (streamAt ws (rowAt ws (c .pos))) (itemAt ws (c .first))) (numberedItem (streamAt ws (rowAt ws (c .pos))) (itemAt ws (c .first))) n)
   went-on = subst (WentOn ws st g at c n) are (record { shape = four .shape; options = options4; totals = totals4; scheduler = scheduler4; streams = streams4 })
+
+  -- The message had its numbers before: what is stored alone reads the same.
+  pub went-further : areGiven (itemAt ws (c .first) .numbers) ≡ true
+      → WentOn ws st g at c n (wentFurther ((acceptAt ws at n) .next) (rowAt ws (c .pos)) (numberedStream (streamAt ws (rowAt ws (c .pos))) (itemAt ws (c .first))) (numberedItem (streamAt ws (rowAt ws (c .pos))) (itemAt ws (c .first))) n)
+  went-further e =
+      let z = numbered-before s m e in
+      let w = went-on in
+      let d : s′ .first ≡ c .first = renumbered s m .first-same ∙ c .first-is in
+      let f : Further (wentOn u1 (rowAt ws (c .pos)) s′ m′ n) (wentFurther u1 (rowAt ws (c .pos)) s′ m′ n) = further u1 (rowAt ws (c .pos)) n s′ m′ (g1 .long) in-rows (omega (arith, d, c .first-fits))
+      (alike1 .rows (rowAt ws (c .pos)) in-rows ∙ sym (z .0)) (ap (itemAt u1) d ∙ alike1 .items (c .first) (c .first-fits) ∙ sym (z .1)) in
+      let k = scheduler-same (wentOn u1 (rowAt ws (c .pos)) s′ m′ n) (wentFurther u1 (rowAt ws (c .pos)) s′ m′ n) (f .alike .long) (f .options) (f .scheduler) (f .actives) (w .shape .schedules) in
+      let y = unmoved (wentOn u1 (rowAt ws (c .pos)) s′ m′ n) st (w .shape) (wentFurther u1 (rowAt ws (c .pos)) s′ m′ n) (f .alike) (k .0) in
+      record { shape = y .shape; options = f .options ∙ w .options; totals = f .totals ∙ w .totals; scheduler = k .1 ∙ w .scheduler; streams = y .streams ∙ w .streams }
+
+  -- Either way.
+  pub went-part : WentOn ws st g at c n (pick (areGiven (itemAt ws (c .first) .numbers))
+      (wentFurther ((acceptAt ws at n) .next) (rowAt ws (c .pos)) (numberedStream (streamAt ws (rowAt ws (c .pos))) (itemAt ws (c .first))) (numberedItem (streamAt ws (rowAt ws (c .pos))) (itemAt ws (c .first))) n)
+      (wentOn ((acceptAt ws at n) .next) (rowAt ws (c .pos)) (numberedStream (streamAt ws (rowAt ws (c .pos))) (itemAt ws (c .first))) (numberedItem (streamAt ws (rowAt ws (c .pos))) (itemAt ws (c .first))) n))
+  went-part = go (areGiven (itemAt ws (c .first) .numbers)) refl
+    where
+      go : (b : Bool) → areGiven (itemAt ws (c .first) .numbers) ≡ b
+          → WentOn ws st g at c n (pick b (wentFurther ((acceptAt ws at n) .next) (rowAt ws (c .pos)) s′ m′ n) (wentOn ((acceptAt ws at n) .next) (rowAt ws (c .pos)) s′ m′ n))
+      go true e = went-further e
+      go false e = went-on

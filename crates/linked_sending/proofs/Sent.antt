@@ -11,7 +11,7 @@ use lib.ListN.{length, take, drop, length-append}
 use Rattle.queue_words.specs.Flags.{pick}
 use Rattle.queue_words.specs.Active.{activeAt}
 use Rattle.queue_words.specs.Header.{optionsAt, totalsAt, schedulerAt}
-use Rattle.queue_words.specs.Items.{itemAt}
+use Rattle.queue_words.specs.Items.{areGiven, itemAt}
 use Rattle.queue_words.specs.Known.{idAt}
 use Rattle.queue_words.specs.Streams.{streamAt}
 use Rattle.queue_words.specs.declared.header.Totals.{Totals}
@@ -41,7 +41,7 @@ use Rattle.message_chains.specs.Heads.{headCode, withoutHead, sentNotes}
 use Rattle.message_chains.specs.Notes.{Notes, notes}
 use Rattle.queue_sending.specs.Data.{dataToSend, ProducedWith, producedWith, refusedWith}
 use Rattle.message_chains.specs.Dropping.{endPending}
-use Rattle.queue_sending.specs.Fragment.{leastOf, sendCode, finished, lessTotal, lessAmount, wentOn, writtenSent, sent, chosenCode, handedOut}
+use Rattle.queue_sending.specs.Fragment.{leastOf, sendCode, finished, lessTotal, lessAmount, wentOn, wentFurther, writtenSent, sent, chosenCode, handedOut}
 use Rattle.queue_sending.specs.Produce.{refusal}
 use Rattle.queue_sending.specs.Numbers.{numberedItem, numberedStream, movedOn}
 use Rattle.queue_sending.specs.declared.data.Produced.{Produced}
@@ -59,7 +59,7 @@ use Rattle.linked_sending.specs.Meaning.{Sends, dataOf, producedOf, buff
 use Rattle.linked_sending.proofs.Looking.{Choice}
 use Rattle.linked_sending.proofs.Numbering.{Numbers, numbers, Renumbered, renumbered, moved-is, data-is, part-length}
 use Rattle.linked_sending.proofs.Enough.{item-payload, stream-amount, head-at, rest-is, rest-in-amount, amount-in-total, offset-below, length-small}
-use Rattle.linked_sending.proofs.Part.{WentOn, went-on}
+use Rattle.linked_sending.proofs.Part.{WentOn, went-part}
 use Rattle.linked_sending.proofs.Last.{Finished, the-finished, end-state}
 use Rattle.queue_state.proofs.Facts.{offset-is}
 use Rattle.queue_words.proofs.Finds.{by-lt}
@@ -135,11 +135,11 @@ module _ (ws st : List ℕ) (g : Good ws st) (at : ℕ) (c : Choice ws st (g .sh
         let r = renumbered s m in
         rw (a, item-is, counters-are, b, r .amount-same, r .priority-same, r .state-same, r .threshold-same)
 
-    part-model : model (wentOn ((acceptAt ws at n) .next) (rowAt ws (c .pos)) s′ m′ n) st ≡ handed-out-part (model ws st) (entryAt ws at) t i is n
+    part-model : model (pick (areGiven (m .numbers)) (wentFurther ((acceptAt ws at n) .next) (rowAt ws (c .pos)) s′ m′ n) (wentOn ((acceptAt ws at n) .next) (rowAt ws (c .pos)) s′ m′ n)) st ≡ handed-out-part (model ws st) (entryAt ws at) t i is n
     unfolding handed-out-part model
     part-model =
-        let w = went-on ws st sh (all-known ws st (g .well)) at c n in
-        let us : List ℕ = wentOn ((acceptAt ws at n) .next) (rowAt ws (c .pos)) s′ m′ n in
+        let w = went-part ws st sh (all-known ws st (g .well)) at c n in
+        let us : List ℕ = pick (areGiven (m .numbers)) (wentFurther ((acceptAt ws at n) .next) (rowAt ws (c .pos)) s′ m′ n) (wentOn ((acceptAt ws at n) .next) (rowAt ws (c .pos)) s′ m′ n) in
         model-is us st (optionsOf (optionsAt ws)) (totalsAt ws .interleaving) (totalsAt ws .total - n) (totalsAt ws .«next_message_id» .0) _ (accept (entryAt ws at) n (modelScheduler ws))
         (ap optionsOf (w .options))
         (ap (λ (x : Totals). x .interleaving) (w .totals))
@@ -182,7 +182,7 @@ module _ (ws st : List ℕ) (g : Good ws st) (at : ℕ) (c : Choice ws st (g .sh
     all-sent h z = omega (arith, h .choice-size, rest-is ws st g at c)
 
     -- The words after a fragment of n bytes.
-    sent-model : Chosen (model ws st) (entryAt ws at) t i is → model (writtenSent ws at id (rowAt ws (c .pos)) s′ m′ n) st ≡ handed-out (model ws st) (entryAt ws at) t i is n
+    sent-model : Chosen (model ws st) (entryAt ws at) t i is → model (writtenSent ws at id (rowAt ws (c .pos)) s′ m′ n (areGiven (m .numbers))) st ≡ handed-out (model ws st) (entryAt ws at) t i is n
     unfolding writtenSent handed-out
     sent-model h =
         let e : remaining i ≡ rest m = rest-is ws st g at c in
@@ -190,19 +190,19 @@ module _ (ws st : List ℕ) (g : Good ws st) (at : ℕ) (c : Choice ws st (g .sh
         (λ z. rw (rest′, e, eq-eqb n (rest m) z) (last-model (all-sent h z)))
         (λ z. rw (rest′, e, ne-eqb n (rest m) z) part-model)
 
-    sent-shape : Chosen (model ws st) (entryAt ws at) t i is → Shape (writtenSent ws at id (rowAt ws (c .pos)) s′ m′ n) st
+    sent-shape : Chosen (model ws st) (entryAt ws at) t i is → Shape (writtenSent ws at id (rowAt ws (c .pos)) s′ m′ n (areGiven (m .numbers))) st
     unfolding writtenSent
     sent-shape h = by-index n (rest m)
         (λ z. rw (rest′, eq-eqb n (rest m) z) (the-finished ws st sh (all-known ws st (g .well)) at c n (all-sent h z) .shape))
-        (λ z. rw (rest′, ne-eqb n (rest m) z) (went-on ws st sh (all-known ws st (g .well)) at c n .shape))
+        (λ z. rw (rest′, ne-eqb n (rest m) z) (went-part ws st sh (all-known ws st (g .well)) at c n .shape))
 
-    sent-options : Chosen (model ws st) (entryAt ws at) t i is → optionsAt (writtenSent ws at id (rowAt ws (c .pos)) s′ m′ n) ≡ optionsAt ws
+    sent-options : Chosen (model ws st) (entryAt ws at) t i is → optionsAt (writtenSent ws at id (rowAt ws (c .pos)) s′ m′ n (areGiven (m .numbers))) ≡ optionsAt ws
     unfolding writtenSent
     sent-options h = by-index n (rest m)
         (λ z. rw (rest′, eq-eqb n (rest m) z) (the-finished ws st sh (all-known ws st (g .well)) at c n (all-sent h z) .options))
-        (λ z. rw (rest′, ne-eqb n (rest m) z) (went-on ws st sh (all-known ws st (g .well)) at c n .options))
+        (λ z. rw (rest′, ne-eqb n (rest m) z) (went-part ws st sh (all-known ws st (g .well)) at c n .options))
 
-    sent-good : Chosen (model ws st) (entryAt ws at) t i is → Good (writtenSent ws at id (rowAt ws (c .pos)) s′ m′ n) st
+    sent-good : Chosen (model ws st) (entryAt ws at) t i is → Good (writtenSent ws at id (rowAt ws (c .pos)) s′ m′ n (areGiven (m .numbers))) st
     sent-good h = record {
       shape = sent-shape h;
       store-is = g .store-is ∙ sym (ap (λ o. o .«store_length») (sent-options h));
@@ -260,7 +260,7 @@ module _ (ws st : List ℕ) (g : Good ws st) (at : ℕ) (c : Choice ws st (g .sh
     -- The fragment, after k events.
     sent-is : (es bs : List ℕ) (k : ℕ) → eventWords ≤ length es → k + length (sent-events (model ws st) t n) ≤ 2305 → n ≤ length bs
         → sent ws st es bs k at id (rowAt ws (c .pos)) s m n
-        ≡ producedWith (produced.Fragment (k + length (sent-events (model ws st) t n)) (dataOf f)) (writtenSent ws at id (rowAt ws (c .pos)) s′ m′ n) (written es k (sent-events (model ws st) t n)) (f .bytes ++ drop (length (f .bytes)) bs)
+        ≡ producedWith (produced.Fragment (k + length (sent-events (model ws st) t n)) (dataOf f)) (writtenSent ws at id (rowAt ws (c .pos)) s′ m′ n (areGiven (m .numbers))) (written es k (sent-events (model ws st) t n)) (f .bytes ++ drop (length (f .bytes)) bs)
     unfolding sent
     sent-is es bs k l h hb =
         let e : readPart ws st (s .first) (m .offset) n bs ≡ f .bytes ++ drop (length (f .bytes)) bs = subst (λ p. readPart ws st p (m .offset) n bs ≡ f .bytes ++ drop (length (f .bytes)) bs) (sym (c .first-is)) (read bs hb .1) in
@@ -293,7 +293,7 @@ module _ (ws st : List ℕ) (g : Good ws st) (at : ℕ) (c : Choice ws st (g .sh
 
   handed-is : (es bs : List ℕ) (k size : ℕ) → Chosen (model ws st) (entryAt ws at) t i is → eventWords ≤ length es → k ≤ 2303 → k + length (sent-events (model ws st) t (bytes size)) ≤ 2305 → size ≤ length bs
       → handedOut ws st es bs size k at id (rowAt ws (c .pos))
-      ≡ producedWith (produced.Fragment (k + length (sent-events (model ws st) t (bytes size))) (dataOf (make-fragment t (v .item) (bytes size)))) (writtenSent ws at id (rowAt ws (c .pos)) s′ m′ (bytes size)) (written es k (sent-events (model ws st) t (bytes size))) ((make-fragment t (v .item) (bytes size)) .bytes ++ drop (length ((make-fragment t (v .item) (bytes size)) .bytes)) bs)
+      ≡ producedWith (produced.Fragment (k + length (sent-events (model ws st) t (bytes size))) (dataOf (make-fragment t (v .item) (bytes size)))) (writtenSent ws at id (rowAt ws (c .pos)) s′ m′ (bytes size) (areGiven (m .numbers))) (written es k (sent-events (model ws st) t (bytes size))) ((make-fragment t (v .item) (bytes size)) .bytes ++ drop (length ((make-fragment t (v .item) (bytes size)) .bytes)) bs)
   unfolding handedOut
   handed-is es bs k size h l hk he hb =
       let ha : at ≤ 255 = omega (arith, c .listed, sh .schedules .few) in

@@ -11,7 +11,7 @@ use lib.ListN.{length, drop, set, length-set}
 use Rattle.queue_words.specs.Flags.{pick}
 use Rattle.queue_words.specs.Active.{activeAt}
 use Rattle.queue_words.specs.Header.{optionsAt, totalsAt}
-use Rattle.queue_words.specs.Items.{itemAt}
+use Rattle.queue_words.specs.Items.{itemAt, areGiven}
 use Rattle.queue_words.specs.Streams.{streamAt}
 use Rattle.queue_words.specs.declared.items.Item.{Item}
 use Rattle.queue_words.specs.declared.streams.OutgoingStream.{OutgoingStream}
@@ -145,7 +145,7 @@ sent-few : (ws st es bs : List ℕ) (k at id row : ℕ) (s : OutgoingStream) (m 
 unfolding sent
 sent-few ws st es bs k at id row s m n h g =
     few-pick (ltb 0 (sendCode ws (length st) s m n (length bs))) (refusedWith (sendCode ws (length st) s m n (length bs)) ws es bs)
-    (producedWith (produced.Fragment (sentNotes ws es k id s n .count) (dataToSend id (numberedItem s m) n)) (writtenSent ws at id row (numberedStream s m) (numberedItem s m) n)
+    (producedWith (produced.Fragment (sentNotes ws es k id s n .count) (dataToSend id (numberedItem s m) n)) (writtenSent ws at id row (numberedStream s m) (numberedItem s m) n (areGiven (m .numbers)))
     (sentNotes ws es k id s n .events) (readPart ws st (s .first) (m .offset) n bs))
     (λ e. few-refused (sendCode ws (length st) s m n (length bs)) ws es bs)
     (λ e. omega (arith, g, sent-count ws es k id s n h g))
@@ -330,7 +330,7 @@ sends-behind : (ws st es bs : List ℕ) (k at id row : ℕ) (s : OutgoingStream)
 unfolding sent
 sends-behind ws st es bs k at id row s m n =
     behind-pick (behind es) (ltb 0 (sendCode ws (length st) s m n (length bs))) (refusedWith (sendCode ws (length st) s m n (length bs)) ws es bs)
-    (producedWith (produced.Fragment (sentNotes ws es k id s n .count) (dataToSend id (numberedItem s m) n)) (writtenSent ws at id row (numberedStream s m) (numberedItem s m) n)
+    (producedWith (produced.Fragment (sentNotes ws es k id s n .count) (dataToSend id (numberedItem s m) n)) (writtenSent ws at id row (numberedStream s m) (numberedItem s m) n (areGiven (m .numbers)))
     (sentNotes ws es k id s n .events) (readPart ws st (s .first) (m .offset) n bs))
     refl (sent-behind ws es k id s n)
 

@@ -4,3 +4,4 @@ pub mod Passes
 pub mod Logged
 pub mod Nexts
 pub mod Ahead
+pub mod ProgressLaws

@@ -224,7 +224,7 @@ sent-stays : (ws st es bs : List ℕ) (k at id row : ℕ) (s : OutgoingStream) (
 unfolding sent
 sent-stays ws st es bs k at id row s m n =
     stay-pick ws es bs (ltb 0 (sendCode ws (length st) s m n (length bs))) _ _ (stay-refused (sendCode ws (length st) s m n (length bs)) ws es bs)
-    (stay-fragment (sentNotes ws es k id s n .count) (dataToSend id (numberedItem s m) n) ws es bs (writtenSent ws at id row (numberedStream s m) (numberedItem s m) n)
+    (stay-fragment (sentNotes ws es k id s n .count) (dataToSend id (numberedItem s m) n) ws es bs (writtenSent ws at id row (numberedStream s m) (numberedItem s m) n (areGiven (m .numbers)))
     (sentNotes ws es k id s n .events) (readPart ws st (s .first) (m .offset) n bs))
 
 hand-stays : (ws st es bs : List ℕ) (size k at id row : ℕ) → Stays ws es bs (handedOut ws st es bs size k at id row)

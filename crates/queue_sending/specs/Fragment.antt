@@ -1,12 +1,13 @@
 -- Handing out a fragment of a stream's head, on the words. Assumes nothing.
 use Prim.Native.Nat.{ℕ, _-_}
+use mathlib.Core.Bool.{Bool}
 use mathlib.Core.List.{List}
 use lib.Dec.{ltb, eqb}
 use lib.ListN.{length}
 use Rattle.queue_words.specs.Flags.{pick}
 use Rattle.queue_words.specs.Active.{activeAt}
 use Rattle.queue_words.specs.Header.{totalsAt, putTotals}
-use Rattle.queue_words.specs.Items.{itemAt, putItem}
+use Rattle.queue_words.specs.Items.{areGiven, itemAt, putItem}
 use Rattle.queue_words.specs.Streams.{isPaused, streamAt, putStream}
 use Rattle.queue_words.specs.declared.header.Totals.{Totals}
 use Rattle.queue_words.specs.declared.items.Item.{Item}
@@ -21,6 +22,7 @@ use Rattle.message_chains.specs.Dropping.{endPending}
 use Rattle.message_chains.specs.Heads.{headCode, released, withoutHead, sentNotes}
 use Rattle.queue_sending.specs.Data.{dataToSend, ProducedWith, producedWith, refusedWith}
 use Rattle.queue_sending.specs.Numbers.{numberedItem, numberedStream, movedOn}
+use Rattle.queue_sending.specs.Progress.{putProgress}
 use Rattle.queue_sending.specs.declared.data.Produced.the-variants as produced
 
 unfoldable pub leastOf : ℕ → ℕ → ℕ
@@ -81,17 +83,24 @@ unfoldable pub wentOn : List ℕ → ℕ → OutgoingStream → Item → ℕ →
 wentOn ws row s m n =
     putStream (putItem (putTotals ws (lessTotal (totalsAt ws) n)) (s .first) (movedOn m n)) row (lessAmount s n)
 
--- "Handing out moves its start, and the system time, by the cost of the bytes handed out"; "last means that nothing remains": the words after a fragment.
-unfoldable pub writtenSent : List ℕ → ℕ → ℕ → ℕ → OutgoingStream → Item → ℕ → List ℕ
-writtenSent ws at id row s m n =
-    pick (eqb n (rest m)) (finished ws at id row s m n) (wentOn (acceptAt ws at n .next) row s m n)
+-- the same where the message had its numbers before: only the words that then change
+unfoldable pub wentFurther : List ℕ → ℕ → OutgoingStream → Item → ℕ → List ℕ
+wentFurther ws row s m n =
+    putProgress ws row (s .first) (totalsAt ws .total - n) (s .«buffered_amount» - n) (movedOn m n .fsn .0) (movedOn m n .offset)
+
+-- "Handing out moves its start, and the system time, by the cost of the bytes handed out"; "last means that nothing remains": the words after a fragment of the
+-- numbered message m, which had its numbers before, or not.
+unfoldable pub writtenSent : List ℕ → ℕ → ℕ → ℕ → OutgoingStream → Item → ℕ → Bool → List ℕ
+writtenSent ws at id row s m n had =
+    pick (eqb n (rest m)) (finished ws at id row s m n)
+    (pick had (wentFurther (acceptAt ws at n .next) row s m n) (wentOn (acceptAt ws at n .next) row s m n))
 
 -- The fragment of n bytes of the head m of the stream s, after k events; refused, it leaves all as it was.
 unfoldable pub sent : List ℕ → List ℕ → List ℕ → List ℕ → ℕ → ℕ → ℕ → ℕ → OutgoingStream → Item → ℕ → ProducedWith
 sent ws st es bs k at id row s m n =
     pick (ltb 0 (sendCode ws (length st) s m n (length bs))) (refusedWith (sendCode ws (length st) s m n (length bs)) ws es bs)
     (producedWith (produced.Fragment (sentNotes ws es k id s n .count) (dataToSend id (numberedItem s m) n))
-    (writtenSent ws at id row (numberedStream s m) (numberedItem s m) n)
+    (writtenSent ws at id row (numberedStream s m) (numberedItem s m) n (areGiven (m .numbers)))
     (sentNotes ws es k id s n .events)
     (readPart ws st (s .first) (m .offset) n bs))
 

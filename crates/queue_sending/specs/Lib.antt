@@ -2,6 +2,7 @@
 pub mod Data
 pub mod Numbers
 pub mod Choice
+pub mod Progress
 pub mod Fragment
 pub mod Produce
 pub mod Next

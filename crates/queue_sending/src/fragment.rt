@@ -4,13 +4,14 @@ ghost use Prim.Native.Nat.{_<_};
 ghost use lib.ListN.{length};
 ghost use Rattle.queue_sending.specs.Data.{producedWith};
 ghost use Rattle.queue_sending.specs.declared.data.Produced.the-variants.{Fragment};
-ghost use Rattle.queue_sending.specs.Fragment.{leastOf, sendCode, nextFirst, finished, wentOn, writtenSent, sent, chosenCode, handedOut};
+ghost use Rattle.queue_sending.specs.Fragment.{leastOf, sendCode, nextFirst, finished, wentOn, wentFurther, writtenSent, sent, chosenCode, handedOut};
 use crate::data::DataToSend;
 use crate::data::Produced;
 use crate::data::data_to_send;
 use crate::numbers::moved_on;
 use crate::numbers::numbered_item;
 use crate::numbers::numbered_stream;
+use crate::progress::store_progress;
 use message_chains::amounts::minus;
 use message_chains::amounts::remaining;
 use message_chains::dropping::end_pending;
@@ -126,7 +127,29 @@ fn go_on(queue: &mut [u64; QUEUE_WORDS], row: usize, s: OutgoingStream, m: Item,
     store_stream(queue, row, o);
 }
 
-// The words after a fragment of n bytes of the numbered message m of the stream s, which has given its numbers.
+// The same where the message had its numbers before: only the words that then change are stored.
+fn go_further(queue: &mut [u64; QUEUE_WORDS], row: usize, s: OutgoingStream, m: Item, n: u64)
+    requires { ⌜ (row < 256) × (s .first < 1024) ⌝ }
+    ensures { λ _. ⌜ now (queue .exit) ≡ wentFurther (now (queue .entry)) row s m n ⌝ }
+{
+    let t = load_totals(&*queue);
+    let total = minus(t.total, n);
+    let amount = minus(s.buffered_amount, n);
+    let item = moved_on(m, n);
+    let fsn = item.fsn;
+    store_progress(
+        queue,
+        row,
+        s.first as usize,
+        total,
+        amount,
+        fsn,
+        item.offset,
+    );
+}
+
+// The words after a fragment of n bytes of the numbered message m of the stream s, which has given its numbers; `had` says whether the
+// message had them before.
 fn write_sent(
     queue: &mut [u64; QUEUE_WORDS],
     at: usize,
@@ -135,9 +158,10 @@ fn write_sent(
     s: OutgoingStream,
     m: Item,
     n: u64,
+    had: bool,
 )
     requires { ⌜ (row < 256) × (s .first < 1024) ⌝ }
-    ensures { λ _. ⌜ now (queue .exit) ≡ writtenSent (now (queue .entry)) at id row s m n ⌝ }
+    ensures { λ _. ⌜ now (queue .exit) ≡ writtenSent (now (queue .entry)) at id row s m n had ⌝ }
 {
     let left = remaining(m);
     if n == left {
@@ -145,6 +169,10 @@ fn write_sent(
         return;
     }
     accept(queue, at, n);
+    if had {
+        go_further(queue, row, s, m, n);
+        return;
+    }
     go_on(queue, row, s, m, n);
 }
 
@@ -175,7 +203,9 @@ fn send(
     let k1 = sent_events(&*queue, events, k, id, s, n);
     let item = numbered_item(s, m);
     let stream = numbered_stream(s, m);
-    write_sent(queue, at, id, row, stream, item, n);
+    let numbers = m.numbers;
+    let had = numbers.are_given();
+    write_sent(queue, at, id, row, stream, item, n, had);
     let d = data_to_send(id, item, n);
     Handed {
         count: k1,

@@ -9,6 +9,7 @@ pub mod numbers;
 pub mod own;
 pub mod passing;
 pub mod past;
+pub mod progress;
 
 pub use data::Data;
 pub use data::DataToSend;

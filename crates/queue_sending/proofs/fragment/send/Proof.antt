@@ -10,17 +10,39 @@ read-own-requires : tie.Need-read-own-requires
 read-own-requires c κs = send-reads _ _ _ _ _ _ (c .before .before .before .before .before .pre .2)
 
 write-sent-requires : tie.Need-write-sent-requires
-write-sent-requires c κs = ((c .before .before .before .before .before .before .before .before .before .before .before .before .before .before .before .before .pre .0), first-fits _ _ _ (c .before .numbered-stream .ensures) (c .before .before .before .before .before .before .before .before .before .before .before .before .before .before .before .before .pre .1))
+write-sent-requires c κs = ((c .before .before .before .before .before .before .before .before .before .before .before .before .before .before .before .before .before .pre .0), first-fits _ _ _ (c .before .before .numbered-stream .ensures) (c .before .before .before .before .before .before .before .before .before .before .before .before .before .before .before .before .before .pre .1))
 
 same-length : tie.Need-same-length
-same-length c = search (needs, (c .before .before .before .before .before .before .events .given))
+same-length c = search (needs, (c .before .before .before .before .before .before .before .events .given))
 
 same-length-2 : tie.Need-same-length-2
-same-length-2 c = search (needs, (c .before .before .before .before .before .before .before .before .before .before .before .buffer .given))
+same-length-2 c = search (needs, (c .before .before .before .before .before .before .before .before .before .before .before .before .buffer .given))
 
 returns : tie.Need-returns
 unfolding sent
-returns c = rw ((c .before .before .before .before .before .before .before .before .before .before .before .before .before .before .before .before .before .before .pre .2), ← (c .before .before .before .before .before .before .before .before .before .before .before .before .read-own .ensures), ← (c .before .before .before .before .before .before .before .sent-events .ensures), ← (c .before .before .before .before .numbered-item .ensures), ← (c .before .before .before .numbered-stream .ensures), ← (c .before .write-sent .ensures), ← (c .data-to-send .ensures))
+returns c =
+    rw (
+      (c .before .before .before .before .before .before .before .before .before .before .before .before .before .before .before .before .before .before .before .pre .2),
+      ← (c .before .before .before .before .before .before .before .before .before .before .before .before .before .read-own .ensures),
+      ← (c .before .before .before .before .before .before .before .before .sent-events .ensures),
+      ← (c .before .before .before .before .before .numbered-item .ensures),
+      ← (c .before .before .before .before .numbered-stream .ensures),
+      ← (c .before .before .before .are-given .ensures),
+      ← (c .before .write-sent .ensures),
+      ← (c .data-to-send .ensures),
+    )
 
 pub send-spec : {M : Type 1} → statement M
-send-spec = tie.close (tie.spec read-own-requires (λ c κs. search needs) (λ c κs. search needs) (λ c κs. search needs) write-sent-requires (λ c κs. search needs) same-length same-length-2 returns)
+send-spec =
+    tie.close
+    (tie.spec
+    read-own-requires
+    (λ c κs. search needs)
+    (λ c κs. search needs)
+    (λ c κs. search needs)
+    (λ c κs. search needs)
+    write-sent-requires
+    (λ c κs. search needs)
+    same-length
+    same-length-2
+    returns)

@@ -18,9 +18,21 @@ returns-2 : tie.Need-returns-2
 unfolding writtenSent
 returns-2 c =
     rw (
-      ← (c .before .before .before .before .before .remaining .ensures),
-      ne-eqb _ _ (c .before .before .before .before .if1 .left),
-      ← (c .before .before .accept .ensures),
+      ← (c .before .before .before .before .before .before .remaining .ensures),
+      ne-eqb _ _ (c .before .before .before .before .before .if1 .left),
+      (c .before .before .if2 .taken),
+      ← (c .before .before .before .accept .ensures),
+      ← (c .go-further .ensures),
+    )
+
+returns-3 : tie.Need-returns-3
+unfolding writtenSent
+returns-3 c =
+    rw (
+      ← (c .before .before .before .before .before .before .remaining .ensures),
+      ne-eqb _ _ (c .before .before .before .before .before .if1 .left),
+      (c .before .before .if2 .left),
+      ← (c .before .before .before .accept .ensures),
       ← (c .go-on .ensures),
     )
 
@@ -33,4 +45,6 @@ write-sent-spec =
     returns
     (λ c. search needs)
     (λ c. search needs)
-    returns-2)
+    returns-2
+    (λ c. search needs)
+    returns-3)
