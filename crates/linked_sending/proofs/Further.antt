@@ -7,6 +7,7 @@ use lib.ListN.{length}
 use Rattle.queue_words.specs.Active.{activeAt}
 use Rattle.queue_words.specs.Header.{optionsAt, totalsAt, schedulerAt, putTotals, FitsTotals}
 use Rattle.queue_words.specs.Items.{itemAt, putItem, FitsItem}
+use Rattle.queue_words.specs.Leasts.{leastsAt}
 use Rattle.queue_words.specs.Known.{knownAt}
 use Rattle.queue_words.specs.Streams.{streamAt, putStream, FitsStream}
 use Rattle.queue_words.specs.declared.header.Totals.{Totals}
@@ -18,7 +19,7 @@ use Rattle.queue_sending.specs.Numbers.{movedOn}
 use Rattle.queue_sending.specs.Progress.{putProgress, withPart}
 use Rattle.queue_sending.proofs.ProgressLaws as few
 use Rattle.queue_state.proofs.Singles.{Alike}
-use Rattle.queue_state.proofs.Splits.{by-index}
+use Rattle.payload_store.proofs.Cases.{by-index}
 use Rattle.linked_sending.proofs.Numbering.{moved-fits}
 
 -- Both read the same.
@@ -28,6 +29,7 @@ pub record Further (us vs : List ℕ) : Type 0 where
   pub totals : totalsAt vs ≡ totalsAt us
   pub scheduler : schedulerAt vs ≡ schedulerAt us
   pub actives : (j : ℕ) → activeAt vs j ≡ activeAt us j
+  pub leasts : leastsAt vs ≡ leastsAt us
 
 part-is : (m : Item) (n : ℕ) → withPart m (movedOn m n .fsn .0) (movedOn m n .offset) ≡ movedOn m n
 unfolding movedOn
@@ -131,6 +133,7 @@ module _ (ws : List ℕ) (r x n : ℕ) (l : length ws ≡ 20768) (hr : r < 256) 
     totals = totals-same;
     scheduler = few.scheduler-put-progress ws r x _ _ _ _ ∙ sym (Laws.scheduler-put-stream u2 r s₁ ∙ Laws.scheduler-put-item u1 x m₁ ∙ Laws.scheduler-put-totals ws t);
     actives = λ j. few.active-put-progress ws r x _ _ _ _ j hr hx ∙ sym (Laws.active-put-stream u2 r s₁ j hr ∙ Laws.active-put-item u1 x m₁ j hx ∙ Laws.active-put-totals ws t j);
+    leasts = few.leasts-put-progress ws r x _ _ _ _ ∙ sym (Laws.leasts-put-stream u2 r s₁ ∙ Laws.leasts-put-item u1 x m₁ ∙ Laws.leasts-put-totals ws t);
   }
 
 -- The stream in row r and its first message, as they stand in the words.

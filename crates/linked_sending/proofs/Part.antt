@@ -256,7 +256,7 @@ module _ (ws st : List ℕ) (g : Shape ws st) (known : AllKnown ws st) (at : ℕ
       let d : s′ .first ≡ c .first = renumbered s m .first-same ∙ c .first-is in
       let f : Further (wentOn u1 (rowAt ws (c .pos)) s′ m′ n) (wentFurther u1 (rowAt ws (c .pos)) s′ m′ n) = further u1 (rowAt ws (c .pos)) n s′ m′ (g1 .long) in-rows (omega (arith, d, c .first-fits))
       (alike1 .rows (rowAt ws (c .pos)) in-rows ∙ sym (z .0)) (ap (itemAt u1) d ∙ alike1 .items (c .first) (c .first-fits) ∙ sym (z .1)) in
-      let k = scheduler-same (wentOn u1 (rowAt ws (c .pos)) s′ m′ n) (wentFurther u1 (rowAt ws (c .pos)) s′ m′ n) (f .alike .long) (f .options) (f .scheduler) (f .actives) (w .shape .schedules) in
+      let k = scheduler-same (wentOn u1 (rowAt ws (c .pos)) s′ m′ n) (wentFurther u1 (rowAt ws (c .pos)) s′ m′ n) (f .alike .long) (f .options) (f .scheduler) (f .actives) (f .leasts) (w .shape .schedules) in
       let y = unmoved (wentOn u1 (rowAt ws (c .pos)) s′ m′ n) st (w .shape) (wentFurther u1 (rowAt ws (c .pos)) s′ m′ n) (f .alike) (k .0) in
       record { shape = y .shape; options = f .options ∙ w .options; totals = f .totals ∙ w .totals; scheduler = k .1 ∙ w .scheduler; streams = y .streams ∙ w .streams }
 

@@ -8,6 +8,7 @@ use native.Mathlib.Nat.{mod-eq-of-lt}
 use lib.ListN.{length, set, length-set}
 use Rattle.queue_words.specs.Rows.{row}
 use Rattle.queue_words.specs.Header.{optionsOf, optionsAt, totalsOf, totalsAt, schedulerOf, schedulerAt}
+use Rattle.queue_words.specs.Leasts.{leastsAt}
 use Rattle.queue_words.specs.Known.{knownOf, knownAt}
 use Rattle.queue_words.specs.Streams.{streamOf, streamAt}
 use Rattle.queue_words.specs.Items.{itemOf, itemAt}
@@ -57,6 +58,10 @@ module _ (ws : List ℕ) (r i total amount fsn offset : ℕ) where
   pub scheduler-put-progress : schedulerAt (putProgress ws r i total amount fsn offset) ≡ schedulerAt ws
   unfolding schedulerAt
   scheduler-put-progress = ap schedulerOf (others 18 3 (inl (omega arith)) (inr (omega arith)) (inr (omega arith)) (inr (omega arith)))
+
+  pub leasts-put-progress : leastsAt (putProgress ws r i total amount fsn offset) ≡ leastsAt ws
+  unfolding leastsAt
+  leasts-put-progress = others 21 11 (inl (omega arith)) (inr (omega arith)) (inr (omega arith)) (inr (omega arith))
 
   pub known-put-progress : (j : ℕ) → j < 256 → knownAt (putProgress ws r i total amount fsn offset) j ≡ knownAt ws j
   unfolding knownAt
