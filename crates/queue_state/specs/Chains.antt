@@ -5,6 +5,7 @@ use Prim.Native.Nat.{ℕ, zero, suc, _+_, _<_}
 use Rattle.queue_words.specs.Flags.{pick}
 use lib.Dec.{eqb, ltb}
 use lib.ListN.{length}
+unfoldable pub use Rattle.payload_store.specs.Good.{sumTo}
 
 -- the places that are reached from p, at most n of them: what a reader computes
 unfoldable pub chain : (ℕ → ℕ) → ℕ → ℕ → List ℕ
@@ -43,10 +44,6 @@ each g (x ∷ xs) = g x ∷ each g xs
 -- a family of lists with v in the place of the i-th
 unfoldable pub upd : (ℕ → List ℕ) → ℕ → List ℕ → ℕ → List ℕ
 upd q i v j = pick (eqb i j) v (q j)
-
-unfoldable pub sumTo : (ℕ → ℕ) → ℕ → ℕ
-sumTo g zero = 0
-sumTo g (suc n) = g n + sumTo g n
 
 -- the sum of a measure over the 256 lists of a family
 unfoldable pub total : (List ℕ → ℕ) → (ℕ → List ℕ) → ℕ
