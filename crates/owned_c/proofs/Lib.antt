@@ -1,0 +1,2 @@
+-- What the owned calls give as numbers. Assumes nothing.
+pub mod Told

@@ -1,0 +1,2 @@
+-- Answers of the owned calls as numbers. Assumes nothing.
+pub mod Told
