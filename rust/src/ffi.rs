@@ -1,4 +1,4 @@
-//! The C functions of the proved queue and receiver, each behind a safe function. All unsafe code of the crate is here.
+//! The C functions of the proved queue and receiver, each behind a safe function. All unsafe code of the crate is here and in ffi/queue.rs.
 //!
 //! Why the calls are safe. The C functions ask for pointers that are valid for the lengths given, that do not overlap where one is written,
 //! and that are aligned. Here every pointer is made from a reference of a fixed or given length, which lives through the call; Rust's rules
@@ -6,6 +6,8 @@
 //! library is of that source's layout (`SendQueue::new` and `Receiver::new` ask it). Words and bytes have no forbidden values. The library reads and writes
 //! inside its buffers only (that is proved), keeps no pointer and has no state of its own. It never unwinds. With too little stack the process
 //! ends at the guard page: large frames touch their pages in order.
+//!
+//! The calls on a queue, which ask for more, are in ffi/queue.rs.
 
 use crate::chunk::ChunkKind;
 use crate::fragment::Data;
@@ -19,8 +21,6 @@ use crate::limits::OUT_WORDS;
 use crate::limits::QUEUE_WORDS;
 use crate::limits::RECEIVER_OUT_WORDS;
 use crate::limits::RECEIVER_WORDS;
-use crate::options::Options;
-use crate::packet::Packet;
 use std::mem::MaybeUninit;
 
 /// A queue's state.
@@ -41,6 +41,11 @@ pub(crate) type ChunkWords = [u64; CHUNK_WORDS];
 pub(crate) type ReceiverWords = [u64; RECEIVER_WORDS];
 /// What a receiver's call tells: 0 its value, 1 to 4 a message's length, stream, order mark and protocol id.
 pub(crate) type ReceiverOut = [u64; RECEIVER_OUT_WORDS];
+
+mod queue;
+
+pub(crate) use queue::Given;
+pub(crate) use queue::Queue;
 
 mod c {
     unsafe extern "C" {
@@ -237,163 +242,6 @@ pub(crate) fn layouts() -> [u64; 2] {
     unsafe { [c::dsq_layout_5(), c::dsq_layout()] }
 }
 
-pub(crate) fn create(queue: &mut Words, store: &[u8], payload_limit: u64, options: &Options) -> u32 {
-    // SAFETY: queue and store are references, the store's length is its own.
-    unsafe {
-        c::dsq_create(
-            queue.as_mut_ptr(),
-            store.as_ptr(),
-            store.len(),
-            payload_limit,
-            options.default_stream_priority,
-            options.default_stream_buffered_amount_low_threshold as u64,
-            options.total_buffered_amount_low_threshold as u64,
-            u8::from(options.enable_handover_with_outstanding_data),
-            options.restart_rule as u8,
-        )
-    }
-}
-
-/// What is given with a message, in the C functions' terms.
-pub(crate) struct Given {
-    pub time: u64,
-    pub stream_id: u16,
-    pub ppid: u32,
-    pub unordered: bool,
-    pub lifetime: Option<u64>,
-    pub max_retransmissions: Option<u16>,
-    pub lifecycle_id: u64,
-}
-
-pub(crate) fn add(queue: &mut Words, store: &mut [u8], payload: &[u8], given: &Given) -> u32 {
-    // SAFETY: queue, store and payload are references, the lengths are their own; the payload overlaps neither, since those are `&mut`.
-    unsafe {
-        c::dsq_add(
-            queue.as_mut_ptr(),
-            store.as_mut_ptr(),
-            store.len(),
-            payload.as_ptr(),
-            payload.len(),
-            given.time,
-            given.stream_id,
-            given.ppid,
-            u8::from(given.unordered),
-            u8::from(given.lifetime.is_some()),
-            given.lifetime.unwrap_or(0),
-            u8::from(given.max_retransmissions.is_some()),
-            given.max_retransmissions.unwrap_or(0),
-            given.lifecycle_id,
-        )
-    }
-}
-
-#[inline]
-pub(crate) fn produce(
-    queue: &mut Words,
-    store: &[u8],
-    events: &mut EventWords,
-    buffer: &mut [u8],
-    out: &mut Out,
-    time: u64,
-    size: u64,
-) -> u32 {
-    // SAFETY: all five are references, the lengths are their own.
-    unsafe {
-        c::dsq_produce(
-            queue.as_mut_ptr(),
-            store.as_ptr(),
-            store.len(),
-            events.as_mut_ptr(),
-            events.len(),
-            buffer.as_mut_ptr(),
-            buffer.len(),
-            out.as_mut_ptr(),
-            time,
-            size,
-        )
-    }
-}
-
-pub(crate) fn fill_packet(
-    queue: &mut Words,
-    store: &[u8],
-    events: &mut EventWords,
-    buffer: &mut [u8],
-    out: &mut Out,
-    time: u64,
-    packet: &Packet,
-) -> u32 {
-    // SAFETY: all five are references, the lengths are their own.
-    unsafe {
-        c::dsq_fill_packet(
-            queue.as_mut_ptr(),
-            store.as_ptr(),
-            store.len(),
-            events.as_mut_ptr(),
-            events.len(),
-            buffer.as_mut_ptr(),
-            buffer.len(),
-            out.as_mut_ptr(),
-            time,
-            packet.limit as u64,
-            packet.source_port,
-            packet.destination_port,
-            packet.verification_tag,
-            packet.tsn.0,
-        )
-    }
-}
-
-pub(crate) fn discard(
-    queue: &mut Words,
-    events: &mut EventWords,
-    out: &mut Out,
-    stream_id: u16,
-    message_id: u32,
-) -> u32 {
-    // SAFETY: all three are references, the list's length is its own.
-    unsafe {
-        c::dsq_discard(queue.as_mut_ptr(), events.as_mut_ptr(), events.len(), out.as_mut_ptr(), stream_id, message_id)
-    }
-}
-
-pub(crate) fn prepare_reset_stream(queue: &mut Words, events: &mut EventWords, out: &mut Out, stream_id: u16) -> u32 {
-    // SAFETY: all three are references, the list's length is its own.
-    unsafe {
-        c::dsq_prepare_reset_stream(queue.as_mut_ptr(), events.as_mut_ptr(), events.len(), out.as_mut_ptr(), stream_id)
-    }
-}
-
-pub(crate) fn set_buffered_amount_low_threshold(
-    queue: &mut Words,
-    events: &mut EventWords,
-    out: &mut Out,
-    stream_id: u16,
-    threshold: u64,
-) -> u32 {
-    // SAFETY: all three are references, the list's length is its own.
-    unsafe {
-        c::dsq_set_buffered_amount_low_threshold(
-            queue.as_mut_ptr(),
-            events.as_mut_ptr(),
-            events.len(),
-            out.as_mut_ptr(),
-            stream_id,
-            threshold,
-        )
-    }
-}
-
-pub(crate) fn set_priority(queue: &mut Words, stream_id: u16, priority: u16) -> u32 {
-    // SAFETY: queue is a reference.
-    unsafe { c::dsq_set_priority(queue.as_mut_ptr(), stream_id, priority) }
-}
-
-pub(crate) fn enable_message_interleaving(queue: &mut Words, enabled: bool) -> u32 {
-    // SAFETY: queue is a reference.
-    unsafe { c::dsq_enable_message_interleaving(queue.as_mut_ptr(), u8::from(enabled)) }
-}
-
 pub(crate) fn plan_priorities(ids: &[u16], sizes: &[u64], priorities: &mut Priorities, payload_limit: u64) -> u32 {
     // SAFETY: all three are references, the lists' lengths are their own; there is room for every list that is not refused.
     unsafe {
@@ -445,154 +293,10 @@ pub(crate) fn read_chunk(bytes: &[u8], out: &mut Out, chunk: &mut ChunkWords) ->
     unsafe { c::dsq_read_chunk(bytes.as_ptr(), bytes.len(), out.as_mut_ptr(), chunk.as_mut_ptr()) }
 }
 
-pub(crate) fn get_streams_ready_to_reset(queue: &mut Words, ids: &mut ReadyIds, out: &mut Out) -> u32 {
-    // SAFETY: all three are references; the ids have room for every stream that a queue can know.
-    unsafe { c::dsq_get_streams_ready_to_reset(queue.as_mut_ptr(), ids.as_mut_ptr(), out.as_mut_ptr()) }
-}
-
-pub(crate) fn commit_reset_streams(queue: &mut Words) -> u32 {
-    // SAFETY: queue is a reference.
-    unsafe { c::dsq_commit_reset_streams(queue.as_mut_ptr()) }
-}
-
-pub(crate) fn rollback_reset_streams(queue: &mut Words) -> u32 {
-    // SAFETY: queue is a reference.
-    unsafe { c::dsq_rollback_reset_streams(queue.as_mut_ptr()) }
-}
-
-pub(crate) fn reset(queue: &mut Words) -> u32 {
-    // SAFETY: queue is a reference.
-    unsafe { c::dsq_reset(queue.as_mut_ptr()) }
-}
-
-pub(crate) fn start_reset_handler(handler: &mut HandlerNumbers, number: u32) -> u32 {
+pub(crate) fn start_reset_handler(handler: &mut HandlerNumbers, number: u32) {
     // SAFETY: handler is a reference of its length.
-    unsafe { c::dsq_start_reset_handler(handler.as_mut_ptr(), number) }
-}
-
-pub(crate) fn make_reset_request(
-    queue: &mut Words,
-    handler: &mut HandlerNumbers,
-    output: &mut [u8],
-    out: &mut Out,
-    response_number: u32,
-    last_tsn: u32,
-) -> u32 {
-    // SAFETY: all four are references, the output's length is its own.
-    unsafe {
-        c::dsq_make_reset_request(
-            queue.as_mut_ptr(),
-            handler.as_mut_ptr(),
-            output.as_mut_ptr(),
-            output.len(),
-            out.as_mut_ptr(),
-            response_number,
-            last_tsn,
-        )
-    }
-}
-
-pub(crate) fn handle_reset_response(
-    queue: &mut Words,
-    handler: &mut HandlerNumbers,
-    bytes: &[u8],
-    out: &mut Out,
-) -> u32 {
-    // SAFETY: all four are references, the bytes' length is their own and they are only read.
-    unsafe {
-        c::dsq_handle_reset_response(
-            queue.as_mut_ptr(),
-            handler.as_mut_ptr(),
-            bytes.as_ptr(),
-            bytes.len(),
-            out.as_mut_ptr(),
-        )
-    }
-}
-
-pub(crate) fn reset_through_handler(queue: &mut Words, handler: &mut HandlerNumbers) -> u32 {
-    // SAFETY: both are references.
-    unsafe { c::dsq_reset_through_handler(queue.as_mut_ptr(), handler.as_mut_ptr()) }
-}
-
-pub(crate) fn get_priority(queue: &Words, out: &mut Out, stream_id: u16) -> u32 {
-    // SAFETY: both are references; a question reads the queue only.
-    unsafe { c::dsq_get_priority(queue.as_ptr(), out.as_mut_ptr(), stream_id) }
-}
-
-pub(crate) fn buffered_amount(queue: &Words, out: &mut Out, stream_id: u16) -> u32 {
-    // SAFETY: both are references; a question reads the queue only.
-    unsafe { c::dsq_buffered_amount(queue.as_ptr(), out.as_mut_ptr(), stream_id) }
-}
-
-pub(crate) fn buffered_amount_low_threshold(queue: &Words, out: &mut Out, stream_id: u16) -> u32 {
-    // SAFETY: both are references; a question reads the queue only.
-    unsafe { c::dsq_buffered_amount_low_threshold(queue.as_ptr(), out.as_mut_ptr(), stream_id) }
-}
-
-pub(crate) fn has_data_to_send(queue: &Words, out: &mut Out) -> u32 {
-    // SAFETY: both are references; a question reads the queue only.
-    unsafe { c::dsq_has_data_to_send(queue.as_ptr(), out.as_mut_ptr()) }
-}
-
-pub(crate) fn has_streams_ready_to_be_reset(queue: &Words, out: &mut Out) -> u32 {
-    // SAFETY: both are references; a question reads the queue only.
-    unsafe { c::dsq_has_streams_ready_to_be_reset(queue.as_ptr(), out.as_mut_ptr()) }
-}
-
-pub(crate) fn count_streams_ready_to_reset(queue: &Words, out: &mut Out) -> u32 {
-    // SAFETY: both are references; a question reads the queue only.
-    unsafe { c::dsq_count_streams_ready_to_reset(queue.as_ptr(), out.as_mut_ptr()) }
-}
-
-pub(crate) fn total_buffered_amount(queue: &Words) -> u64 {
-    // SAFETY: queue is a reference; a question reads it only.
-    unsafe { c::dsq_total_buffered_amount(queue.as_ptr()) }
-}
-
-pub(crate) fn is_empty(queue: &Words) -> bool {
-    // SAFETY: queue is a reference; a question reads it only.
-    unsafe { c::dsq_is_empty(queue.as_ptr()) != 0 }
-}
-
-pub(crate) fn free_bytes(queue: &Words) -> u64 {
-    // SAFETY: queue is a reference; a question reads it only.
-    unsafe { c::dsq_free_bytes(queue.as_ptr()) }
-}
-
-pub(crate) fn waiting_messages(queue: &Words) -> u64 {
-    // SAFETY: queue is a reference; a question reads it only.
-    unsafe { c::dsq_waiting_messages(queue.as_ptr()) }
-}
-
-pub(crate) fn known_streams(queue: &Words) -> u64 {
-    // SAFETY: queue is a reference; a question reads it only.
-    unsafe { c::dsq_known_streams(queue.as_ptr()) }
-}
-
-pub(crate) fn get_handover_readiness(queue: &Words) -> u64 {
-    // SAFETY: queue is a reference; a question reads it only.
-    unsafe { c::dsq_get_handover_readiness(queue.as_ptr()) }
-}
-
-pub(crate) fn save(queue: &Words, store: &[u8], image: &mut [u8], out: &mut Out, time: u64) -> u32 {
-    // SAFETY: all four are references, the lengths are their own; saving reads queue and store only.
-    unsafe {
-        c::dsq_save(
-            queue.as_ptr(),
-            store.as_ptr(),
-            store.len(),
-            image.as_mut_ptr(),
-            image.len(),
-            out.as_mut_ptr(),
-            time,
-        )
-    }
-}
-
-pub(crate) fn restore(queue: &mut Words, store: &mut [u8], image: &[u8], time: u64) -> u32 {
-    // SAFETY: all three are references, the lengths are their own; the image overlaps neither, since those are `&mut`.
-    unsafe { c::dsq_restore(queue.as_mut_ptr(), store.as_mut_ptr(), store.len(), image.as_ptr(), image.len(), time) }
+    let number = unsafe { c::dsq_start_reset_handler(handler.as_mut_ptr(), number) };
+    debug_assert!(number == 0, "starting is never refused");
 }
 
 /// The receiver's layout, told twice as the queue's is.

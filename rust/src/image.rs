@@ -1,6 +1,5 @@
 //! The changeover image: a queue as bytes, to be carried to another host.
 
-use crate::ffi;
 use crate::limits::MAX_IMAGE_RECORDS;
 use crate::limits::OUT_WORDS;
 use crate::queue::SendQueue;
@@ -19,7 +18,7 @@ impl SendQueue {
     ///
     /// [`Refusal::TimeLate`].
     pub fn save(&self, now: SocketTime) -> Result<Vec<u8>, Refusal> {
-        let mut image = vec![0; self.store.len() + MAX_IMAGE_RECORDS];
+        let mut image = vec![0; self.queue.store_length() + MAX_IMAGE_RECORDS];
         let length = self.save_into(now, &mut image)?;
         image.truncate(length);
         image.shrink_to_fit();
@@ -33,7 +32,7 @@ impl SendQueue {
     /// [`Refusal::TimeLate`], [`Refusal::ImageBufferShort`].
     pub fn save_into(&self, now: SocketTime, image: &mut [u8]) -> Result<usize, Refusal> {
         let mut out = [0; OUT_WORDS];
-        Refusal::judge(ffi::save(&self.words, &self.store, image, &mut out, now.0))?;
+        Refusal::judge(self.queue.save(image, &mut out, now.0))?;
         Ok(out[0] as usize)
     }
 
@@ -55,6 +54,6 @@ impl SendQueue {
     /// [`Refusal::ImageLarge`].
     pub fn restore(&mut self, now: SocketTime, image: &[u8]) -> Result<(), Refusal> {
         self.event_count = 0;
-        Refusal::judge(ffi::restore(&mut self.words, &mut self.store, image, now.0))
+        Refusal::judge(self.queue.restore(image, now.0))
     }
 }

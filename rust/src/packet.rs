@@ -1,6 +1,5 @@
 //! Packets on the wire: one call fills a whole packet.
 
-use crate::ffi;
 use crate::ids::Tsn;
 use crate::limits::OUT_WORDS;
 use crate::queue::SendQueue;
@@ -49,7 +48,7 @@ impl SendQueue {
         packet: &Packet,
     ) -> Result<Option<Filled>, Refusal> {
         let mut out = [0; OUT_WORDS];
-        let number = ffi::fill_packet(&mut self.words, &self.store, &mut self.events, buffer, &mut out, now.0, packet);
+        let number = self.queue.fill_packet(&mut self.events, buffer, &mut out, now.0, packet);
         self.reported(&out);
         Refusal::judge(number)?;
         let [chunks, _, bytes, ..] = out;

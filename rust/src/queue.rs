@@ -5,7 +5,8 @@ use crate::ffi;
 use crate::ffi::EventWords;
 use crate::ffi::Given;
 use crate::ffi::Out;
-use crate::ffi::Words;
+use crate::ffi::Queue;
+
 use crate::fragment;
 use crate::fragment::DataToSend;
 use crate::ids::OutgoingMessageId;
@@ -16,7 +17,6 @@ use crate::limits::MAX_PAYLOAD;
 use crate::limits::MAX_STORE;
 use crate::limits::OUT_WORDS;
 use crate::limits::PLACE_WORDS;
-use crate::limits::QUEUE_WORDS;
 use crate::message::Message;
 use crate::message::SendOptions;
 use crate::options::Options;
@@ -33,12 +33,12 @@ use std::fmt;
 ///
 /// A clone is a second queue with the same messages: only one of the two may send them. It is for looking ahead.
 ///
-/// Some methods answer without a `Result`, as dcSCTP's do. The one refusal that they could get is [`Refusal::WordsBroken`], and it is
-/// proved that no queue gets there; they would panic, where dcSCTP's code panics.
+/// Some methods answer without a `Result`, as dcSCTP's do: nothing refuses them, and they do not panic. (In C they can be handed words that are
+/// not a queue's, and answer 16. A `SendQueue` owns its words, and it is proved that its calls keep them a queue's. A debug build asks anew at
+/// each call.)
 #[derive(Clone)]
 pub struct SendQueue {
-    pub(crate) words: Box<Words>,
-    pub(crate) store: Box<[u8]>,
+    pub(crate) queue: Queue,
     pub(crate) events: Box<EventWords>,
     pub(crate) event_count: usize,
     fragment: Vec<u8>,
@@ -48,11 +48,6 @@ pub struct SendQueue {
 #[allow(clippy::unnecessary_box_returns, reason = "an array of this length is not to pass over the stack")]
 pub(crate) fn zeros<const N: usize>() -> Box<[u64; N]> {
     vec![0; N].into_boxed_slice().try_into().expect("the length is the array's")
-}
-
-/// The number of a call that is never refused.
-pub(crate) fn accepted(number: u32) {
-    assert!(number == 0, "refusal {number} of a call that is proved never to be refused");
 }
 
 impl SendQueue {
@@ -71,16 +66,10 @@ impl SendQueue {
             layouts == [LAYOUT; 2],
             "the proved library tells layouts {layouts:?}, this crate is written for {LAYOUT}"
         );
-        let mut queue = Self {
-            words: zeros::<QUEUE_WORDS>(),
-            // A longer store than any queue takes need not be had for it to be refused.
-            store: vec![0; options.max_send_buffer_size.min(MAX_STORE + 1)].into_boxed_slice(),
-            events: zeros::<EVENT_WORDS>(),
-            event_count: 0,
-            fragment: Vec::new(),
-        };
-        Refusal::judge(ffi::create(&mut queue.words, &queue.store, max_payload_bytes as u64, options))?;
-        Ok(queue)
+        // A longer store than any queue takes need not be had for it to be refused.
+        let store = vec![0; options.max_send_buffer_size.min(MAX_STORE + 1)].into_boxed_slice();
+        let queue = Queue::create(store, max_payload_bytes as u64, options).map_err(Refusal::of)?;
+        Ok(Self { queue, events: zeros::<EVENT_WORDS>(), event_count: 0, fragment: Vec::new() })
     }
 
     /// Adds a message behind the others of its stream. The payload is copied.
@@ -100,7 +89,7 @@ impl SendQueue {
             max_retransmissions: send_options.max_retransmissions,
             lifecycle_id: send_options.lifecycle_id.map_or(0, |id| id.value()),
         };
-        Refusal::judge(ffi::add(&mut self.words, &mut self.store, message.payload, &given))
+        Refusal::judge(self.queue.add(message.payload, &given))
     }
 
     /// The next fragment, of at most `max_size` bytes, or `None` if nothing waits. Messages whose time is over are dropped on the way.
@@ -148,7 +137,7 @@ impl SendQueue {
     /// a copy would wait for the words that the call has just written.
     #[inline]
     fn next(&mut self, now: SocketTime, size: u64, buffer: &mut [u8], out: &mut Out) -> Result<bool, Refusal> {
-        let number = ffi::produce(&mut self.words, &self.store, &mut self.events, buffer, out, now.0, size);
+        let number = self.queue.produce(&mut self.events, buffer, out, now.0, size);
         self.reported(out);
         Refusal::judge(number)?;
         Ok(out[0] != 0)
@@ -157,9 +146,9 @@ impl SendQueue {
     /// Drops the stream's first message if it is the one with this id.
     pub fn discard(&mut self, stream_id: StreamId, message_id: OutgoingMessageId) {
         let mut out = [0; OUT_WORDS];
-        let number = ffi::discard(&mut self.words, &mut self.events, &mut out, stream_id.0, message_id.0);
+        let number = self.queue.discard(&mut self.events, &mut out, stream_id.0, message_id.0);
         self.reported(&out);
-        accepted(number);
+        debug_assert!(number == 0, "the queue's list has its length, so that nothing refuses the call");
     }
 
     /// What the last call reported, in order. The next call, whichever it is, replaces it; a call that was refused has reported nothing. Asking
@@ -179,7 +168,7 @@ impl SendQueue {
 impl fmt::Debug for SendQueue {
     fn fmt(&self, f: &mut fmt::Formatter<'_>) -> fmt::Result {
         f.debug_struct("SendQueue")
-            .field("store", &self.store.len())
+            .field("store", &self.queue.store_length())
             .field("total_buffered_amount", &self.total_buffered_amount())
             .finish_non_exhaustive()
     }

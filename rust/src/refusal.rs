@@ -43,8 +43,6 @@ pub enum Refusal {
     PriorityOther = 14,
     /// The image passes 256 streams, 1,024 messages or the store.
     ImageLarge = 15,
-    /// The words are not those of a queue, or of a receiver. Proved never to happen to one that only its own calls have changed.
-    WordsBroken = 16,
     /// The payload to write into a chunk is empty or above 65,515 bytes.
     ChunkPayloadWrong = 17,
     /// The output is shorter than the padded chunk.
@@ -75,7 +73,7 @@ pub enum Refusal {
 }
 
 impl Refusal {
-    const ALL: [Self; 29] = [
+    const ALL: [Self; 28] = [
         Self::PayloadLimitWrong,
         Self::StoreWrong,
         Self::EventListShort,
@@ -91,7 +89,6 @@ impl Refusal {
         Self::ImageWrong,
         Self::PriorityOther,
         Self::ImageLarge,
-        Self::WordsBroken,
         Self::ChunkPayloadWrong,
         Self::ChunkOutputShort,
         Self::ChunkWrong,
@@ -107,7 +104,8 @@ impl Refusal {
         Self::OrderImpossible,
     ];
 
-    /// Its number, 1 to 29.
+    /// Its number, 1 to 29. No refusal has 16, which says that words are not a queue's: a [`SendQueue`](crate::SendQueue) and a
+    /// [`Receiver`](crate::Receiver) own theirs, and it is proved that their calls never lead to it.
     #[must_use]
     pub fn number(self) -> u8 {
         self as u8
@@ -122,7 +120,12 @@ impl Refusal {
     /// What a call's number says: 0 is accepted.
     #[inline]
     pub(crate) fn judge(number: u32) -> Result<(), Self> {
-        if number == 0 { Ok(()) } else { Err(Self::from_number(number as u8).expect("the number is a refusal's")) }
+        if number == 0 { Ok(()) } else { Err(Self::of(number)) }
+    }
+
+    /// The refusal that a call's number says.
+    pub(crate) fn of(number: u32) -> Self {
+        Self::from_number(number as u8).expect("a call's number is a refusal's, and not 16: that is proved")
     }
 }
 
@@ -150,7 +153,6 @@ impl fmt::Display for Refusal {
             Self::ImageLarge => {
                 "the image, with the streams that only messages name, passes 256 streams, 1,024 messages or the store"
             }
-            Self::WordsBroken => "the words are not those of a queue; of a receiver: the words are not those of a receiver",
             Self::ChunkPayloadWrong => "the payload to write into a chunk is empty or above 65,515 bytes",
             Self::ChunkOutputShort => "the output is shorter than the padded chunk",
             Self::ChunkWrong => {

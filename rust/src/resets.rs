@@ -6,7 +6,6 @@ use crate::ids::Tsn;
 use crate::limits::HANDLER_NUMBERS;
 use crate::limits::OUT_WORDS;
 use crate::queue::SendQueue;
-use crate::queue::accepted;
 use crate::refusal::Refusal;
 
 /// Makes the reset requests of a queue, as RE-CONFIG chunks, and takes the peer's responses.
@@ -40,7 +39,7 @@ impl StreamResetHandler {
     #[must_use]
     pub fn new(first_number: u32) -> Self {
         let mut numbers = [0; HANDLER_NUMBERS];
-        accepted(ffi::start_reset_handler(&mut numbers, first_number));
+        ffi::start_reset_handler(&mut numbers, first_number);
         StreamResetHandler { numbers }
     }
 
@@ -72,8 +71,7 @@ impl StreamResetHandler {
     ) -> Result<Option<usize>, Refusal> {
         queue.event_count = 0;
         let mut out = [0; OUT_WORDS];
-        let number =
-            ffi::make_reset_request(&mut queue.words, &mut self.numbers, output, &mut out, response_number, last_tsn.0);
+        let number = queue.queue.make_reset_request(&mut self.numbers, output, &mut out, response_number, last_tsn.0);
         Refusal::judge(number)?;
         Ok((out[0] != 0).then_some(out[0] as usize))
     }
@@ -86,7 +84,7 @@ impl StreamResetHandler {
     pub fn handle_response(&mut self, queue: &mut SendQueue, bytes: &[u8]) -> Result<ResponseOutcome, Refusal> {
         queue.event_count = 0;
         let mut out = [0; OUT_WORDS];
-        Refusal::judge(ffi::handle_reset_response(&mut queue.words, &mut self.numbers, bytes, &mut out))?;
+        Refusal::judge(queue.queue.handle_reset_response(&mut self.numbers, bytes, &mut out))?;
         Ok(match out[0] {
             0 => ResponseOutcome::Ignored,
             1 => ResponseOutcome::Committed,
@@ -98,6 +96,6 @@ impl StreamResetHandler {
     /// The peer has restarted: [`SendQueue::reset`], which ends the request underway. The numbers go on.
     pub fn reset(&mut self, queue: &mut SendQueue) {
         queue.event_count = 0;
-        accepted(ffi::reset_through_handler(&mut queue.words, &mut self.numbers));
+        queue.queue.reset_through_handler(&mut self.numbers);
     }
 }

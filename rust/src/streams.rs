@@ -1,11 +1,9 @@
 //! Closing and restarting streams, and their settings.
 
-use crate::ffi;
 use crate::ids::StreamId;
 use crate::limits::MAX_STREAMS;
 use crate::limits::OUT_WORDS;
 use crate::queue::SendQueue;
-use crate::queue::accepted;
 use crate::refusal::Refusal;
 
 impl SendQueue {
@@ -16,7 +14,7 @@ impl SendQueue {
     /// [`Refusal::StreamsFull`].
     pub fn prepare_reset_stream(&mut self, stream_id: StreamId) -> Result<(), Refusal> {
         let mut out = [0; OUT_WORDS];
-        let number = ffi::prepare_reset_stream(&mut self.words, &mut self.events, &mut out, stream_id.0);
+        let number = self.queue.prepare_reset_stream(&mut self.events, &mut out, stream_id.0);
         self.reported(&out);
         Refusal::judge(number)
     }
@@ -26,28 +24,27 @@ impl SendQueue {
     pub fn get_streams_ready_to_reset(&mut self) -> Vec<StreamId> {
         self.event_count = 0;
         let mut ids = [0; MAX_STREAMS];
-        let mut out = [0; OUT_WORDS];
-        accepted(ffi::get_streams_ready_to_reset(&mut self.words, &mut ids, &mut out));
-        ids[..out[0] as usize].iter().copied().map(StreamId).collect()
+        let count = self.queue.get_streams_ready_to_reset(&mut ids);
+        ids.into_iter().take(count).map(StreamId).collect()
     }
 
     /// The peer has accepted the reset: the streams being reset count from 0 again and are open.
     pub fn commit_reset_streams(&mut self) {
         self.event_count = 0;
-        accepted(ffi::commit_reset_streams(&mut self.words));
+        self.queue.commit_reset_streams();
     }
 
     /// The peer has not accepted the reset: the streams being reset are open again, and count on.
     pub fn rollback_reset_streams(&mut self) {
         self.event_count = 0;
-        accepted(ffi::rollback_reset_streams(&mut self.words));
+        self.queue.rollback_reset_streams();
     }
 
     /// The peer has restarted: all streams are open and count from 0, and a half-sent message is sent whole again, with the numbers that
     /// it had or with new ones ([`RestartRule`](crate::RestartRule)).
     pub fn reset(&mut self) {
         self.event_count = 0;
-        accepted(ffi::reset(&mut self.words));
+        self.queue.reset();
     }
 
     /// Sets the amount at or below which a stream's backlog counts as low.
@@ -57,13 +54,8 @@ impl SendQueue {
     /// [`Refusal::StreamsFull`].
     pub fn set_buffered_amount_low_threshold(&mut self, stream_id: StreamId, threshold: usize) -> Result<(), Refusal> {
         let mut out = [0; OUT_WORDS];
-        let number = ffi::set_buffered_amount_low_threshold(
-            &mut self.words,
-            &mut self.events,
-            &mut out,
-            stream_id.0,
-            threshold as u64,
-        );
+        let number =
+            self.queue.set_buffered_amount_low_threshold(&mut self.events, &mut out, stream_id.0, threshold as u64);
         self.reported(&out);
         Refusal::judge(number)
     }
@@ -76,12 +68,12 @@ impl SendQueue {
     /// [`Refusal::StreamsFull`].
     pub fn set_priority(&mut self, stream_id: StreamId, priority: u16) -> Result<(), Refusal> {
         self.event_count = 0;
-        Refusal::judge(ffi::set_priority(&mut self.words, stream_id.0, priority))
+        Refusal::judge(self.queue.set_priority(stream_id.0, priority))
     }
 
     /// Chooses whether fragments of several messages may alternate (RFC 8260). Off at creation.
     pub fn enable_message_interleaving(&mut self, enable: bool) {
         self.event_count = 0;
-        accepted(ffi::enable_message_interleaving(&mut self.words, enable));
+        self.queue.enable_message_interleaving(enable);
     }
 }

@@ -65,14 +65,14 @@ fn of_header(header: &str) -> Functions {
     functions
 }
 
-/// The declarations of the crate whose names begin so.
+/// The declarations of the crate whose names begin so. One without an answer has `()`.
 fn of_crate(ffi: &str, prefix: &str) -> Functions {
     let mut functions = Functions::new();
     for statement in ffi.split("pub fn ").skip(1) {
         let Some((head, _)) = statement.split_once(';').filter(|_| statement.starts_with(prefix)) else { continue };
         let one_line = head.split_whitespace().collect::<Vec<_>>().join(" ");
         let (name, rest) = one_line.split_once('(').unwrap();
-        let (parameters, answer) = rest.split_once(") -> ").unwrap();
+        let (parameters, answer) = rest.split_once(") -> ").unwrap_or((rest.trim_end_matches(')'), "()"));
         let mut list: Vec<String> =
             parameters.split(',').map(str::trim).filter(|p| !p.is_empty()).map(String::from).collect();
         list.push(answer.into());
@@ -126,17 +126,38 @@ fn of_source(files: &[&str]) -> Functions {
     for file in files {
         for part in text(&format!("../crates/{file}.rt")).split("pub extern \"C\" fn ").skip(1) {
             let (name, rest) = part.split_once('(').unwrap();
-            let (parameters, rest) = rest.split_once(") -> ").unwrap();
+            let (parameters, rest) = rest.split_once(')').unwrap();
+            let answer = rest.strip_prefix(" -> ").map_or("()", |rest| rest.split_whitespace().next().unwrap());
             let mut list = Vec::new();
             for parameter in parameters.split(',').map(str::trim).filter(|p| !p.is_empty()) {
                 let (name, kind) = parameter.split_once(": ").unwrap();
                 of_parameter(name, kind, &mut list);
             }
-            list.push(rest.split_whitespace().next().unwrap().into());
+            list.push(answer.into());
             functions.insert(name.into(), list);
         }
     }
     functions
+}
+
+/// The owned functions are for the crate alone: it declares them as they are proved, and the header does not name them.
+#[test]
+fn the_owned_functions_are_the_proved_ones() {
+    let mut files = Vec::new();
+    for library in text("owned_libraries.txt").split_whitespace() {
+        let folder = Path::new(env!("CARGO_MANIFEST_DIR")).join("../crates").join(library).join("src");
+        for entry in fs::read_dir(&folder).unwrap() {
+            files.push(format!("{library}/src/{}", entry.unwrap().path().file_stem().unwrap().to_str().unwrap()));
+        }
+    }
+    let files: Vec<&str> = files.iter().map(String::as_str).collect();
+    let declared = of_crate(&text("src/ffi/queue.rs"), "dsq_owned_");
+    assert!(declared.len() > 10, "the declarations were not understood");
+    let proved = of_source(&files);
+    for (name, parameters) in &declared {
+        assert_eq!(proved.get(name), Some(parameters), "{name}");
+    }
+    assert!(!text("../c/send_queue.h").contains("owned"));
 }
 
 #[test]
@@ -310,6 +331,9 @@ fn listed(header: &str) -> &str {
 
 const HEADERS: [&str; 2] = ["../c/send_queue.h", "../c/receiver.h"];
 
+/// The refusal of words that are not a queue's or a receiver's. The crate owns its words, and has none for it.
+const BROKEN: u8 = 16;
+
 #[test]
 fn the_refusals_are_the_headers() {
     let mut numbers = BTreeSet::new();
@@ -319,7 +343,7 @@ fn the_refusals_are_the_headers() {
             let (name, given) = entry.trim().split_once(" = ").unwrap();
             let number: u8 = given.parse().unwrap();
             match Refusal::from_number(number) {
-                None => assert_eq!((number, camel(name).as_str()), (0, "Accepted")),
+                None => assert!([(0, "Accepted"), (BROKEN, "WordsBroken")].contains(&(number, camel(name).as_str()))),
                 Some(refusal) => assert_eq!(format!("{refusal:?}"), camel(name)),
             }
             assert!(last < Some(number), "they are in the order of their numbers");
@@ -327,7 +351,8 @@ fn the_refusals_are_the_headers() {
             numbers.insert(number);
         }
     }
-    let known: BTreeSet<u8> = (0..=u8::MAX).filter(|n| *n == 0 || Refusal::from_number(*n).is_some()).collect();
+    let known: BTreeSet<u8> =
+        (0..=u8::MAX).filter(|n| [0, BROKEN].contains(n) || Refusal::from_number(*n).is_some()).collect();
     assert_eq!(numbers, known, "the headers have every refusal");
 }
 
@@ -339,6 +364,9 @@ fn the_refusals_say_what_the_headers_say() {
         let header = text(header).replace("\n     * ", " ");
         for entry in listed(&header).split("/* ").skip(1) {
             let number: u8 = entry.split_once(" = ").unwrap().1.split([',', '\n']).next().unwrap().parse().unwrap();
+            if number == BROKEN {
+                continue;
+            }
             let both = Refusal::from_number(number).unwrap().to_string();
             let parts: Vec<&str> = both.split("; of a receiver: ").collect();
             let said = parts.get(place).unwrap_or(&parts[0]);
