@@ -1,0 +1,3 @@
+-- What the next fragment of an owned queue asks and promises. Assumes nothing.
+pub mod Passing
+pub mod Produce
