@@ -17,7 +17,6 @@ use Rattle.receiver_words.specs.Link.{Linked, firstKey}
 use Rattle.receiver_words.specs.declared.fragments.Fragment.{Fragment}
 use Rattle.receiver_words.proofs.Finds.{find-linked}
 use Rattle.linked_receiver.specs.Rows.{hits, Indexed}
-use Rattle.linked_receiver.proofs.Held.{first-past}
 
 -- ------------------------------------------------------------------ one key, one bucket
 
@@ -70,6 +69,10 @@ first-here : (ws : List ℕ) (k : ℕ) (f : Fragment) (x : ℕ) (xs : List ℕ) 
 unfolding firstKey
 first-here ws k f x xs e = rw e
 
+pub first-there : (ws : List ℕ) (k : ℕ) (f : Fragment) (x : ℕ) (xs : List ℕ) → sameKey k (fragmentAt ws x) f ≡ false → firstKey ws k f (x ∷ xs) ≡ firstKey ws k f xs
+unfolding firstKey
+first-there ws k f x xs e = rw e
+
 pub key-keep : (ws : List ℕ) (k : ℕ) (f : Fragment) (xs : List ℕ) → firstKey ws k f (keep (hits ws k (bucketOf k f)) xs) ≡ firstKey ws k f xs
 unfolding keep
 key-keep ws k f [] = refl
@@ -81,8 +84,8 @@ key-keep ws k f (x ∷ xs) = go (value (sameKey k (fragmentAt ws x) f)) (value (
     go : Value (sameKey k (fragmentAt ws x) f) → Value (hits ws k (bucketOf k f) x) → firstKey ws k f (kept xs) ≡ firstKey ws k f xs → firstKey ws k f (kept (x ∷ xs)) ≡ firstKey ws k f (x ∷ xs)
     go (yes-is s) (yes-is h) ih = ap (firstKey ws k f) (keep-yes (hits ws k (bucketOf k f)) x xs h) ∙ first-here ws k f x (kept xs) s ∙ sym (first-here ws k f x xs s)
     go (yes-is s) (no-is h) ih = absurd (true≢false (eq-eqb _ _ (one-bucket (fragmentAt ws x) f k s)) h)
-    go (no-is s) (yes-is h) ih = ap (firstKey ws k f) (keep-yes (hits ws k (bucketOf k f)) x xs h) ∙ first-past ws k f x (kept xs) s ∙ ih ∙ sym (first-past ws k f x xs s)
-    go (no-is s) (no-is h) ih = ap (firstKey ws k f) (keep-no (hits ws k (bucketOf k f)) x xs h) ∙ ih ∙ sym (first-past ws k f x xs s)
+    go (no-is s) (yes-is h) ih = ap (firstKey ws k f) (keep-yes (hits ws k (bucketOf k f)) x xs h) ∙ first-there ws k f x (kept xs) s ∙ ih ∙ sym (first-there ws k f x xs s)
+    go (no-is s) (no-is h) ih = ap (firstKey ws k f) (keep-no (hits ws k (bucketOf k f)) x xs h) ∙ ih ∙ sym (first-there ws k f x xs s)
 
 pub bucket-in : (k : ℕ) (f : Fragment) → bucketOf k f < 4096
 unfolding bucketOf

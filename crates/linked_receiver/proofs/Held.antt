@@ -27,7 +27,7 @@ use Rattle.receiver_fragments.specs.Holding.{Kept, hold}
 use Rattle.linked_receiver.specs.Rows.{Indexed, Unique, looseRows}
 use Rattle.linked_receiver.specs.Good.{Ghost, wholeRows, Walk, Carried, Good, chunkIn, messageIn, stands}
 use Rattle.linked_receiver.proofs.Lists.{keep-same, count-kept}
-use Rattle.linked_receiver.proofs.Found.{both, find-indexed}
+use Rattle.linked_receiver.proofs.Found.{both, find-indexed, first-there}
 use Rattle.linked_receiver.proofs.Indexes.{indexed-frame}
 use Rattle.linked_receiver.proofs.Promotes.{lined-frame}
 use Rattle.linked_receiver.proofs.Walks.{KeyAmong, absent, present, key-among}
@@ -71,10 +71,6 @@ at-part b ws h x e = e
 part-at : (b : Bool) (ws : List ℕ) (h x : ℕ) → partAfter ws b h ≡ x → findRow ws (bit b) (following (fragmentAt ws h)) ≡ x
 unfolding partAfter
 part-at b ws h x e = e
-
-pub first-past : (ws : List ℕ) (k : ℕ) (f : Fragment) (x : ℕ) (xs : List ℕ) → sameKey k (fragmentAt ws x) f ≡ false → firstKey ws k f (x ∷ xs) ≡ firstKey ws k f xs
-unfolding firstKey
-first-past ws k f x xs e = rw e
 
 pub first-same : (ws ws′ : List ℕ) (k : ℕ) (f : Fragment) (xs : List ℕ) → ((x : ℕ) → 0 < count x xs → fragmentAt ws′ x ≡ fragmentAt ws x) → firstKey ws′ k f xs ≡ firstKey ws k f xs
 unfolding firstKey
@@ -132,7 +128,7 @@ module _ (ws ws′ : List ℕ) (held : List ℕ) (i : ℕ) (f : Fragment) (same 
         go (present j z c s) (yes-is k) = absurd (true≢false (join-key b (fragmentAt ws j) f q s k) (lacks j c))
         go (present j z c s) (no-is k) =
             find-indexed ws′ (bit b) q (i ∷ held) ix′ few′
-            ∙ first-past ws′ (bit b) q i held (ap (λ (v : Fragment). sameKey (bit b) v q) its ∙ k)
+            ∙ first-there ws′ (bit b) q i held (ap (λ (v : Fragment). sameKey (bit b) v q) its ∙ k)
             ∙ first-same ws ws′ (bit b) q held same
             ∙ first
 
