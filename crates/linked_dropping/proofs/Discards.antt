@@ -118,6 +118,10 @@ module _ (ws st es : List ℕ) (m : ℕ) (g : Good ws st) (i : ℕ) (hk : i < to
   fired-few : j .message-id ≡ m → 0 + length fired ≤ 2305
   fired-few me = subst (λ (z : Step). 0 + length (z .outcome .events) ≤ 2305) (stepped me) (let e = events-fit d (model ws st) (g .well) in omega (arith, e))
 
+  -- the drop is not refused
+  pub head-goes : j .message-id ≡ m → droppedInState ws es 0 (idAt ws i) (rowAt ws i) (streamAt ws (rowAt ws i)) (itemAt ws x) .answer ≡ Accepted (0 + length fired)
+  head-goes me = dropped-in-state ws st g i hk x xs eq es 0 long (fired-few me) .answer
+
   head-link : j .message-id ≡ m → Told ws st es (idAt ws i) m (droppedInState ws es 0 (idAt ws i) (rowAt ws i) (streamAt ws (rowAt ws i)) (itemAt ws x))
   head-link me =
       let r : CalledWith = droppedInState ws es 0 (idAt ws i) (rowAt ws i) (streamAt ws (rowAt ws i)) (itemAt ws x) in

@@ -1,0 +1,2 @@
+-- Discarding without the test for 16. Assumes nothing.
+pub mod Own

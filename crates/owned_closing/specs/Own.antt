@@ -1,0 +1,21 @@
+-- The answers of discarding and closing, as the checked calls say them, and what they ask for below. Assumes nothing.
+use Prim.Native.Nat.{ℕ, _<_, _≤_}
+use mathlib.Core.Path.{_≡_}
+use mathlib.Core.List.{List}
+use Rattle.queue_words.specs.Items.{itemAt}
+use Rattle.queue_words.specs.Streams.{streamAt}
+use Rattle.queue_streams.specs.declared.answers.Call.{Call}
+use Rattle.queue_streams.specs.declared.answers.Call.the-variants.{Accepted, Refused}
+use Rattle.message_chains.specs.Dropping.{MayDrop}
+use Rattle.owned_closing.specs.declared.discarding.Discarded.{Discarded}
+use Rattle.owned_closing.specs.declared.discarding.Discarded.the-variants as discarded
+
+abbrev pub discardedAs : Discarded → Call
+discardedAs (discarded.Done k) = Accepted k
+discardedAs discarded.EventsShort = Refused 3
+
+-- The stream has a row and a first place of its table or none, and its head, if it is meant, may be dropped.
+pub record MayDiscard (ws : List ℕ) (id message row : ℕ) : Type 0 where
+  pub row-fits : row < 256
+  pub first-fits : streamAt ws row .first ≤ 1024
+  pub goes : streamAt ws row .first < 1024 → itemAt ws (streamAt ws row .first) .«message_id» .0 ≡ message → MayDrop ws id row
