@@ -39,7 +39,8 @@ extern "C" {
  * event had two words; a list for 2,305 of those is refused here (DSQ_EVENT_LIST_SHORT), not written past. In layout 2 dsq_create had no
  * restart_rule; nothing but a comparison of the layouts tells a host compiled for it. In layout 3 the header of the words was shorter by
  * one word: words of a queue that were kept from it are not read right here. In layout 4 functions returned 8 bits, and the rest of the
- * register meant nothing. */
+ * register meant nothing; and words 21 to 31 of a queue meant nothing: with words that were kept from it the choice among more than 64
+ * waiting streams is not right here. */
 #define DSQ_LAYOUT 5
 
 /* The words of a queue, and of the list of events: DSQ_MAX_EVENTS places of DSQ_PLACE_WORDS words. */
@@ -405,15 +406,16 @@ uint64_t dsq_total_buffered_amount(const uint64_t queue[DSQ_QUEUE_WORDS]);
 DSQ_MUST_USE
 uint32_t dsq_is_empty(const uint64_t queue[DSQ_QUEUE_WORDS]);
 
-/* the bytes of the store that are free: a longer payload gets DSQ_STORE_FULL (a message occupies its full length until its last fragment); */
+/* the bytes of the store that are free: a longer payload is refused, with DSQ_STORE_FULL where nothing before it in the list applies (a
+ * message occupies its full length until its last fragment); */
 DSQ_MUST_USE
 uint64_t dsq_free_bytes(const uint64_t queue[DSQ_QUEUE_WORDS]);
 
-/* the messages that wait: of 1,024 the next one gets DSQ_MESSAGES_FULL; */
+/* the messages that wait: with 1,024 of them the next one gets DSQ_MESSAGES_FULL; */
 DSQ_MUST_USE
 uint64_t dsq_waiting_messages(const uint64_t queue[DSQ_QUEUE_WORDS]);
 
-/* the streams that are known: of 256 the next one gets DSQ_STREAMS_FULL; */
+/* the streams that are known: with 256 of them a new one gets DSQ_STREAMS_FULL; */
 DSQ_MUST_USE
 uint64_t dsq_known_streams(const uint64_t queue[DSQ_QUEUE_WORDS]);
 

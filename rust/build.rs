@@ -28,8 +28,8 @@ fn main() {
         println!("cargo::rerun-if-changed={}", library.display());
         if !library.is_file() {
             println!(
-                "cargo::error={} is not there. `scripts/libraries`, run in the repository's folder, makes it; DSQ_LIB_DIR names another \
-                 folder",
+                "cargo::error={} is not there. `scripts/libraries --crate`, run in the repository's folder, makes it; DSQ_LIB_DIR names \
+                 another folder",
                 library.display()
             );
             return;

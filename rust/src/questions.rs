@@ -17,7 +17,8 @@ impl SendQueue {
         self.queue.total_buffered_amount() as usize
     }
 
-    /// The bytes of the store that are free: a longer payload gets [`Refusal::StoreFull`](crate::Refusal::StoreFull). A message occupies its full length
+    /// The bytes of the store that are free: a longer payload is refused, with [`Refusal::StoreFull`](crate::Refusal::StoreFull) where no other
+    /// refusal comes before it. A message occupies its full length
     /// until its last fragment is handed out or it is dropped.
     #[must_use]
     pub fn free_bytes(&self) -> usize {
