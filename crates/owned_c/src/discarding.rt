@@ -4,14 +4,15 @@ ghost use Rattle.queue_streams.specs.Answers.{callNumber};
 ghost use Rattle.queue_messages.specs.Discard.{discard};
 ghost use Rattle.owned_streams.specs.Own.{OwnWords};
 ghost use Rattle.owned_closing.specs.Own.{discardedAs};
-ghost use Rattle.owned_c.specs.Told.{eventsTold, GivesEvents};
+ghost use Rattle.host_numbers.specs.Numbers.{callOut};
+ghost use Rattle.host_numbers.specs.Given.{GivesEvents};
 use out_array::EVENTS;
 use out_array::OUT_WORDS;
 use owned_closing::Discarded;
 use queue_words::QUEUE_WORDS;
 
-fn tell_discarded(out: &mut [u64; OUT_WORDS], a: Discarded) -> u8
-    ensures { λ r. ⌜ (r ≡ callNumber (discardedAs a)) × (now (out .exit) ≡ eventsTold (now (out .entry)) (discardedAs a)) ⌝ }
+fn tell_discarded(out: &mut [u64; OUT_WORDS], a: Discarded) -> u32
+    ensures { λ r. ⌜ (r ≡ callNumber (discardedAs a)) × (now (out .exit) ≡ callOut (now (out .entry)) (discardedAs a)) ⌝ }
 {
     match a {
         Discarded::Done(k) => {
@@ -29,7 +30,7 @@ pub extern "C" fn dsq_owned_discard(
     out: &mut [u64; OUT_WORDS],
     stream_id: u16,
     message_id: u32,
-) -> u8
+) -> u32
     requires { ⌜ OwnWords (now queue) ⌝ }
     ensures { λ r. ⌜ GivesEvents (discard (now (queue .entry)) (now (events .entry)) «stream_id» «message_id») (now (out .entry)) r (now (queue .exit)) (now (events .exit)) (now (out .exit)) ⌝ }
 {

@@ -37,21 +37,21 @@ pub extern "C" fn dsq_owned_buffered_amount_low_threshold(
 
 // 1 for yes, else 0.
 #[no_mangle]
-pub extern "C" fn dsq_owned_has_data_to_send(queue: &[u64; QUEUE_WORDS]) -> u8
+pub extern "C" fn dsq_owned_has_data_to_send(queue: &[u64; QUEUE_WORDS]) -> u32
     requires { ⌜ OwnWords (now queue) ⌝ }
     ensures { λ r. ⌜ (r ≡ bit (flagValue (dataOf (now (queue .entry))))) × (flagNumber (dataOf (now (queue .entry))) ≡ 0) ⌝ }
 {
     let b = owned_streams::has_data_to_send(queue);
-    b as u8
+    b as u32
 }
 
 #[no_mangle]
-pub extern "C" fn dsq_owned_has_streams_ready_to_be_reset(queue: &[u64; QUEUE_WORDS]) -> u8
+pub extern "C" fn dsq_owned_has_streams_ready_to_be_reset(queue: &[u64; QUEUE_WORDS]) -> u32
     requires { ⌜ OwnWords (now queue) ⌝ }
     ensures { λ r. ⌜ (r ≡ bit (flagValue (readyOf (now (queue .entry))))) × (flagNumber (readyOf (now (queue .entry))) ≡ 0) ⌝ }
 {
     let b = owned_streams::has_streams_ready_to_be_reset(queue);
-    b as u8
+    b as u32
 }
 
 #[no_mangle]

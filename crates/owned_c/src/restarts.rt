@@ -6,7 +6,7 @@ ghost use Rattle.queue_streams.specs.Restart.{reopen, setInterleaving};
 ghost use Rattle.queue_streams.specs.declared.answers.Call.the-variants.{Accepted};
 ghost use Rattle.queue_restarts.specs.Reset.{resetQueue};
 ghost use Rattle.owned_streams.specs.Own.{OwnWords};
-ghost use Rattle.owned_c.specs.Told.{isYes};
+ghost use Rattle.host_numbers.specs.Numbers.{isYes};
 use queue_words::QUEUE_WORDS;
 
 #[no_mangle]

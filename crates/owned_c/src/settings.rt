@@ -4,14 +4,15 @@ ghost use Rattle.queue_streams.specs.Answers.{callNumber};
 ghost use Rattle.queue_streams.specs.Settings.{setPriority, setThreshold};
 ghost use Rattle.owned_streams.specs.Own.{OwnWords};
 ghost use Rattle.owned_streams.specs.Settings.{prioritySetAs, thresholdSetAs};
-ghost use Rattle.owned_c.specs.Told.{eventsTold, Gives, GivesEvents};
+ghost use Rattle.host_numbers.specs.Numbers.{callOut};
+ghost use Rattle.host_numbers.specs.Given.{Gives, GivesEvents};
 use out_array::EVENTS;
 use out_array::OUT_WORDS;
 use owned_streams::PrioritySet;
 use owned_streams::ThresholdSet;
 use queue_words::QUEUE_WORDS;
 
-fn priority_number(a: PrioritySet) -> u8
+fn priority_number(a: PrioritySet) -> u32
     ensures { λ r. ⌜ r ≡ callNumber (prioritySetAs a) ⌝ }
 {
     match a {
@@ -25,7 +26,7 @@ pub extern "C" fn dsq_owned_set_priority(
     queue: &mut [u64; QUEUE_WORDS],
     stream_id: u16,
     priority: u16,
-) -> u8
+) -> u32
     requires { ⌜ OwnWords (now queue) ⌝ }
     ensures { λ r. ⌜ Gives (setPriority (now (queue .entry)) «stream_id» priority) r (now (queue .exit)) ⌝ }
 {
@@ -33,8 +34,8 @@ pub extern "C" fn dsq_owned_set_priority(
     priority_number(a)
 }
 
-fn tell_threshold(out: &mut [u64; OUT_WORDS], a: ThresholdSet) -> u8
-    ensures { λ r. ⌜ (r ≡ callNumber (thresholdSetAs a)) × (now (out .exit) ≡ eventsTold (now (out .entry)) (thresholdSetAs a)) ⌝ }
+fn tell_threshold(out: &mut [u64; OUT_WORDS], a: ThresholdSet) -> u32
+    ensures { λ r. ⌜ (r ≡ callNumber (thresholdSetAs a)) × (now (out .exit) ≡ callOut (now (out .entry)) (thresholdSetAs a)) ⌝ }
 {
     match a {
         ThresholdSet::Done(k) => {
@@ -53,7 +54,7 @@ pub extern "C" fn dsq_owned_set_buffered_amount_low_threshold(
     out: &mut [u64; OUT_WORDS],
     stream_id: u16,
     threshold: u64,
-) -> u8
+) -> u32
     requires { ⌜ OwnWords (now queue) ⌝ }
     ensures { λ r. ⌜ GivesEvents (setThreshold (now (queue .entry)) (now (events .entry)) «stream_id» threshold) (now (out .entry)) r (now (queue .exit)) (now (events .exit)) (now (out .exit)) ⌝ }
 {

@@ -2,16 +2,11 @@
 use Prim.Native.Nat.{ℕ}
 use mathlib.Core.Path.{_≡_, refl}
 use mathlib.Core.List.{List}
-use Rattle.queue_streams.specs.Settings.{Called, CalledWith, called, calledWith}
-use Rattle.queue_streams.specs.declared.answers.Call.{Call}
 use Rattle.queue_streams.specs.declared.answers.Flag.{Flag}
 use Rattle.queue_streams.specs.declared.answers.Number.{Number}
-use Rattle.queue_messages.specs.Add.{Added, added}
 use Rattle.priority_plan.specs.declared.plan.PlannedPriorities.{PlannedPriorities}
 use Rattle.queue_restarts.specs.Ready.{Readied, readied}
 use Rattle.queue_restarts.specs.declared.ready.ReadyStreams.{ReadyStreams}
-use Rattle.queue_sending.specs.Data.{ProducedWith, producedWith}
-use Rattle.queue_sending.specs.declared.data.Produced.{Produced}
 use Rattle.saving.specs.Save.{SavedAs, savedAs}
 use Rattle.saving.specs.declared.image.Saved.{Saved}
 use Rattle.chunks.specs.Writing.{outcome, writeChunk}
@@ -20,22 +15,10 @@ use Rattle.queue_sending.specs.declared.data.DataToSend.{DataToSend}
 use Rattle.chunks.specs.declared.chunk.ChunkRead.{ChunkRead}
 use Rattle.chunks.specs.declared.chunk.ChunkWritten.{ChunkWritten}
 use Rattle.queue_streams.specs.Answers.{callNumber, numberNumber, flagNumber}
-use Rattle.queue_sending.specs.Data.{producedNumber}
-use Rattle.send_queue_c.specs.Numbers.{callOut, numberOut, flagOut, producedOut, readyNumber, readyIds, readyOut, plannedPlaces, savedNumber, savedOut}
+pub use Rattle.host_numbers.proofs.Gives.{gives, gives-events, gives-store, gives-fragment}
+use Rattle.send_queue_c.specs.Numbers.{numberOut, flagOut, readyNumber, readyIds, readyOut, plannedPlaces, savedNumber, savedOut}
 use Rattle.send_queue_c.specs.Chunks.{writtenNumber, writtenOut, readNumber, readOut, readPlaces}
-use Rattle.send_queue_c.specs.Given.{Gives, GivesEvents, GivesStore, GivesFragment, GivesIds, GivesPriorities, GivesWritten, GivesRead, GivesNumber, GivesFlag, GivesImage}
-
-pub gives : (d : Called) (c : Call) (r : ℕ) (ws′ : List ℕ) → called c ws′ ≡ d → r ≡ callNumber c → Gives d r ws′
-gives d c r ws′ e n = rw (← e) (record { number = n; queue = refl })
-
-pub gives-events : (d : CalledWith) (c : Call) (out : List ℕ) (r : ℕ) (ws′ es′ out′ : List ℕ) → calledWith c ws′ es′ ≡ d → (r ≡ callNumber c) × (out′ ≡ callOut out c) → GivesEvents d out r ws′ es′ out′
-gives-events d c out r ws′ es′ out′ e t = rw (← e) (record { number = t .0; queue = refl; events = refl; places = t .1 })
-
-pub gives-store : (d : Added) (c : Call) (r : ℕ) (ws′ st′ : List ℕ) → added c ws′ st′ ≡ d → r ≡ callNumber c → GivesStore d r ws′ st′
-gives-store d c r ws′ st′ e n = rw (← e) (record { number = n; queue = refl; store = refl })
-
-pub gives-fragment : (d : ProducedWith) (p : Produced) (out : List ℕ) (r : ℕ) (ws′ es′ bs′ out′ : List ℕ) → producedWith p ws′ es′ bs′ ≡ d → (r ≡ producedNumber p) × (out′ ≡ producedOut out p) → GivesFragment d out r ws′ es′ bs′ out′
-gives-fragment d p out r ws′ es′ bs′ out′ e t = rw (← e) (record { number = t .0; queue = refl; events = refl; buffer = refl; places = t .1 })
+use Rattle.send_queue_c.specs.Given.{GivesIds, GivesPriorities, GivesWritten, GivesRead, GivesNumber, GivesFlag, GivesImage}
 
 pub gives-ids : (d : Readied) (a : ReadyStreams) (ids out : List ℕ) (r : ℕ) (ws′ ids′ out′ : List ℕ) → readied a ws′ ≡ d → (r ≡ readyNumber a) × (ids′ ≡ readyIds ids a) × (out′ ≡ readyOut out a) → GivesIds d ids out r ws′ ids′ out′
 gives-ids d a ids out r ws′ ids′ out′ e t = rw (← e) (record { number = t .0; queue = refl; ready = t .1; places = t .2 })

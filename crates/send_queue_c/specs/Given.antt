@@ -2,46 +2,17 @@
 use Prim.Native.Nat.{ℕ}
 use mathlib.Core.Path.{_≡_}
 use mathlib.Core.List.{List}
-use Rattle.queue_streams.specs.Settings.{Called, CalledWith}
 use Rattle.queue_streams.specs.declared.answers.Flag.{Flag}
 use Rattle.queue_streams.specs.declared.answers.Number.{Number}
-use Rattle.queue_messages.specs.Add.{Added}
 use Rattle.priority_plan.specs.declared.plan.PlannedPriorities.{PlannedPriorities}
 use Rattle.queue_restarts.specs.Ready.{Readied}
-use Rattle.queue_sending.specs.Data.{ProducedWith}
 use Rattle.saving.specs.Save.{SavedAs}
 use Rattle.chunks.specs.Writing.{Outcome}
 use Rattle.chunks.specs.declared.chunk.ChunkRead.{ChunkRead}
 use Rattle.queue_streams.specs.Answers.{callNumber, numberNumber, flagNumber}
-use Rattle.queue_sending.specs.Data.{producedNumber}
-use Rattle.send_queue_c.specs.Numbers.{callOut, numberOut, flagOut, producedOut, readyNumber, readyIds, readyOut, plannedPlaces, savedNumber, savedOut}
+pub use Rattle.host_numbers.specs.Given.{Gives, GivesEvents, GivesStore, GivesFragment}
+use Rattle.send_queue_c.specs.Numbers.{numberOut, flagOut, readyNumber, readyIds, readyOut, plannedPlaces, savedNumber, savedOut}
 use Rattle.send_queue_c.specs.Chunks.{writtenNumber, writtenOut, readNumber, readOut, readPlaces}
-
--- A call that changes the words alone.
-pub record Gives (d : Called) (r : ℕ) (ws′ : List ℕ) : Type 0 where
-  pub number : r ≡ callNumber (d .answer)
-  pub queue : ws′ ≡ d .next
-
--- A call that writes events.
-pub record GivesEvents (d : CalledWith) (out : List ℕ) (r : ℕ) (ws′ es′ out′ : List ℕ) : Type 0 where
-  pub number : r ≡ callNumber (d .answer)
-  pub queue : ws′ ≡ d .next
-  pub events : es′ ≡ d .events
-  pub places : out′ ≡ callOut out (d .answer)
-
--- A call that writes payloads to the store.
-pub record GivesStore (d : Added) (r : ℕ) (ws′ st′ : List ℕ) : Type 0 where
-  pub number : r ≡ callNumber (d .answer)
-  pub queue : ws′ ≡ d .words
-  pub store : st′ ≡ d .store
-
--- The next fragment.
-pub record GivesFragment (d : ProducedWith) (out : List ℕ) (r : ℕ) (ws′ es′ bs′ out′ : List ℕ) : Type 0 where
-  pub number : r ≡ producedNumber (d .answer)
-  pub queue : ws′ ≡ d .words
-  pub events : es′ ≡ d .events
-  pub buffer : bs′ ≡ d .buffer
-  pub places : out′ ≡ producedOut out (d .answer)
 
 -- Ready ids.
 pub record GivesIds (d : Readied) (ids out : List ℕ) (r : ℕ) (ws′ ids′ out′ : List ℕ) : Type 0 where

@@ -1,72 +1,32 @@
 -- "If an answer is an enum, a definition states this paper's number and values for each case of the enum." The number is what a call returns: 0 for accepted, else the
 -- refusal's (queue_streams: specs/Answers, queue_sending: specs/Data, queue_restarts: specs/Ready, saving: specs/Save). For C the values stand in an array of 16 places: 0 the value, 1 the number of events, the others what goes with a fragment. Assumes nothing.
 use Prim.Native.Nat.{ℕ}
-use mathlib.Core.Bool.{Bool, true, false, not}
+use mathlib.Core.Bool.{Bool, true, false}
 use mathlib.Core.List.{List, _++_}
-use lib.Dec.{eqb}
 use lib.ListN.{set, take, drop}
 use Rattle.queue_words.specs.Flags.{bit}
 use Rattle.queue_words.specs.declared.header.RestartRule.{RestartRule}
 use Rattle.queue_words.specs.declared.header.RestartRule.the-variants.{Dcsctp, Strict}
-use Rattle.types.specs.Keys.{key-id, key-unordered}
 use Rattle.queue_streams.specs.declared.answers.Call.{Call}
 use Rattle.queue_streams.specs.declared.answers.Call.the-variants.{Accepted, Refused}
 use Rattle.queue_streams.specs.declared.answers.Flag.{Flag}
 use Rattle.queue_streams.specs.declared.answers.Flag.the-variants as flag
 use Rattle.queue_streams.specs.declared.answers.Number.{Number}
 use Rattle.queue_streams.specs.declared.answers.Number.the-variants as number
-use Rattle.queue_messages.specs.declared.message.Lifetime.{Lifetime}
-use Rattle.queue_messages.specs.declared.message.Lifetime.the-variants as life
-use Rattle.queue_messages.specs.declared.message.MaxRetransmissions.{MaxRetransmissions}
-use Rattle.queue_messages.specs.declared.message.MaxRetransmissions.the-variants as retr
-use Rattle.queue_messages.specs.declared.message.Message.{Message}
 use Rattle.priority_plan.specs.declared.plan.PlannedPriorities.{PlannedPriorities}
 use Rattle.queue_restarts.specs.declared.ready.ReadyStreams.{ReadyStreams}
-use Rattle.queue_sending.specs.declared.data.DataToSend.{DataToSend}
-use Rattle.queue_words.specs.declared.items.Expiry.{Expiry}
-use Rattle.queue_words.specs.declared.items.Expiry.the-variants as expiry
-use Rattle.queue_sending.specs.declared.data.Produced.{Produced}
-use Rattle.queue_sending.specs.declared.data.Produced.the-variants as produced
 use Rattle.saving.specs.declared.image.Saved.{Saved}
 use Rattle.saving.specs.declared.image.Saved.the-variants as saved
+pub use Rattle.host_numbers.specs.Numbers.{isYes, messageOf, callOut, shown, producedOut}
 pub use Rattle.queue_restarts.specs.Ready.{readyNumber}
 pub use Rattle.saving.specs.Save.{savedNumber}
 
 -- ------------------------------------------------------------------ what is given
 
--- A flag: 0 for no, anything else for yes.
-abbrev pub isYes : ℕ → Bool
-isYes n = not (eqb n 0)
-
 -- Document 02, 6/13: "Creation chooses the rule, as in the Rust or strict." DSQ_RESTART_DCSCTP is 0, DSQ_RESTART_STRICT 1.
 abbrev pub restartRuleOf : Bool → RestartRule
 restartRuleOf true = Strict
 restartRuleOf false = Dcsctp
-
-abbrev pub lifetimeOf : Bool → ℕ → Lifetime
-lifetimeOf true n = life.Limited n
-lifetimeOf false n = life.Unlimited
-
-abbrev pub retransmissionsOf : Bool → ℕ → MaxRetransmissions
-retransmissionsOf true n = retr.Limited n
-retransmissionsOf false n = retr.Unlimited
-
--- a message by its numbers
-abbrev pub messageOf : ℕ → ℕ → ℕ → ℕ → ℕ → ℕ → ℕ → ℕ → Message
-messageOf stream ppid unordered has-lifetime lifetime has-limit limit lifecycle = record {
-  «stream_id» = record { 0 = stream };
-  ppid = ppid;
-  unordered = isYes unordered;
-  lifetime = lifetimeOf (isYes has-lifetime) lifetime;
-  «max_retransmissions» = retransmissionsOf (isYes has-limit) limit;
-  «lifecycle_id» = lifecycle;
-}
-
--- ------------------------------------------------------------------ a call that changes the queue
-
-abbrev pub callOut : List ℕ → Call → List ℕ
-callOut out (Accepted k) = set out 1 k
-callOut out (Refused n) = out
 
 -- ------------------------------------------------------------------ the questions
 
@@ -77,30 +37,6 @@ numberOut out (number.Refused n) = out
 abbrev pub flagOut : List ℕ → Flag → List ℕ
 flagOut out (flag.Value b) = set out 0 (bit b)
 flagOut out (flag.Refused n) = out
-
--- ------------------------------------------------------------------ the next fragment
-
--- "expiry time or never": whether it expires, and when
-abbrev pub expiryNumber : Expiry → ℕ
-expiryNumber expiry.Never = 0
-expiryNumber (expiry.At t) = 1
-
-abbrev pub expiryTime : Expiry → ℕ
-expiryTime expiry.Never = 0
-expiryTime (expiry.At t) = t
-
--- "With it go message id, stream, unordered mark, the three counters, protocol id, first and last marks, retransmissions, expiry time or never, and lifecycle id."
-unfoldable pub shown : List ℕ → ℕ → DataToSend → List ℕ
-shown out k d =
-    let a = set (set (set (set out 0 1) 1 k) 2 (d .data .length)) 3 (d .«message_id» .0) in
-    let b = set (set (set (set a 4 (key-id (d .data .«stream_key») .0)) 5 (bit (key-unordered (d .data .«stream_key»)))) 6 (d .data .ssn .0)) 7 (d .data .mid .0) in
-    let c = set (set (set (set b 8 (d .data .fsn .0)) 9 (d .data .ppid)) 10 (bit (d .data .«is_beginning»))) 11 (bit (d .data .«is_end»)) in
-    set (set (set (set c 12 (d .«max_retransmissions»)) 13 (expiryNumber (d .«expires_at»))) 14 (expiryTime (d .«expires_at»))) 15 (d .«lifecycle_id»)
-
-abbrev pub producedOut : List ℕ → Produced → List ℕ
-producedOut out (produced.Nothing k) = set (set out 0 0) 1 k
-producedOut out (produced.Fragment k d) = shown out k d
-producedOut out (produced.Refused n) = out
 
 -- ------------------------------------------------------------------ ready ids
 

@@ -4,18 +4,15 @@ ghost use lib.ListN.{length};
 ghost use Rattle.queue_messages.specs.Add.{add};
 ghost use Rattle.queue_messages.specs.Create.{create};
 ghost use Rattle.queue_messages.specs.Discard.{discard};
-ghost use Rattle.send_queue_c.specs.Numbers.{isYes, restartRuleOf, lifetimeOf, retransmissionsOf, messageOf};
+ghost use Rattle.send_queue_c.specs.Numbers.{isYes, restartRuleOf, messageOf};
 ghost use Rattle.send_queue_c.specs.Given.{Gives, GivesEvents, GivesStore};
 use crate::numbers::call_number;
-use crate::numbers::is_yes;
 use crate::numbers::tell_call;
+use host_numbers::is_yes;
+use host_numbers::message_of;
 use out_array::OUT_WORDS;
-use send_queue::Lifetime;
-use send_queue::MaxRetransmissions;
-use send_queue::Message;
 use send_queue::QUEUE_WORDS;
 use send_queue::RestartRule;
-use send_queue::StreamId;
 use send_queue::add;
 use send_queue::create;
 use send_queue::discard;
@@ -59,26 +56,6 @@ pub extern "C" fn dsq_create(
     call_number(c)
 }
 
-fn lifetime_of(given: u8, nanoseconds: u64) -> Lifetime
-    ensures { λ r. ⌜ r ≡ lifetimeOf (isYes given) nanoseconds ⌝ }
-{
-    let yes = is_yes(given);
-    if yes {
-        return Lifetime::Limited(nanoseconds);
-    }
-    Lifetime::Unlimited
-}
-
-fn retransmissions_of(given: u8, limit: u16) -> MaxRetransmissions
-    ensures { λ r. ⌜ r ≡ retransmissionsOf (isYes given) limit ⌝ }
-{
-    let yes = is_yes(given);
-    if yes {
-        return MaxRetransmissions::Limited(limit);
-    }
-    MaxRetransmissions::Unlimited
-}
-
 #[no_mangle]
 pub extern "C" fn dsq_add(
     queue: &mut [u64; QUEUE_WORDS],
@@ -96,23 +73,17 @@ pub extern "C" fn dsq_add(
 ) -> u32
     ensures { λ r. ⌜ GivesStore (add (now (queue .entry)) (now (store .entry)) time (messageOf «stream_id» ppid unordered «has_lifetime» lifetime «has_retransmissions» «max_retransmissions» «lifecycle_id») (now (payload .entry))) r (now (queue .exit)) (now (store .exit)) ⌝ }
 {
-    let u = is_yes(unordered);
-    let l = lifetime_of(has_lifetime, lifetime);
-    let m = retransmissions_of(has_retransmissions, max_retransmissions);
-    let c = add(
-        queue,
-        store,
-        time,
-        Message {
-            stream_id: StreamId(stream_id),
-            ppid: ppid,
-            unordered: u,
-            lifetime: l,
-            max_retransmissions: m,
-            lifecycle_id: lifecycle_id,
-        },
-        payload,
+    let m = message_of(
+        stream_id,
+        ppid,
+        unordered,
+        has_lifetime,
+        lifetime,
+        has_retransmissions,
+        max_retransmissions,
+        lifecycle_id,
     );
+    let c = add(queue, store, time, m, payload);
     call_number(c)
 }
 

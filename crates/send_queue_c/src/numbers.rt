@@ -1,20 +1,13 @@
 // Answers as numbers, with what goes with them in named places of an array.
 ghost use mathlib.Core.Path.{_≡_};
 ghost use Rattle.queue_streams.specs.Answers.{callNumber, numberNumber, flagNumber};
-ghost use Rattle.send_queue_c.specs.Numbers.{isYes, callOut, numberOut, flagOut};
+ghost use Rattle.send_queue_c.specs.Numbers.{callOut, numberOut, flagOut};
 use out_array::EVENTS;
 use out_array::OUT_WORDS;
 use out_array::VALUE;
 use send_queue::Call;
 use send_queue::Flag;
 use send_queue::Number;
-
-// A flag: 0 for no, anything else for yes.
-pub fn is_yes(flag: u8) -> bool
-    ensures { λ r. ⌜ r ≡ isYes flag ⌝ }
-{
-    flag != 0
-}
 
 // A call that tells nothing else.
 pub fn call_number(c: Call) -> u32

@@ -12,8 +12,8 @@ ghost use Rattle.send_queue_c.specs.Numbers.{isYes, readyNumber, readyId
 ghost use Rattle.send_queue_c.specs.Given.{Gives, GivesEvents, GivesIds};
 use crate::copying::copy_first;
 use crate::numbers::call_number;
-use crate::numbers::is_yes;
 use crate::numbers::tell_call;
+use host_numbers::is_yes;
 use out_array::OUT_WORDS;
 use out_array::VALUE;
 use send_queue::Call;

@@ -1,7 +1,7 @@
 -- `owned_c::discarding::dsq_owned_discard` meets its contract. Assumes nothing.
 use borrow.Author.Needs.{needs}
 use Rattle.owned_closing.specs.Own.{discardedAs}
-use Rattle.owned_c.proofs.Told.{gives-events}
+use Rattle.host_numbers.proofs.Gives.{gives-events}
 use Rattle.owned_c.proofs.discarding.dsq_owned_discard.Statement.{statement}
 use Rattle.owned_c.proofs.discarding.dsq_owned_discard.Tie as tie
 
@@ -9,7 +9,7 @@ discard-requires : tie.Need-discard-requires
 discard-requires c κs = (c .before .before .before .pre)
 
 returns : tie.Need-returns
-returns c = gives-events _ (discardedAs (c .before .before .before .before .discard .result)) _ _ _ _ _ (c .tell-discarded .ensures .0) (c .tell-discarded .ensures .1) (c .before .before .before .before .discard .ensures .words)
+returns c = gives-events _ (discardedAs (c .before .before .before .before .discard .result)) _ _ _ _ _ (c .before .before .before .before .discard .ensures .words) (c .tell-discarded .ensures)
 
 pub dsq-owned-discard-spec : {M : Type 1} → statement M
 dsq-owned-discard-spec =

@@ -1,7 +1,7 @@
--- `send_queue_c::messages::lifetime_of` meets its contract: each return is what its definition says, by what the calls ensure and the tests taken. Assumes nothing.
+-- `host_numbers::message::lifetime_of` meets its contract: each return is what its definition says, by what the calls ensure and the tests taken. Assumes nothing.
 use borrow.Author.Needs.{needs}
-use Rattle.send_queue_c.proofs.messages.lifetime_of.Statement.{statement}
-use Rattle.send_queue_c.proofs.messages.lifetime_of.Tie as tie
+use Rattle.host_numbers.proofs.message.lifetime_of.Statement.{statement}
+use Rattle.host_numbers.proofs.message.lifetime_of.Tie as tie
 
 returns : tie.Need-returns
 returns c =

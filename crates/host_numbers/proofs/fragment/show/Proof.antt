@@ -1,8 +1,8 @@
--- `send_queue_c::sending::show` meets its contract: each return is what its definition says, by what the calls ensure and the tests taken. Assumes nothing.
+-- `host_numbers::fragment::show` meets its contract: each return is what its definition says, by what the calls ensure and the tests taken. Assumes nothing.
 use borrow.Author.Needs.{needs}
-use Rattle.send_queue_c.specs.Numbers.{shown}
-use Rattle.send_queue_c.proofs.sending.show.Statement.{statement}
-use Rattle.send_queue_c.proofs.sending.show.Tie as tie
+use Rattle.host_numbers.specs.Numbers.{shown}
+use Rattle.host_numbers.proofs.fragment.show.Statement.{statement}
+use Rattle.host_numbers.proofs.fragment.show.Tie as tie
 
 returns : tie.Need-returns
 unfolding shown

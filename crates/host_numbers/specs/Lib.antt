@@ -1,0 +1,3 @@
+-- Numbers that a host gives and is told. Assumes nothing.
+pub mod Numbers
+pub mod Given

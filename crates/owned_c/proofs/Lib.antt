@@ -1,2 +1,0 @@
--- What the owned calls give as numbers. Assumes nothing.
-pub mod Told

@@ -1,2 +1,0 @@
--- Answers of the owned calls as numbers. Assumes nothing.
-pub mod Told
