@@ -7,8 +7,8 @@
 //! such is proved, and a refused call changes nothing; a copy of both is as good as they are. So an owned function does not look whether the
 //! words are a queue's, and has no answer 16.
 //!
-//! A debug build calls the checked function in place of the owned one, with the same arguments, and stops if it ever answers 16. Adding, the
-//! next fragment, packets, discarding, closing, ready streams and saving have no owned function yet: they call the checked one in every build.
+//! A debug build calls the checked function in place of the owned one, with the same arguments, and stops if it ever answers 16. Packets,
+//! closing, ready streams and saving have no owned function yet: they call the checked one in every build.
 
 use super::EventWords;
 use super::HandlerNumbers;
@@ -25,6 +25,42 @@ use crate::queue::zeros;
 
 mod owned {
     unsafe extern "C" {
+        pub fn dsq_owned_add(
+            queue: *mut u64,
+            store: *mut u8,
+            store_length: usize,
+            payload: *const u8,
+            payload_length: usize,
+            time: u64,
+            stream_id: u16,
+            ppid: u32,
+            unordered: u8,
+            has_lifetime: u8,
+            lifetime: u64,
+            has_retransmissions: u8,
+            max_retransmissions: u16,
+            lifecycle_id: u64,
+        ) -> u32;
+        pub fn dsq_owned_produce(
+            queue: *mut u64,
+            store: *const u8,
+            store_length: usize,
+            events: *mut u64,
+            events_length: usize,
+            buffer: *mut u8,
+            buffer_length: usize,
+            out: *mut u64,
+            time: u64,
+            size: u64,
+        ) -> u32;
+        pub fn dsq_owned_discard(
+            queue: *mut u64,
+            events: *mut u64,
+            events_length: usize,
+            out: *mut u64,
+            stream_id: u16,
+            message_id: u32,
+        ) -> u32;
         pub fn dsq_owned_set_buffered_amount_low_threshold(
             queue: *mut u64,
             events: *mut u64,
@@ -32,8 +68,8 @@ mod owned {
             out: *mut u64,
             stream_id: u16,
             threshold: u64,
-        ) -> u8;
-        pub fn dsq_owned_set_priority(queue: *mut u64, stream_id: u16, priority: u16) -> u8;
+        ) -> u32;
+        pub fn dsq_owned_set_priority(queue: *mut u64, stream_id: u16, priority: u16) -> u32;
         pub fn dsq_owned_enable_message_interleaving(queue: *mut u64, enabled: u8);
         pub fn dsq_owned_commit_reset_streams(queue: *mut u64);
         pub fn dsq_owned_rollback_reset_streams(queue: *mut u64);
@@ -41,8 +77,8 @@ mod owned {
         pub fn dsq_owned_get_priority(queue: *const u64, stream_id: u16) -> u16;
         pub fn dsq_owned_buffered_amount(queue: *const u64, stream_id: u16) -> u64;
         pub fn dsq_owned_buffered_amount_low_threshold(queue: *const u64, stream_id: u16) -> u64;
-        pub fn dsq_owned_has_data_to_send(queue: *const u64) -> u8;
-        pub fn dsq_owned_has_streams_ready_to_be_reset(queue: *const u64) -> u8;
+        pub fn dsq_owned_has_data_to_send(queue: *const u64) -> u32;
+        pub fn dsq_owned_has_streams_ready_to_be_reset(queue: *const u64) -> u32;
         pub fn dsq_owned_count_streams_ready_to_reset(queue: *const u64) -> u64;
     }
 }
@@ -74,7 +110,7 @@ fn told(ask: impl FnOnce(*mut u64) -> u32) -> u64 {
 /// The owned function, or the checked one with the same arguments.
 macro_rules! either {
     ($owned:ident | $checked:ident ( $($argument:expr),* $(,)? )) => {
-        if CHECKED { unbroken(c::$checked($($argument),*)) } else { u32::from(owned::$owned($($argument),*)) }
+        if CHECKED { unbroken(c::$checked($($argument),*)) } else { owned::$owned($($argument),*) }
     };
 }
 
@@ -133,22 +169,25 @@ impl Queue {
         // SAFETY: words, store and payload are references, the lengths are their own; the payload overlaps neither, since those are `&mut`.
         // Words and store are a queue's own.
         unsafe {
-            checked!(dsq_add(
-                self.words.as_mut_ptr(),
-                self.store.as_mut_ptr(),
-                self.store.len(),
-                payload.as_ptr(),
-                payload.len(),
-                given.time,
-                given.stream_id,
-                given.ppid,
-                u8::from(given.unordered),
-                u8::from(given.lifetime.is_some()),
-                given.lifetime.unwrap_or(0),
-                u8::from(given.max_retransmissions.is_some()),
-                given.max_retransmissions.unwrap_or(0),
-                given.lifecycle_id,
-            ))
+            either!(
+                dsq_owned_add
+                    | dsq_add(
+                        self.words.as_mut_ptr(),
+                        self.store.as_mut_ptr(),
+                        self.store.len(),
+                        payload.as_ptr(),
+                        payload.len(),
+                        given.time,
+                        given.stream_id,
+                        given.ppid,
+                        u8::from(given.unordered),
+                        u8::from(given.lifetime.is_some()),
+                        given.lifetime.unwrap_or(0),
+                        u8::from(given.max_retransmissions.is_some()),
+                        given.max_retransmissions.unwrap_or(0),
+                        given.lifecycle_id,
+                    )
+            )
         }
     }
 
@@ -163,18 +202,21 @@ impl Queue {
     ) -> u32 {
         // SAFETY: all five are references, the lengths are their own. Words and store are a queue's own.
         unsafe {
-            checked!(dsq_produce(
-                self.words.as_mut_ptr(),
-                self.store.as_ptr(),
-                self.store.len(),
-                events.as_mut_ptr(),
-                events.len(),
-                buffer.as_mut_ptr(),
-                buffer.len(),
-                out.as_mut_ptr(),
-                time,
-                size,
-            ))
+            either!(
+                dsq_owned_produce
+                    | dsq_produce(
+                        self.words.as_mut_ptr(),
+                        self.store.as_ptr(),
+                        self.store.len(),
+                        events.as_mut_ptr(),
+                        events.len(),
+                        buffer.as_mut_ptr(),
+                        buffer.len(),
+                        out.as_mut_ptr(),
+                        time,
+                        size,
+                    )
+            )
         }
     }
 
@@ -210,14 +252,17 @@ impl Queue {
     pub(crate) fn discard(&mut self, events: &mut EventWords, out: &mut Out, stream_id: u16, message_id: u32) -> u32 {
         // SAFETY: all three are references, the list's length is its own. The words are a queue's own.
         unsafe {
-            checked!(dsq_discard(
-                self.words.as_mut_ptr(),
-                events.as_mut_ptr(),
-                events.len(),
-                out.as_mut_ptr(),
-                stream_id,
-                message_id,
-            ))
+            either!(
+                dsq_owned_discard
+                    | dsq_discard(
+                        self.words.as_mut_ptr(),
+                        events.as_mut_ptr(),
+                        events.len(),
+                        out.as_mut_ptr(),
+                        stream_id,
+                        message_id,
+                    )
+            )
         }
     }
 
