@@ -158,7 +158,7 @@ static uint32_t restore(void) {
             image[below(length)] = (uint8_t)next();
     if (below(4)) { /* into a new queue, sometimes with less room */
         store_length = below(4) ? STORE : 600;
-        dsq_create(now.queue, store_of(store_length), store_length, 1200, 256, 0, 0, 1, a_rule());
+        (void)!dsq_create(now.queue, store_of(store_length), store_length, 1200, 256, 0, 0, 1, a_rule());
         damaged = below(4) == 0;
         if (damaged)
             now.queue[below(DSQ_QUEUE_WORDS)] = odd_number();
