@@ -114,3 +114,17 @@ remembered a len s k x n f h w =
 
 rest-shown : (k : ℕ) (i : Item) (f : Fragment) → rest.RestOf k i f → RestOf k i (dataOf f)
 rest-shown k i f r = record { its-stream = ap (λ (x : StreamId). x .0) (key-same (f .unordered) (record { 0 = f .stream-id })) ∙ r .its-stream; its-message = r .its-message; not-first = r .not-first }
+
+-- The fragment that is shown is the model's.
+shown-rest : (k : ℕ) (i : Item) (es bs : List ℕ) (n : ℕ) (d : DataToSend) (o : Outcome) → Sent o → sentOf es bs o .answer ≡ sent (produced.Fragment n d) → ((g : Fragment) → o .answer ≡ plain.fragment g → rest.RestOf k i g) → RestOf k i d
+shown-rest k i es bs n d o (sent-refused r) e h = let z : _≡_ {A = ℕ} 0 1 = cc in absurd (omega arith)
+shown-rest k i es bs n d o (sent-nothing vs) e h = let z : _≡_ {A = ℕ} 0 1 = cc in absurd (omega arith)
+shown-rest k i es bs n d o (sent-fragment f vs) e h = let z : dataOf f ≡ d = cc in subst (RestOf k i) z (rest-shown k i f (h f refl))
+
+pub rest-first : Request10-rest
+unfolding Request10-rest rest.Request10-rest
+rest-first a len s k x i is es bs time size n d v f j z e t g =
+    let m = never-stands v in
+    let o = meant (produce es bs time size) s .outcome in
+    shown-rest k i es bs n d o (form-of (callOf (length (s .store)) (produce es bs time size)) (queueOf s)) (sym (ap (λ (y : Shown). y .answer) (step-link (produce es bs time size) s (m .good) t .shows-are)) ∙ g)
+    (λ h y. request10-rest (optionsWith a len) (queueOf s) k x i is (length (s .store)) (placesIn es) (length bs) time size h (m .never) f j z e y)
