@@ -95,7 +95,7 @@ stream-pass ws len i t ps k r =
 
 -- ------------------------------------------------------------------ all streams
 
-sum-from : (g : ℕ → ℕ) (i n : ℕ) → sumTo (λ j. g (i + j)) (suc n) ≡ g i + sumTo (λ j. g (i + 1 + j)) n
+pub sum-from : (g : ℕ → ℕ) (i n : ℕ) → sumTo (λ j. g (i + j)) (suc n) ≡ g i + sumTo (λ j. g (i + 1 + j)) n
 sum-from g i n =
     sum-front (λ j. g (i + j)) n
     ∙ rw (add-zero i, sum-agree (λ j. g (i + 1 + j)) (λ j. g (i + suc j)) n (λ j l. ap g (omega arith)))

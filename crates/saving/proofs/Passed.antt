@@ -15,10 +15,10 @@ use Rattle.queue_state.specs.Chains.{sumOf}
 use Rattle.queue_state.specs.Model.{rowAt}
 use Rattle.payload_store.proofs.Cases.{false-true, by-index}
 use Rattle.saving.specs.declared.measuring.Tally.{Tally}
-use Rattle.saving.specs.Measure.{tallyStart, failed, isPlain, tallyStream, tallyFrom, tallyQueue}
+use Rattle.saving.specs.Measure.{tallyStart, failed, isPlain, recordsOf, tallyStream, tallyFrom, tallyQueue}
 use Rattle.saving.specs.Sound.{placesAt, StreamOk, Sound}
 use Rattle.saving.specs.Bytes.{streamBytes, streamsFrom, chainBytes, messagesFrom}
-use Rattle.saving.proofs.Passing.{pick-by, sizeAt, recordsOf, StreamPassed, stream-passed}
+use Rattle.saving.proofs.Passing.{pick-by, sizeAt, StreamPassed, stream-passed}
 use Rattle.saving.proofs.Lengths.{chain-long, plain-long, stream-long}
 use Rattle.queue_words.proofs.Finds.{by-lt}
 

@@ -17,7 +17,7 @@ use Rattle.queue_words.specs.declared.items.Item.{Item}
 use Rattle.queue_state.specs.Chains.{chain, sumOf}
 use Rattle.queue_state.specs.Model.{nextOf, rowAt}
 use Rattle.saving.specs.declared.measuring.Tally.{Tally}
-use Rattle.saving.specs.Measure.{tally, tallyStart, failed, soundItem, tallyItem, tallyChain, ended, isPlain, tallyRow, tallyStream, tallyFrom, tallyQueue, Small}
+use Rattle.saving.specs.Measure.{tally, tallyStart, failed, soundItem, tallyItem, tallyChain, ended, isPlain, recordsOf, tallyRow, tallyStream, tallyFrom, tallyQueue, Small}
 use Rattle.saving.specs.Sound.{ItemOk, AllOk, placesAt, StreamOk}
 use Rattle.payload_store.proofs.Cases.{false-true}
 
@@ -204,10 +204,6 @@ chain-passed ws len t (suc f) e = go (λ u w. chain-passed ws len u f w) (ltb 10
         rw z (chain-more ws len t f ih k)
 
 -- ------------------------------------------------------------------ a stream that passed
-
--- how many records a stream has
-abbrev pub recordsOf : List ℕ → ℕ → ℕ
-recordsOf ws i = pick (isPlain (streamAt ws (rowAt ws i)) (optionsAt ws .«default_priority»)) 0 1
 
 pub record StreamPassed (ws : List ℕ) (len : ℕ) (t : Tally) (i : ℕ) (u : Tally) : Type 0 where
   pub was-ok : t .ok ≡ true

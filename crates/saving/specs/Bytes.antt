@@ -11,8 +11,9 @@ use Rattle.queue_words.specs.Streams.{streamAt}
 use Rattle.queue_state.specs.Model.{rowAt}
 use Rattle.payload_store.specs.Good.{payloadOf}
 use Rattle.handover_records.specs.Records.{streamRow, messageRow, trailerRow}
+use Rattle.saving.specs.declared.measuring.Counts.{Counts}
 use Rattle.saving.specs.declared.measuring.Tally.{Tally}
-use Rattle.saving.specs.Measure.{isPlain}
+use Rattle.saving.specs.Measure.{isPlain, countsOf}
 use Rattle.saving.specs.Records.{streamRecord, messageRecord, trailerOf}
 use Rattle.saving.specs.Sound.{placesAt}
 
@@ -51,6 +52,10 @@ trailerBytes ws t = row-bytes trailer-widths (trailerRow (trailerOf ws t))
 unfoldable pub imageBytes : List ℕ → List ℕ → ℕ → Tally → List ℕ
 imageBytes ws st time t = streamsFrom ws 0 (totalsAt ws .known) ++ (messagesFrom ws st time 0 (totalsAt ws .known) ++ trailerBytes ws t)
 
--- its size, as the first pass finds it
+-- its size, as the records are counted
+abbrev pub countsSize : Counts → ℕ
+countsSize n = n .streams * 14 + n .bytes + 20
+
+-- as the first pass finds it
 abbrev pub imageSize : Tally → ℕ
-imageSize t = t .streams * 14 + t .bytes + 20
+imageSize t = countsSize (countsOf t)

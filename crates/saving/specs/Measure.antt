@@ -10,6 +10,7 @@ use Rattle.queue_words.specs.Streams.{streamAt}
 use Rattle.queue_words.specs.declared.items.Item.{Item}
 use Rattle.queue_words.specs.declared.streams.OutgoingStream.{OutgoingStream}
 use Rattle.queue_state.specs.Model.{rowAt}
+use Rattle.saving.specs.declared.measuring.Counts.{Counts}
 use Rattle.saving.specs.declared.measuring.Tally.{Tally}
 
 abbrev pub tally : Bool → ℕ → ℕ → ℕ → ℕ → Tally
@@ -51,6 +52,10 @@ unfoldable pub isPlain : OutgoingStream → ℕ → Bool
 isPlain s d =
     pick (eqb (s .«next_ssn» .0) 0) (pick (eqb (s .«next_unordered_mid» .0) 0) (pick (eqb (s .«next_ordered_mid» .0) 0) (eqb (s .priority) d) false) false) false
 
+-- How many records the known stream in position i has.
+abbrev pub recordsOf : List ℕ → ℕ → ℕ
+recordsOf ws i = pick (isPlain (streamAt ws (rowAt ws i)) (optionsAt ws .«default_priority»)) 0 1
+
 -- A stream with its messages, its record counted where it has one.
 abbrev pub tallyRow : List ℕ → ℕ → OutgoingStream → Tally → Tally
 tallyRow ws len s t =
@@ -69,6 +74,16 @@ tallyFrom ws len t i (suc f) = tallyFrom ws len (tallyStream ws len i t) (i + 1)
 -- The whole pass.
 unfoldable pub tallyQueue : List ℕ → ℕ → Tally
 tallyQueue ws len = pick (ltb 256 (totalsAt ws .known)) (failed tallyStart) (tallyFrom ws len tallyStart 0 (totalsAt ws .known))
+
+-- What the pass has counted.
+abbrev pub countsOf : Tally → Counts
+countsOf t = record { streams = t .streams; messages = t .messages; bytes = t .bytes }
+
+-- Counts of at most 256 streams and 1,024 messages of at most 262,188 bytes each.
+pub record Few (n : Counts) : Type 0 where
+  pub streams-few : n .streams ≤ 256
+  pub messages-few : n .messages ≤ 1024
+  pub bytes-few : n .bytes ≤ 268480512
 
 -- What keeps the pass's sums small: at most 1,024 messages of at most 262,188 bytes.
 pub record Small (t : Tally) : Type 0 where

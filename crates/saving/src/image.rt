@@ -4,10 +4,10 @@ ghost use mathlib.Core.Bool.{true};
 ghost use Prim.Native.Nat.{_+_, _≤_, _<_};
 ghost use lib.ListN.{length};
 ghost use Rattle.big_endian.specs.Numbers.{wrote};
-ghost use Rattle.saving.specs.Bytes.{imageBytes, imageSize};
-ghost use Rattle.saving.specs.Measure.{tallyQueue};
+ghost use Rattle.saving.specs.Bytes.{imageBytes, countsSize};
+ghost use Rattle.saving.specs.Measure.{countsOf, tallyQueue, Few};
 ghost use Rattle.saving.specs.Save.{savedAs, saveImage};
-use crate::measuring::Tally;
+use crate::measuring::Counts;
 use crate::measuring::tally_queue;
 use crate::messages::put_messages;
 use crate::streams::put_streams;
@@ -24,10 +24,18 @@ pub enum Saved {
     Refused(u8),
 }
 
-// The image of sound words.
-fn put_image(queue: &[u64; QUEUE_WORDS], store: &[u8], image: &mut [u8], time: u64, t: Tally)
-    requires { ⌜ (t ≡ tallyQueue (now queue) (length (now store))) × (t .ok ≡ true) × (imageSize t ≤ length (now image)) ⌝ }
-    ensures { λ _. ⌜ now (image .exit) ≡ wrote (now (image .entry)) 0 (imageBytes (now (queue .entry)) (now (store .entry)) time t) ⌝ }
+// The image's length.
+pub fn image_size(n: Counts) -> u64
+    requires { ⌜ Few n ⌝ }
+    ensures { λ r. ⌜ r ≡ countsSize n ⌝ }
+{
+    n.streams * 14 + n.bytes + 20
+}
+
+// The image of sound words, whose records are counted.
+pub fn put_image(queue: &[u64; QUEUE_WORDS], store: &[u8], image: &mut [u8], time: u64, n: Counts)
+    requires { ⌜ (tallyQueue (now queue) (length (now store)) .ok ≡ true) × (n ≡ countsOf (tallyQueue (now queue) (length (now store)))) × (countsSize n ≤ length (now image)) ⌝ }
+    ensures { λ _. ⌜ now (image .exit) ≡ wrote (now (image .entry)) 0 (imageBytes (now (queue .entry)) (now (store .entry)) time (tallyQueue (now (queue .entry)) (length (now (store .entry))))) ⌝ }
 {
     let h = load_totals(queue);
     let o = load_options(queue);
@@ -40,11 +48,11 @@ fn put_image(queue: &[u64; QUEUE_WORDS], store: &[u8], image: &mut [u8], time: u
         Trailer {
             next_message_id: h.next_message_id.0,
             default_priority: o.default_priority,
-            streams: t.streams as u16,
-            messages: t.messages as u16,
+            streams: n.streams as u16,
+            messages: n.messages as u16,
             form: 1,
-            messages_size: t.bytes as u32,
-            streams_size: (t.streams * 14) as u32,
+            messages_size: n.bytes as u32,
+            streams_size: (n.streams * 14) as u32,
         },
     );
 }
@@ -63,11 +71,16 @@ pub fn save(queue: &[u64; QUEUE_WORDS], store: &[u8], image: &mut [u8], time: u6
     }
     let t = tally_queue(queue, len);
     if t.ok {
-        let size = t.streams * 14 + t.bytes + 20;
+        let n = Counts {
+            streams: t.streams,
+            messages: t.messages,
+            bytes: t.bytes,
+        };
+        let size = image_size(n);
         if (image.len() as u64) < size {
             return Saved::Refused(11);
         }
-        put_image(queue, store, image, time, t);
+        put_image(queue, store, image, time, n);
         return Saved::Image(size as usize);
     }
     Saved::Refused(16)

@@ -28,6 +28,13 @@ pub struct Tally {
     pub bytes: u64,
 }
 
+// What the image's size and its trailer tell of: the stream records, the message records, and the bytes of the message records.
+pub struct Counts {
+    pub streams: u64,
+    pub messages: u64,
+    pub bytes: u64,
+}
+
 fn tally_failed(t: Tally) -> Tally
     ensures { λ r. ⌜ r ≡ failed t ⌝ }
 {

@@ -2,36 +2,36 @@
 use borrow.Author.Needs.{needs}
 use native.Mathlib.Omega.{arith}
 use lib.ListN.{length}
-use Rattle.saving.proofs.Images.{little, streams-pre, messages-pre, trailer-pre, image-put}
+use Rattle.saving.proofs.Images.{few-counted, streams-pre, messages-pre, trailer-pre, image-put}
 use Rattle.saving.proofs.image.put_image.Statement.{statement}
 use Rattle.saving.proofs.image.put_image.Tie as tie
 
 put-streams-requires : tie.Need-put-streams-requires
-put-streams-requires c κs = streams-pre (c .before .before .before .before .before .args .queue .now) (c .before .before .before .before .before .args .store .now) (c .before .before .before .before .before .args .image .now) (c .before .before .before .before .before .args .time) (c .before .before .before .before .before .args .t) _ (c .before .before .before .before .before .pre .0) (c .before .before .before .before .before .pre .1) (c .before .before .before .before .before .pre .2) (c .before .before .load-totals .ensures)
+put-streams-requires c κs = streams-pre (c .before .before .before .before .before .args .queue .now) (c .before .before .before .before .before .args .store .now) (c .before .before .before .before .before .args .image .now) (c .before .before .before .before .before .args .time) (c .before .before .before .before .before .args .n) _ (c .before .before .before .before .before .pre .0) (c .before .before .before .before .before .pre .1) (c .before .before .before .before .before .pre .2) (c .before .before .load-totals .ensures)
 
 put-messages-requires : tie.Need-put-messages-requires
-put-messages-requires c κs = messages-pre (c .before .before .before .before .before .before .before .before .before .args .queue .now) (c .before .before .before .before .before .before .before .before .before .args .store .now) (c .before .before .before .before .before .before .before .before .before .args .image .now) (c .before .before .before .before .before .before .before .before .before .args .time) (c .before .before .before .before .before .before .before .before .before .args .t) _ (c .before .before .before .before .before .before .before .before .before .pre .0) (c .before .before .before .before .before .before .before .before .before .pre .1) (c .before .before .before .before .before .before .before .before .before .pre .2) (c .before .before .before .before .before .before .load-totals .ensures) _ _ (c .before .before .before .put-streams .ensures .0) (c .before .before .before .put-streams .ensures .1)
+put-messages-requires c κs = messages-pre (c .before .before .before .before .before .before .before .before .before .args .queue .now) (c .before .before .before .before .before .before .before .before .before .args .store .now) (c .before .before .before .before .before .before .before .before .before .args .image .now) (c .before .before .before .before .before .before .before .before .before .args .time) (c .before .before .before .before .before .before .before .before .before .args .n) _ (c .before .before .before .before .before .before .before .before .before .pre .0) (c .before .before .before .before .before .before .before .before .before .pre .1) (c .before .before .before .before .before .before .before .before .before .pre .2) (c .before .before .before .before .before .before .load-totals .ensures) _ _ (c .before .before .before .put-streams .ensures .0) (c .before .before .before .put-streams .ensures .1)
 
 cast-t18 : tie.Need-cast-t18
-cast-t18 c = omega (arith, (little (c .before .before .before .before .before .before .before .before .before .before .before .before .before .before .args .queue .now) (length (c .before .before .before .before .before .before .before .before .before .before .before .before .before .before .args .store .now)) (c .before .before .before .before .before .before .before .before .before .before .before .before .before .before .args .t) (c .before .before .before .before .before .before .before .before .before .before .before .before .before .before .pre .0)) .streams-few)
+cast-t18 c = omega (arith, (few-counted (c .before .before .before .before .before .before .before .before .before .before .before .before .before .before .args .queue .now) (length (c .before .before .before .before .before .before .before .before .before .before .before .before .before .before .args .store .now)) (c .before .before .before .before .before .before .before .before .before .before .before .before .before .before .args .n) (c .before .before .before .before .before .before .before .before .before .before .before .before .before .before .pre .1)) .streams-few)
 
 cast-t19 : tie.Need-cast-t19
-cast-t19 c = omega (arith, (little (c .before .before .before .before .before .before .before .before .before .before .before .before .before .before .before .args .queue .now) (length (c .before .before .before .before .before .before .before .before .before .before .before .before .before .before .before .args .store .now)) (c .before .before .before .before .before .before .before .before .before .before .before .before .before .before .before .args .t) (c .before .before .before .before .before .before .before .before .before .before .before .before .before .before .before .pre .0)) .messages-few)
+cast-t19 c = omega (arith, (few-counted (c .before .before .before .before .before .before .before .before .before .before .before .before .before .before .before .args .queue .now) (length (c .before .before .before .before .before .before .before .before .before .before .before .before .before .before .before .args .store .now)) (c .before .before .before .before .before .before .before .before .before .before .before .before .before .before .before .args .n) (c .before .before .before .before .before .before .before .before .before .before .before .before .before .before .before .pre .1)) .messages-few)
 
 cast-t20 : tie.Need-cast-t20
-cast-t20 c = omega (arith, (little (c .before .before .before .before .before .before .before .before .before .before .before .before .before .before .before .before .args .queue .now) (length (c .before .before .before .before .before .before .before .before .before .before .before .before .before .before .before .before .args .store .now)) (c .before .before .before .before .before .before .before .before .before .before .before .before .before .before .before .before .args .t) (c .before .before .before .before .before .before .before .before .before .before .before .before .before .before .before .before .pre .0)) .bytes-few)
+cast-t20 c = omega (arith, (few-counted (c .before .before .before .before .before .before .before .before .before .before .before .before .before .before .before .before .args .queue .now) (length (c .before .before .before .before .before .before .before .before .before .before .before .before .before .before .before .before .args .store .now)) (c .before .before .before .before .before .before .before .before .before .before .before .before .before .before .before .before .args .n) (c .before .before .before .before .before .before .before .before .before .before .before .before .before .before .before .before .pre .1)) .bytes-few)
 
 mul-t21 : tie.Need-mul-t21
-mul-t21 c = omega (arith, (little (c .before .before .before .before .before .before .before .before .before .before .before .before .before .before .before .before .before .args .queue .now) (length (c .before .before .before .before .before .before .before .before .before .before .before .before .before .before .before .before .before .args .store .now)) (c .before .before .before .before .before .before .before .before .before .before .before .before .before .before .before .before .before .args .t) (c .before .before .before .before .before .before .before .before .before .before .before .before .before .before .before .before .before .pre .0)) .streams-few)
+mul-t21 c = omega (arith, (few-counted (c .before .before .before .before .before .before .before .before .before .before .before .before .before .before .before .before .before .args .queue .now) (length (c .before .before .before .before .before .before .before .before .before .before .before .before .before .before .before .before .before .args .store .now)) (c .before .before .before .before .before .before .before .before .before .before .before .before .before .before .before .before .before .args .n) (c .before .before .before .before .before .before .before .before .before .before .before .before .before .before .before .before .before .pre .1)) .streams-few)
 
 cast-t22 : tie.Need-cast-t22
-cast-t22 c = omega (arith, (little (c .before .before .before .before .before .before .before .before .before .before .before .before .before .before .before .before .before .args .queue .now) (length (c .before .before .before .before .before .before .before .before .before .before .before .before .before .before .before .before .before .args .store .now)) (c .before .before .before .before .before .before .before .before .before .before .before .before .before .before .before .before .before .args .t) (c .before .before .before .before .before .before .before .before .before .before .before .before .before .before .before .before .before .pre .0)) .streams-few)
+cast-t22 c = omega (arith, (few-counted (c .before .before .before .before .before .before .before .before .before .before .before .before .before .before .before .before .before .args .queue .now) (length (c .before .before .before .before .before .before .before .before .before .before .before .before .before .before .before .before .before .args .store .now)) (c .before .before .before .before .before .before .before .before .before .before .before .before .before .before .before .before .before .args .n) (c .before .before .before .before .before .before .before .before .before .before .before .before .before .before .before .before .before .pre .1)) .streams-few)
 
 put-trailer-requires : tie.Need-put-trailer-requires
-put-trailer-requires c κs = trailer-pre (c .before .before .before .before .before .before .before .before .before .before .before .before .before .before .before .before .before .args .queue .now) (c .before .before .before .before .before .before .before .before .before .before .before .before .before .before .before .before .before .args .store .now) (c .before .before .before .before .before .before .before .before .before .before .before .before .before .before .before .before .before .args .image .now) (c .before .before .before .before .before .before .before .before .before .before .before .before .before .before .before .before .before .args .time) (c .before .before .before .before .before .before .before .before .before .before .before .before .before .before .before .before .before .args .t) _ (c .before .before .before .before .before .before .before .before .before .before .before .before .before .before .before .before .before .pre .0) (c .before .before .before .before .before .before .before .before .before .before .before .before .before .before .before .before .before .pre .1) (c .before .before .before .before .before .before .before .before .before .before .before .before .before .before .before .before .before .pre .2) (c .before .before .before .before .before .before .before .before .before .before .before .before .before .before .load-totals .ensures) _ _ (c .before .before .before .before .before .before .before .before .before .before .before .put-streams .ensures .0) (c .before .before .before .before .before .before .before .before .before .before .before .put-streams .ensures .1) _ _ (c .before .before .before .before .before .before .before .put-messages .ensures .0) (c .before .before .before .before .before .before .before .put-messages .ensures .1)
+put-trailer-requires c κs = trailer-pre (c .before .before .before .before .before .before .before .before .before .before .before .before .before .before .before .before .before .args .queue .now) (c .before .before .before .before .before .before .before .before .before .before .before .before .before .before .before .before .before .args .store .now) (c .before .before .before .before .before .before .before .before .before .before .before .before .before .before .before .before .before .args .image .now) (c .before .before .before .before .before .before .before .before .before .before .before .before .before .before .before .before .before .args .time) (c .before .before .before .before .before .before .before .before .before .before .before .before .before .before .before .before .before .args .n) _ (c .before .before .before .before .before .before .before .before .before .before .before .before .before .before .before .before .before .pre .0) (c .before .before .before .before .before .before .before .before .before .before .before .before .before .before .before .before .before .pre .1) (c .before .before .before .before .before .before .before .before .before .before .before .before .before .before .before .before .before .pre .2) (c .before .before .before .before .before .before .before .before .before .before .before .before .before .before .load-totals .ensures) _ _ (c .before .before .before .before .before .before .before .before .before .before .before .put-streams .ensures .0) (c .before .before .before .before .before .before .before .before .before .before .before .put-streams .ensures .1) _ _ (c .before .before .before .before .before .before .before .put-messages .ensures .0) (c .before .before .before .before .before .before .before .put-messages .ensures .1)
 
 returns : tie.Need-returns
-returns c = image-put (c .before .before .before .before .before .before .before .before .before .before .before .before .before .before .before .before .before .before .before .before .args .queue .now) (c .before .before .before .before .before .before .before .before .before .before .before .before .before .before .before .before .before .before .before .before .args .store .now) (c .before .before .before .before .before .before .before .before .before .before .before .before .before .before .before .before .before .before .before .before .args .image .now) (c .before .before .before .before .before .before .before .before .before .before .before .before .before .before .before .before .before .before .before .before .args .time) (c .before .before .before .before .before .before .before .before .before .before .before .before .before .before .before .before .before .before .before .before .args .t) _ (c .before .before .before .before .before .before .before .before .before .before .before .before .before .before .before .before .before .before .before .before .pre .0) (c .before .before .before .before .before .before .before .before .before .before .before .before .before .before .before .before .before .before .before .before .pre .1) (c .before .before .before .before .before .before .before .before .before .before .before .before .before .before .before .before .before .before .before .before .pre .2) (c .before .before .before .before .before .before .before .before .before .before .before .before .before .before .before .before .before .load-totals .ensures) _ _ (c .before .before .before .before .before .before .before .before .before .before .before .before .before .before .put-streams .ensures .0) (c .before .before .before .before .before .before .before .before .before .before .before .before .before .before .put-streams .ensures .1) _ _ _ _ (c .before .before .before .before .before .before .before .before .before .before .before .before .before .before .before .before .load-options .ensures) (c .before .before .before .before .before .before .before .before .before .before .put-messages .ensures .0) (c .before .before .before .before .before .before .before .before .before .before .put-messages .ensures .1) (c .before .before .put-trailer .ensures)
+returns c = image-put (c .before .before .before .before .before .before .before .before .before .before .before .before .before .before .before .before .before .before .before .before .args .queue .now) (c .before .before .before .before .before .before .before .before .before .before .before .before .before .before .before .before .before .before .before .before .args .store .now) (c .before .before .before .before .before .before .before .before .before .before .before .before .before .before .before .before .before .before .before .before .args .image .now) (c .before .before .before .before .before .before .before .before .before .before .before .before .before .before .before .before .before .before .before .before .args .time) (c .before .before .before .before .before .before .before .before .before .before .before .before .before .before .before .before .before .before .before .before .args .n) _ (c .before .before .before .before .before .before .before .before .before .before .before .before .before .before .before .before .before .before .before .before .pre .0) (c .before .before .before .before .before .before .before .before .before .before .before .before .before .before .before .before .before .before .before .before .pre .1) (c .before .before .before .before .before .before .before .before .before .before .before .before .before .before .before .before .before .before .before .before .pre .2) (c .before .before .before .before .before .before .before .before .before .before .before .before .before .before .before .before .before .load-totals .ensures) _ _ (c .before .before .before .before .before .before .before .before .before .before .before .before .before .before .put-streams .ensures .0) (c .before .before .before .before .before .before .before .before .before .before .before .before .before .before .put-streams .ensures .1) _ _ _ _ (c .before .before .before .before .before .before .before .before .before .before .before .before .before .before .before .before .load-options .ensures) (c .before .before .before .before .before .before .before .before .before .before .put-messages .ensures .0) (c .before .before .before .before .before .before .before .before .before .before .put-messages .ensures .1) (c .before .before .put-trailer .ensures)
 
 pub put-image-spec : {M : Type 1} → statement M
 put-image-spec =

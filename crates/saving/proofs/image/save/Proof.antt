@@ -1,12 +1,13 @@
 -- `saving::image::save` meets its contract: each return is what its definition says. Assumes nothing.
 use borrow.Author.Needs.{needs}
-use mathlib.Core.Path.{ap}
-use native.Mathlib.Omega.{arith}
-use borrow.Author.Tests.{eq-eqb, ne-eqb, lt-ltb, le-ltb}
+use mathlib.Core.Path.{sym, ap, _∙_}
+use borrow.Author.Tests.{eq-eqb, ne-eqb, le-ltb}
 use lib.ListN.{length}
 use Rattle.queue_words.specs.declared.header.Options.{Options}
+use Rattle.saving.specs.declared.measuring.Tally.{Tally}
+use Rattle.saving.specs.Measure.{countsOf}
 use Rattle.saving.specs.Save.{saveImage}
-use Rattle.saving.proofs.Images.{little, save-done}
+use Rattle.saving.proofs.Images.{few-tallied, save-late, save-short, save-whole}
 use Rattle.saving.proofs.image.save.Statement.{statement}
 use Rattle.saving.proofs.image.save.Tie as tie
 
@@ -15,28 +16,19 @@ unfolding saveImage
 returns c = rw (← ap (λ (z : Options). z .«store_length») (c .before .before .load-options .ensures), ne-eqb _ _ (c .if1 .taken))
 
 returns-2 : tie.Need-returns-2
-unfolding saveImage
-returns-2 c = rw (← ap (λ (z : Options). z .«store_length») (c .before .before .before .load-options .ensures), eq-eqb _ _ (c .before .if1 .left), lt-ltb _ _ (c .if2 .taken))
+returns-2 c = save-late _ _ _ _ ((c .before .if1 .left) ∙ ap (λ (z : Options). z .«store_length») (c .before .before .before .load-options .ensures)) (c .if2 .taken)
 
-mul-size : tie.Need-mul-size
-mul-size c = omega (arith, (little (c .before .before .before .before .before .before .before .before .before .args .queue .now) (length (c .before .before .before .before .before .before .before .before .before .args .store .now)) _ (c .before .before .tally-queue .ensures)) .streams-few)
-
-add-size : tie.Need-add-size
-add-size c = omega (arith, (little (c .before .before .before .before .before .before .before .before .before .before .args .queue .now) (length (c .before .before .before .before .before .before .before .before .before .before .args .store .now)) _ (c .before .before .before .tally-queue .ensures)) .streams-few, (little (c .before .before .before .before .before .before .before .before .before .before .args .queue .now) (length (c .before .before .before .before .before .before .before .before .before .before .args .store .now)) _ (c .before .before .before .tally-queue .ensures)) .bytes-few)
-
-add-size-2 : tie.Need-add-size-2
-add-size-2 c = omega (arith, (little (c .before .before .before .before .before .before .before .before .before .before .args .queue .now) (length (c .before .before .before .before .before .before .before .before .before .before .args .store .now)) _ (c .before .before .before .tally-queue .ensures)) .streams-few, (little (c .before .before .before .before .before .before .before .before .before .before .args .queue .now) (length (c .before .before .before .before .before .before .before .before .before .before .args .store .now)) _ (c .before .before .before .tally-queue .ensures)) .bytes-few)
+image-size-requires : tie.Need-image-size-requires
+image-size-requires c κs = few-tallied (c .before .before .before .before .before .before .before .before .args .queue .now) (length (c .before .before .before .before .before .before .before .before .args .store .now)) _ (c .before .tally-queue .ensures)
 
 returns-3 : tie.Need-returns-3
-unfolding saveImage
-returns-3 c = rw (← ap (λ (z : Options). z .«store_length») (c .before .before .before .before .before .before .before .before .load-options .ensures), eq-eqb _ _ (c .before .before .before .before .before .before .if1 .left), le-ltb _ _ (c .before .before .before .before .before .if2 .left), ← (c .before .before .before .before .tally-queue .ensures), (c .before .before .before .if3 .taken), lt-ltb _ _ (c .if4 .taken))
+returns-3 c = save-short _ _ _ _ ((c .before .before .before .before .before .if1 .left) ∙ ap (λ (z : Options). z .«store_length») (c .before .before .before .before .before .before .before .load-options .ensures)) (c .before .before .before .before .if2 .left) (ap (λ (t : Tally). t .ok) (sym (c .before .before .before .tally-queue .ensures)) ∙ (c .before .before .if3 .taken)) _ (ap countsOf (c .before .before .before .tally-queue .ensures)) _ (c .before .image-size .ensures) (c .if4 .taken)
 
 put-image-requires : tie.Need-put-image-requires
-put-image-requires c κs = ((c .before .before .before .before .before .tally-queue .ensures), (c .before .before .before .before .if3 .taken), (c .before .if4 .left))
+put-image-requires c κs = (ap (λ (t : Tally). t .ok) (sym (c .before .before .before .before .tally-queue .ensures)) ∙ (c .before .before .before .if3 .taken), ap countsOf (c .before .before .before .before .tally-queue .ensures), rw (sym (c .before .before .image-size .ensures)) (c .before .if4 .left))
 
 returns-4 : tie.Need-returns-4
-unfolding saveImage
-returns-4 c = save-done (c .before .before .before .before .before .before .before .before .before .before .before .before .before .before .before .args .queue .now) (c .before .before .before .before .before .before .before .before .before .before .before .before .before .before .before .args .store .now) (c .before .before .before .before .before .before .before .before .before .before .before .before .before .before .before .args .image .now) _ (c .before .before .before .before .before .before .before .before .before .before .before .before .before .before .before .args .time) _ _ (c .before .before .before .before .before .before .before .before .before .before .before .before .load-options .ensures) (c .before .before .before .before .before .before .before .before .before .before .if1 .left) (c .before .before .before .before .before .before .before .before .before .if2 .left) (c .before .before .before .before .before .before .before .before .tally-queue .ensures) (c .before .before .before .before .before .before .before .if3 .taken) (c .before .before .before .before .if4 .left) (c .before .before .put-image .ensures)
+returns-4 c = save-whole _ _ _ _ ((c .before .before .before .before .before .before .before .before .before .if1 .left) ∙ ap (λ (z : Options). z .«store_length») (c .before .before .before .before .before .before .before .before .before .before .before .load-options .ensures)) (c .before .before .before .before .before .before .before .before .if2 .left) (ap (λ (t : Tally). t .ok) (sym (c .before .before .before .before .before .before .before .tally-queue .ensures)) ∙ (c .before .before .before .before .before .before .if3 .taken)) _ (ap countsOf (c .before .before .before .before .before .before .before .tally-queue .ensures)) _ (c .before .before .before .before .before .image-size .ensures) _ (c .before .before .before .before .if4 .left) (c .before .before .put-image .ensures)
 
 returns-5 : tie.Need-returns-5
 unfolding saveImage
@@ -50,9 +42,7 @@ save-spec =
     returns
     returns-2
     (λ c κs. search needs)
-    mul-size
-    add-size
-    add-size-2
+    image-size-requires
     returns-3
     put-image-requires
     (λ c. search needs)
