@@ -1,0 +1,2 @@
+-- What saving an owned queue answers. Assumes nothing.
+pub mod Save
