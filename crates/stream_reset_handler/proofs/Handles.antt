@@ -29,10 +29,12 @@ use Rattle.reset_wire.specs.declared.reading.Response.{Response}
 use Rattle.reset_wire.specs.declared.reading.Response.the-variants as response
 use Rattle.stream_reset_handler.specs.declared.handler.StreamResetHandler.{StreamResetHandler}
 use Rattle.stream_reset_handler.specs.declared.receiving.ResponseAnswer.the-variants.{Ignored, Committed, RolledBack, StillWaiting, Refused}
+use Rattle.stream_reset_handler.specs.declared.receiving.ResponseStep.{ResponseStep}
+use Rattle.stream_reset_handler.specs.declared.receiving.ResponseStep.the-variants as step
 use Rattle.stream_reset_handler.specs.declared.receiving.HandledResponse.{HandledResponse}
 use Rattle.stream_reset_handler.specs.declared.receiving.QueueReset.{QueueReset}
 use Rattle.stream_reset_handler.specs.Handler.{handlerOf, underwayOf, sameNumber, isUnderway, endedAs}
-use Rattle.stream_reset_handler.specs.Receiving.{Outcome, HandledWith, handledWith, handled, finishAnswer, finishedBy, finished, ignoredIn, Ends, respondTo, handleResponse, IsEnds, resetBy, Handles, verdictFor, FinishedAs, FinishMeets, HandleMeets, Restarts, ResetHandlerMeets}
+use Rattle.stream_reset_handler.specs.Receiving.{Outcome, HandledWith, handledWith, handled, finishAnswer, finishedBy, finished, ignoredIn, Ends, respondTo, handleResponse, stepOf, IsEnds, resetBy, Handles, verdictFor, FinishedAs, FinishMeets, HandleMeets, Restarts, ResetHandlerMeets}
 
 -- ---- commit and rollback
 
@@ -157,7 +159,7 @@ module _ (ws : List ℕ) (h : StreamResetHandler) (bs : List ℕ) (x : Response)
   under-is : (r : model.Handler) → h ≡ handlerOf r → (n : ℕ) (b : Bool) → isUnderway h n ≡ b → sameNumber (underwayOf (r .underway)) n ≡ b
   under-is r eh n b e = ap (λ (k : StreamResetHandler). isUnderway k n) (sym eh) ∙ e
 
-  pub handled-27 : (a : HandledResponse) → x ≡ response.Malformed → a ≡ handled (Refused 27) h → HandleMeets ws h bs a ws
+  handled-27 : (a : HandledResponse) → x ≡ response.Malformed → a ≡ handled (Refused 27) h → HandleMeets ws h bs a ws
   handled-27 a e ea = record {
     words = λ q i. ap (λ (y : HandledResponse). handledWith y ws) ea ∙ words-of q response.Malformed e;
     model = λ st g r eh. subst (λ (y : HandledResponse). Handles (model.handle-response bs r (state.model ws st)) st y ws) (sym ea)
@@ -169,7 +171,7 @@ module _ (ws : List ℕ) (h : StreamResetHandler) (bs : List ℕ) (x : Response)
     some-is : (r : model.Handler) (q : Queue) → model.handle-response bs r q ≡ model.answered (r .underway) (record { number = n; verdict = v }) r q
     some-is r q = read-is (judgedAs n (some v)) e r q ∙ ap (λ (w : Option wire.Response). model.received w r q) (back-is n v) ∙ received-some (record { number = n; verdict = v }) r q
 
-    pub handled-other : (b : Bool) (a : HandledResponse) → b ≡ isUnderway h n → b ≡ false → a ≡ handled Ignored h → HandleMeets ws h bs a ws
+    handled-other : (b : Bool) (a : HandledResponse) → b ≡ isUnderway h n → b ≡ false → a ≡ handled Ignored h → HandleMeets ws h bs a ws
     handled-other b a eb f ea = record {
       words = λ q i. ap (λ (y : HandledResponse). handledWith y ws) ea ∙ sym (respond-other v n q ws h (sym eb ∙ f)) ∙ words-of q (judgedAs n (some v)) e;
       model = λ st g r eh. subst (λ (y : HandledResponse). Handles (model.handle-response bs r (state.model ws st)) st y ws) (sym ea)
@@ -180,7 +182,7 @@ module _ (ws : List ℕ) (h : StreamResetHandler) (bs : List ℕ) (x : Response)
     decides : (r : model.Handler) (q : Queue) → h ≡ handlerOf r → isUnderway h n ≡ true → model.handle-response bs r q ≡ model.decided v r q
     decides r q eh f = some-is r q ∙ answered-same (r .underway) (record { number = n; verdict = v }) r q (under-is r eh n true f)
 
-  pub handled-finish : (z : Bool) (n : ℕ) → x ≡ judgedAs n (some (verdictFor z)) → (b : Bool) (a : HandledResponse) (ws′ : List ℕ) → b ≡ isUnderway h n → b ≡ true → FinishMeets z ws h a ws′ → HandleMeets ws h bs a ws′
+  handled-finish : (z : Bool) (n : ℕ) → x ≡ judgedAs n (some (verdictFor z)) → (b : Bool) (a : HandledResponse) (ws′ : List ℕ) → b ≡ isUnderway h n → b ≡ true → FinishMeets z ws h a ws′ → HandleMeets ws h bs a ws′
   handled-finish z n e b a ws′ eb f m = record {
     words = λ q i. m .words (endOf z q) (end-is z ws q i) ∙ sym (respond-same z n q ws h (sym eb ∙ f)) ∙ words-of q (judgedAs n (some (verdictFor z))) e;
     model = λ st g r eh. subst (λ (y : model.Effect). Handles y st a ws′) (sym (decides n (verdictFor z) e r (state.model ws st) eh (sym eb ∙ f))) (m .model st g r eh);
@@ -189,13 +191,70 @@ module _ (ws : List ℕ) (h : StreamResetHandler) (bs : List ℕ) (x : Response)
   respond-waits : (n : ℕ) (q : Ends) → isUnderway h n ≡ true → respondTo (response.KeepsWaiting n) q ws h ≡ handledWith (handled StillWaiting h) ws
   respond-waits n q f = rw f
 
-  pub handled-waits : (n : ℕ) → x ≡ response.KeepsWaiting n → (b : Bool) (a : HandledResponse) → b ≡ isUnderway h n → b ≡ true → a ≡ handled StillWaiting h → HandleMeets ws h bs a ws
+  handled-waits : (n : ℕ) → x ≡ response.KeepsWaiting n → (b : Bool) (a : HandledResponse) → b ≡ isUnderway h n → b ≡ true → a ≡ handled StillWaiting h → HandleMeets ws h bs a ws
   handled-waits n e b a eb f ea = record {
     words = λ q i. ap (λ (y : HandledResponse). handledWith y ws) ea ∙ sym (respond-waits n q (sym eb ∙ f)) ∙ words-of q (response.KeepsWaiting n) e;
     model = λ st g r eh. subst (λ (y : HandledResponse). Handles (model.handle-response bs r (state.model ws st)) st y ws) (sym ea)
         (subst (λ (y : model.Effect). Handles y st (handled StillWaiting h) ws) (sym (decides n wire.keeps-waiting e r (state.model ws st) eh (sym eb ∙ f) ∙ decided-waits r (state.model ws st)))
         (record { good = g; next = refl; answer = refl; handler = eh }));
   }
+
+-- ---- as the code has it: what the response asks for, then the queue's call
+
+-- A response to the request underway, and one to another.
+record Ours (v : wire.Verdict) (h : StreamResetHandler) (y : Response) : Type 0 where
+  number : ℕ
+  read : y ≡ judgedAs number (some v)
+  ours : isUnderway h number ≡ true
+
+record Other (h : StreamResetHandler) (y : Response) : Type 0 where
+  number : ℕ
+  verdict : wire.Verdict
+  read : y ≡ judgedAs number (some verdict)
+  other : isUnderway h number ≡ false
+
+abbrev Says : ResponseStep → StreamResetHandler → Response → Type 0
+Says step.Commit h y = Ours wire.commits h y
+Says step.RollBack h y = Ours wire.rolls-back h y
+Says step.Wait h y = Ours wire.keeps-waiting h y
+Says step.Ignore h y = Other h y
+Says step.Refuse h y = y ≡ response.Malformed
+
+abbrev stepFor : wire.Verdict → ResponseStep
+stepFor wire.commits = step.Commit
+stepFor wire.rolls-back = step.RollBack
+stepFor wire.keeps-waiting = step.Wait
+
+says-some : (v : wire.Verdict) (n : ℕ) (h : StreamResetHandler) (b : Bool) → isUnderway h n ≡ b → Says (if b then stepFor v else step.Ignore) h (judgedAs n (some v))
+says-some v n h false e = record { number = n; verdict = v; read = refl; other = e }
+says-some wire.commits n h true e = record { number = n; read = refl; ours = e }
+says-some wire.rolls-back n h true e = record { number = n; read = refl; ours = e }
+says-some wire.keeps-waiting n h true e = record { number = n; read = refl; ours = e }
+
+says : (y : Response) (h : StreamResetHandler) → Says (stepOf y h) h y
+says (response.Commits n) h = says-some wire.commits n h (isUnderway h n) refl
+says (response.RollsBack n) h = says-some wire.rolls-back n h (isUnderway h n) refl
+says (response.KeepsWaiting n) h = says-some wire.keeps-waiting n h (isUnderway h n) refl
+says response.Malformed h = refl
+
+module _ (ws : List ℕ) (h : StreamResetHandler) (bs : List ℕ) (s : ResponseStep) (es : s ≡ stepOf (responseOf (wire.read-response bs)) h) where
+  said : (t : ResponseStep) → s ≡ t → Says t h (responseOf (wire.read-response bs))
+  said t e = subst (λ (x : ResponseStep). Says x h (responseOf (wire.read-response bs))) (sym es ∙ e) (says (responseOf (wire.read-response bs)) h)
+
+  pub step-refuses : (a : HandledResponse) → s ≡ step.Refuse → a ≡ handled (Refused 27) h → HandleMeets ws h bs a ws
+  step-refuses a e ea = handled-27 ws h bs _ refl a (said step.Refuse e) ea
+
+  pub step-ignores : (a : HandledResponse) → s ≡ step.Ignore → a ≡ handled Ignored h → HandleMeets ws h bs a ws
+  step-ignores a e ea = let o = said step.Ignore e in handled-other ws h bs _ refl (o .number) (o .verdict) (o .read) false a (sym (o .other)) refl ea
+
+  pub step-waits : (a : HandledResponse) → s ≡ step.Wait → a ≡ handled StillWaiting h → HandleMeets ws h bs a ws
+  step-waits a e ea = let o = said step.Wait e in handled-waits ws h bs _ refl (o .number) (o .read) true a (sym (o .ours)) refl ea
+
+  pub step-commits : (a : HandledResponse) (ws′ : List ℕ) → s ≡ step.Commit → FinishMeets true ws h a ws′ → HandleMeets ws h bs a ws′
+  step-commits a ws′ e m = let o = said step.Commit e in handled-finish ws h bs _ refl true (o .number) (o .read) true a ws′ (sym (o .ours)) refl m
+
+  pub step-rolls-back : (a : HandledResponse) (ws′ : List ℕ) → s ≡ step.RollBack → FinishMeets false ws h a ws′ → HandleMeets ws h bs a ws′
+  step-rolls-back a ws′ e m = let o = said step.RollBack e in handled-finish ws h bs _ refl false (o .number) (o .read) true a ws′ (sym (o .ours)) refl m
 
 -- ---- the whole-queue reset
 

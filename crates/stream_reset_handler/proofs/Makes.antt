@@ -36,7 +36,7 @@ use Rattle.stream_reset_handler.specs.declared.handler.StreamResetHandle
 use Rattle.stream_reset_handler.specs.declared.making.RequestAnswer.the-variants.{Written, NoneReady, Refused}
 use Rattle.stream_reset_handler.specs.declared.making.MadeRequest.{MadeRequest}
 use Rattle.stream_reset_handler.specs.Handler.{handlerOf, underwayOf}
-use Rattle.stream_reset_handler.specs.Making.{MadeWith, madeWith, told, Ready, IsReady, writtenFor, requestFor, requestIn, makeRequest, Makes, MakeMeets}
+use Rattle.stream_reset_handler.specs.Making.{MadeWith, madeWith, told, nextHandler, messageIn, Ready, IsReady, writtenFor, requestFor, requestIn, makeRequest, Makes, MakeMeets}
 
 -- ---- the model's step, by what decides it
 
@@ -109,9 +109,6 @@ module _ (ws : List ℕ) (h : StreamResetHandler) (out : List ℕ) (response tsn
       count-is : (st : List ℕ) → Good ws st → length (paused-ids ((state.model ws st) .streams)) ≡ count
       count-is st g = let f = c .model st g ∙ count-told (state.model ws st) in cc
 
-      pub few : count ≤ 256
-      few = c .few count refl
-
       pub made-none : count ≡ 0 → MakeMeets ws h out response tsn (told NoneReady h) ws out
       made-none z = record {
         words = λ q i. (let k = count-same ws (q .count) (number.Value count) (i .counts) c in unfold makeRequest in rw (e, k, eq-eqb count 0 z));
@@ -122,7 +119,7 @@ module _ (ws : List ℕ) (h : StreamResetHandler) (out : List ℕ) (response tsn
       }
 
       module _ (n : count ≡ 0 → ⊥) where
-        pub made-26 : length out < request-size count → MakeMeets ws h out response tsn (told (Refused 26) h) ws out
+        made-26 : length out < request-size count → MakeMeets ws h out response tsn (told (Refused 26) h) ws out
         made-26 l = record {
           words = λ q i. (let k = count-same ws (q .count) (number.Value count) (i .counts) c in unfold makeRequest in rw (e, k, ne-eqb count 0 n, lt-ltb (length out) (request-size count) l));
           model = λ st g r eh. subst (λ (x : model.Effect). Makes x st out (told (Refused 26) h) ws out)
@@ -132,19 +129,16 @@ module _ (ws : List ℕ) (h : StreamResetHandler) (out : List ℕ) (response tsn
         }
 
         module _ (l : request-size count ≤ length out) (rs : ReadyStreams) (ws′ : List ℕ) (m : ReadyMeets ws rs ws′) where
-          pub long : count ≤ length (rs .ids)
-          long = let f = few in let p = m .places in omega arith
-
-          module _ (out′ : List ℕ) (eo : out′ ≡ wrote out 0 (request-bytes (h .«next_number») response tsn (take count (rs .ids)))) (next : ℕ) (en : next ≡ wrap-suc 32 (h .«next_number»)) where
+          module _ (out′ : List ℕ) (eo : out′ ≡ messageIn out h response tsn (take count (rs .ids))) where
             abbrev made-as : MadeRequest
-            made-as = told (Written (request-size count)) (record { «next_number» = next; underway = underway.Number (h .«next_number») })
+            made-as = told (Written (request-size count)) (nextHandler h)
 
             words-are : (q : Ready) → IsReady ws q → madeWith made-as ws′ out′ ≡ makeRequest q ws h out response tsn
             unfolding makeRequest
             words-are q i =
                 let k = count-same ws (q .count) (number.Value count) (i .counts) c in
                 let s = ready-same ws (q .taken) rs (q .next) ws′ (i .takes) m in
-                rw (e, k, ne-eqb count 0 n, le-ltb (length out) (request-size count) l, eo, en, s .answers, s .words)
+                rw (e, k, ne-eqb count 0 n, le-ltb (length out) (request-size count) l, eo, s .answers, s .words)
 
             makes-written : (st : List ℕ) → Good ws st → (r : model.Handler) → h ≡ handlerOf r → Makes (model.made response tsn (paused-ids ((state.model ws st) .streams)) r (state.model ws st)) st out made-as ws′ out′
             unfolding model.made
@@ -157,11 +151,11 @@ module _ (ws : List ℕ) (h : StreamResetHandler) (out : List ℕ) (response tsn
                   good = y .good;
                   next = y .next;
                   answer = ap Written (ap request-size (sym (count-is st g)) ∙ sym (request-long (r .next-number) response tsn ids));
-                  handler = ap₂ (λ (a b : ℕ). record { «next_number» = a; underway = underway.Number b }) (en ∙ ap (wrap-suc 32) hn) hn;
+                  handler = ap nextHandler eh;
                   output = eo ∙ ap₂ (λ (a : ℕ) (k : List ℕ). wrote out 0 (request-bytes a response tsn k)) hn taken;
                 }
 
-            pub made-written : MakeMeets ws h out response tsn made-as ws′ out′
+            made-written : MakeMeets ws h out response tsn made-as ws′ out′
             made-written = record {
               words = words-are;
               model = λ st g r eh. subst (λ (x : model.Effect). Makes x st out made-as ws′ out′)
@@ -170,10 +164,26 @@ module _ (ws : List ℕ) (h : StreamResetHandler) (out : List ℕ) (response tsn
                   (makes-written st g r eh);
             }
 
-            pub made-sized : (size : ℕ) → size ≡ request-size count
-                → MakeMeets ws h out response tsn (told (Written size) (record { «next_number» = next; underway = underway.Number (h .«next_number») })) ws′ out′
-            made-sized size es =
-                subst (λ (k : ℕ). MakeMeets ws h out response tsn (told (Written k) (record { «next_number» = next; underway = underway.Number (h .«next_number») })) ws′ out′) (sym es) made-written
+-- ---- as the code has it: the size, and the message and the handler by one function
+
+pub few : (ws : List ℕ) (count : ℕ) → CountMeets ws (number.Value count) → count ≤ 256
+few ws count c = c .few count refl
+
+module _ (ws : List ℕ) (out : List ℕ) (count : ℕ) (c : CountMeets ws (number.Value count)) where
+  -- what is asked for before the message is written
+  pub may-write : (size : ℕ) → size ≡ request-size count → size ≤ length out → (rs : ReadyStreams) (ws′ : List ℕ) → ReadyMeets ws rs ws′ → (count ≤ 256) × (count ≤ length (rs .ids)) × (request-size count ≤ length out)
+  may-write size es l rs ws′ m = let f = few ws count c in let p = m .places in (f, omega arith, subst (λ (k : ℕ). k ≤ length out) es l)
+
+  module _ (h : StreamResetHandler) (response tsn : ℕ) (e : h .underway ≡ underway.Nothing) (n : count ≡ 0 → ⊥) (size : ℕ) (es : size ≡ request-size count) where
+    pub made-short : length out < size → MakeMeets ws h out response tsn (told (Refused 26) h) ws out
+    made-short l = made-26 ws h out response tsn e count c n (subst (λ (k : ℕ). length out < k) es l)
+
+    pub made-next : size ≤ length out → (rs : ReadyStreams) (ws′ : List ℕ) → ReadyMeets ws rs ws′ → (next : StreamResetHandler) (out′ : List ℕ)
+        → (next ≡ nextHandler h) × (out′ ≡ messageIn out h response tsn (take count (rs .ids))) → MakeMeets ws h out response tsn (told (Written size) next) ws′ out′
+    made-next l rs ws′ m next out′ f =
+        subst (λ (k : ℕ). MakeMeets ws h out response tsn (told (Written k) next) ws′ out′) (sym es)
+        (subst (λ (x : StreamResetHandler). MakeMeets ws h out response tsn (told (Written (request-size count)) x) ws′ out′) (sym (f .0))
+        (made-written ws h out response tsn e count c n (subst (λ (k : ℕ). k ≤ length out) es l) rs ws′ m out′ (f .1)))
 
 -- ---- the definition itself, for lists of calls
 
@@ -191,7 +201,7 @@ module _ (ws : List ℕ) (h : StreamResetHandler) (out : List ℕ) (response tsn
         go false true e f = made-26 ws h out response tsn eu n c (λ z. let x = eq-eqb n 0 z in let y : _≡_ {A = ℕ} 0 1 = cc in omega arith) (ltb-true (length out) (request-size n) f)
         go false false e f =
             made-written ws h out response tsn eu n c (λ z. let x = eq-eqb n 0 z in let y : _≡_ {A = ℕ} 0 1 = cc in omega arith) (ltb-false (length out) (request-size n) f)
-            (q .taken) (q .next) (i .takes) _ refl _ refl
+            (q .taken) (q .next) (i .takes) _ refl
 
     meets-count : (c : Number) → CountMeets ws c → MadeAs (requestFor c q ws h out response tsn)
     meets-count (number.Value n) m = meets-value n m

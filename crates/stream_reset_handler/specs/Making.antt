@@ -41,16 +41,20 @@ told a h = record { answer = a; handler = h }
 abbrev pub nextHandler : StreamResetHandler → StreamResetHandler
 nextHandler h = record { «next_number» = wrap-suc 32 (h .«next_number»); underway = underway.Number (h .«next_number») }
 
+-- A message with these ids at the output's start; "lent output past what is written stays unchanged" (1/13).
+abbrev pub messageIn : List ℕ → StreamResetHandler → ℕ → ℕ → List ℕ → List ℕ
+messageIn out h response-number last-tsn ids = wrote out 0 (request-bytes (h .«next_number») response-number last-tsn ids)
+
 -- What the queue's calls give on these words: how many ids are ready; the ready ids and the words after they are taken.
 pub record Ready : Type 0 where
   pub count : Number
   pub taken : ReadyStreams
   pub next : List ℕ
 
--- A message with the ready ids, which are taken; "lent output past what is written stays unchanged" (1/13).
+-- A message with the ready ids, which are taken.
 abbrev pub writtenFor : ℕ → Ready → StreamResetHandler → List ℕ → ℕ → ℕ → MadeWith
 writtenFor n q h out response-number last-tsn =
-    madeWith (told (Written (request-size n)) (nextHandler h)) (q .next) (wrote out 0 (request-bytes (h .«next_number») response-number last-tsn (take n (q .taken .ids))))
+    madeWith (told (Written (request-size n)) (nextHandler h)) (q .next) (messageIn out h response-number last-tsn (take n (q .taken .ids)))
 
 -- "With no stream ready nothing is written and the answer says so." 26: "the output is shorter than the message". A refusal of the queue's is passed on.
 abbrev pub requestFor : Number → Ready → List ℕ → StreamResetHandler → List ℕ → ℕ → ℕ → MadeWith

@@ -17,6 +17,8 @@ use Rattle.reset_wire.specs.declared.reading.Response.the-variants as response
 use Rattle.stream_reset_handler.specs.declared.handler.StreamResetHandler.{StreamResetHandler}
 use Rattle.stream_reset_handler.specs.declared.receiving.ResponseAnswer.{ResponseAnswer}
 use Rattle.stream_reset_handler.specs.declared.receiving.ResponseAnswer.the-variants.{Ignored, Committed, RolledBack, StillWaiting, Refused}
+use Rattle.stream_reset_handler.specs.declared.receiving.ResponseStep.{ResponseStep}
+use Rattle.stream_reset_handler.specs.declared.receiving.ResponseStep.the-variants as step
 use Rattle.stream_reset_handler.specs.declared.receiving.HandledResponse.{HandledResponse}
 use Rattle.stream_reset_handler.specs.declared.receiving.QueueReset.{QueueReset}
 use Rattle.stream_reset_handler.specs.Handler.{handlerOf, isUnderway, endedAs}
@@ -68,6 +70,16 @@ respondTo response.Malformed q ws h = handledWith (handled (Refused 27) h) ws
 
 unfoldable pub handleResponse : Ends → List ℕ → StreamResetHandler → List ℕ → HandledWith
 handleResponse q ws h bs = respondTo (responseOf (wire.read-response bs)) q ws h
+
+-- The same as what the response asks for, before the queue is called.
+abbrev pub ifUnderway : StreamResetHandler → ℕ → ResponseStep → ResponseStep
+ifUnderway h n s = if isUnderway h n then s else step.Ignore
+
+abbrev pub stepOf : Response → StreamResetHandler → ResponseStep
+stepOf (response.Commits n) h = ifUnderway h n step.Commit
+stepOf (response.RollsBack n) h = ifUnderway h n step.RollBack
+stepOf (response.KeepsWaiting n) h = ifUnderway h n step.Wait
+stepOf response.Malformed h = step.Refuse
 
 -- That these are what the queue's contracts give; they determine it.
 pub record IsEnds (ws : List ℕ) (q : Ends) : Type 0 where

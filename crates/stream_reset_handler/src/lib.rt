@@ -15,3 +15,8 @@ pub use receiving::QueueReset;
 pub use receiving::ResponseAnswer;
 pub use receiving::handle_response;
 pub use receiving::reset;
+// What the owned calls share with these.
+pub use handler::ended;
+pub use making::write_next;
+pub use receiving::ResponseStep;
+pub use receiving::step_for;

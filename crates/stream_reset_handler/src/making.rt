@@ -1,9 +1,12 @@
 // Making a request.
 ghost use mathlib.Core.Path.{_≡_};
+ghost use Prim.Native.Nat.{_≤_};
+ghost use lib.ListN.{length, take};
+ghost use Rattle.reset_model.specs.Wire.{request-size};
 ghost use Rattle.send_queue.specs.Number as number;
 ghost use Rattle.send_queue.specs.Restarts.{CountMeets};
 ghost use Rattle.stream_reset_handler.specs.declared.handler.Underway.the-variants as underway;
-ghost use Rattle.stream_reset_handler.specs.Making.{MakeMeets};
+ghost use Rattle.stream_reset_handler.specs.Making.{nextHandler, messageIn, MakeMeets};
 use crate::handler::StreamResetHandler;
 use crate::handler::Underway;
 use crate::handler::number_after;
@@ -24,6 +27,27 @@ pub enum RequestAnswer {
 pub struct MadeRequest {
     pub answer: RequestAnswer,
     pub handler: StreamResetHandler,
+}
+
+// The message with these ids at the output's start, and the handler with this request underway.
+pub fn write_next(
+    output: &mut [u8],
+    handler: StreamResetHandler,
+    response_number: u32,
+    last_tsn: u32,
+    ids: &[u16; 256],
+    count: usize,
+) -> StreamResetHandler
+    requires { ⌜ (count ≤ 256) × (count ≤ length (now ids)) × (request-size count ≤ length (now output)) ⌝ }
+    ensures { λ r. ⌜ (r ≡ nextHandler handler) × (now (output .exit) ≡ messageIn (now (output .entry)) handler «response_number» «last_tsn» (take count (now (ids .entry)))) ⌝ }
+{
+    let number = handler.next_number;
+    write_request(output, number, response_number, last_tsn, ids, count);
+    let next = number_after(number);
+    StreamResetHandler {
+        next_number: next,
+        underway: Underway::Number(number),
+    }
 }
 
 // With so many streams ready. 26: "the output is shorter than the message"; the ids are not taken then.
@@ -53,22 +77,17 @@ fn request_for(
     }
     let ready = get_streams_ready_to_reset(queue);
     let ids = ready.ids;
-    let number = handler.next_number;
-    write_request(
+    let next = write_next(
         output,
-        number,
+        handler,
         response_number,
         last_tsn,
         &ids,
         count as usize,
     );
-    let next = number_after(number);
     MadeRequest {
         answer: RequestAnswer::Written(size),
-        handler: StreamResetHandler {
-            next_number: next,
-            underway: Underway::Number(number),
-        },
+        handler: next,
     }
 }
 

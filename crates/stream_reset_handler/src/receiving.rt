@@ -1,7 +1,9 @@
 // Receiving a response, and the whole-queue reset.
 ghost use mathlib.Core.Path.{_≡_};
 ghost use mathlib.Core.Bool.{true, false};
-ghost use Rattle.stream_reset_handler.specs.Receiving.{handled, FinishMeets, HandleMeets, ResetHandlerMeets};
+ghost use Rattle.reset_model.specs.Wire.{read-response};
+ghost use Rattle.reset_wire.specs.Reading.{responseOf};
+ghost use Rattle.stream_reset_handler.specs.Receiving.{handled, ifUnderway, stepOf, FinishMeets, HandleMeets, ResetHandlerMeets};
 use crate::handler::StreamResetHandler;
 use crate::handler::ended;
 use crate::handler::is_underway;
@@ -61,7 +63,39 @@ fn roll_back(queue: &mut [u64; QUEUE_WORDS], handler: StreamResetHandler) -> Han
     }
 }
 
-// "A response to another request number, or with none underway, changes nothing." 27: "received bytes break this layout".
+// What received bytes ask for.
+pub enum ResponseStep {
+    Commit,
+    RollBack,
+    Wait,
+    Ignore,
+    Refuse,
+}
+
+// "A response to another request number, or with none underway, changes nothing."
+fn if_underway(handler: StreamResetHandler, number: u32, step: ResponseStep) -> ResponseStep
+    ensures { λ r. ⌜ r ≡ ifUnderway handler number step ⌝ }
+{
+    let same = is_underway(handler, number);
+    if same {
+        return step;
+    }
+    ResponseStep::Ignore
+}
+
+// "Result 0 or 1 commits, 2 to 5 roll back, 6 keeps the same request waiting". 27: "received bytes break this layout".
+pub fn step_for(handler: StreamResetHandler, bytes: &[u8]) -> ResponseStep
+    ensures { λ r. ⌜ r ≡ stepOf (responseOf (read-response (now (bytes .entry)))) handler ⌝ }
+{
+    let response = read_response(bytes);
+    match response {
+        Response::Commits(n) => if_underway(handler, n, ResponseStep::Commit),
+        Response::RollsBack(n) => if_underway(handler, n, ResponseStep::RollBack),
+        Response::KeepsWaiting(n) => if_underway(handler, n, ResponseStep::Wait),
+        Response::Malformed => ResponseStep::Refuse,
+    }
+}
+
 pub fn handle_response(
     queue: &mut [u64; QUEUE_WORDS],
     handler: StreamResetHandler,
@@ -69,30 +103,13 @@ pub fn handle_response(
 ) -> HandledResponse
     ensures { λ r. ⌜ HandleMeets (now (queue .entry)) handler (now (bytes .entry)) r (now (queue .exit)) ⌝ }
 {
-    let response = read_response(bytes);
-    match response {
-        Response::Commits(n) => {
-            let same = is_underway(handler, n);
-            if same {
-                return commit(queue, handler);
-            }
-            answered(ResponseAnswer::Ignored, handler)
-        }
-        Response::RollsBack(n) => {
-            let same = is_underway(handler, n);
-            if same {
-                return roll_back(queue, handler);
-            }
-            answered(ResponseAnswer::Ignored, handler)
-        }
-        Response::KeepsWaiting(n) => {
-            let same = is_underway(handler, n);
-            if same {
-                return answered(ResponseAnswer::StillWaiting, handler);
-            }
-            answered(ResponseAnswer::Ignored, handler)
-        }
-        Response::Malformed => answered(ResponseAnswer::Refused(27), handler),
+    let step = step_for(handler, bytes);
+    match step {
+        ResponseStep::Commit => commit(queue, handler),
+        ResponseStep::RollBack => roll_back(queue, handler),
+        ResponseStep::Wait => answered(ResponseAnswer::StillWaiting, handler),
+        ResponseStep::Ignore => answered(ResponseAnswer::Ignored, handler),
+        ResponseStep::Refuse => answered(ResponseAnswer::Refused(27), handler),
     }
 }
 
