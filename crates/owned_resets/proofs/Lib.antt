@@ -1,0 +1,2 @@
+-- Calls in a row. Assumes nothing.
+pub mod Chained
