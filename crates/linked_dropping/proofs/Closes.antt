@@ -85,29 +85,29 @@ in-open : (ws es : List ℕ) (id r : ℕ) → streamAt ws r .«pause_state» ≡
 unfolding closeIn
 in-open ws es id r h = rw h
 
-open-empty : (ws es : List ℕ) (id r : ℕ) (s : OutgoingStream) → s .first ≡ 1024 → closeOpen ws es id r s ≡ calledWith (Accepted 0) (putStream ws r (closedAs s Paused (s .«buffered_amount») (s .first) (s .last))) es
+pub open-empty : (ws es : List ℕ) (id r : ℕ) (s : OutgoingStream) → s .first ≡ 1024 → closeOpen ws es id r s ≡ calledWith (Accepted 0) (putStream ws r (closedAs s Paused (s .«buffered_amount») (s .first) (s .last))) es
 unfolding closeOpen
 open-empty ws es id r s e = rw (le-ltb 1024 (s .first) (omega arith), eq-eqb (s .first) 1024 e)
 
-open-behind : (ws es : List ℕ) (id r x : ℕ) (s : OutgoingStream) → s .first ≡ x → x < 1024 → 0 < itemAt ws x .offset → closeOpen ws es id r s ≡ closeBehind ws es id r s (nextOf ws x)
+pub open-behind : (ws es : List ℕ) (id r x : ℕ) (s : OutgoingStream) → s .first ≡ x → x < 1024 → 0 < itemAt ws x .offset → closeOpen ws es id r s ≡ closeBehind ws es id r s (nextOf ws x)
 unfolding closeOpen
 open-behind ws es id r x s e h o =
     let o′ : 0 < itemAt ws (s .first) .offset = subst (λ (y : ℕ). 0 < itemAt ws y .offset) (sym e) o in
     rw (le-ltb 1024 (s .first) (omega arith), ne-eqb (s .first) 1024 (λ z. omega arith), lt-ltb 0 (itemAt ws (s .first) .offset) o′)
     (ap (λ (y : ℕ). closeBehind ws es id r s (nextOf ws y)) e)
 
-open-whole : (ws es : List ℕ) (id r x : ℕ) (s : OutgoingStream) → s .first ≡ x → x < 1024 → itemAt ws x .offset ≡ 0 → closeOpen ws es id r s ≡ closeWhole ws es id r s
+pub open-whole : (ws es : List ℕ) (id r x : ℕ) (s : OutgoingStream) → s .first ≡ x → x < 1024 → itemAt ws x .offset ≡ 0 → closeOpen ws es id r s ≡ closeWhole ws es id r s
 unfolding closeOpen
 open-whole ws es id r x s e h o =
     let o′ : itemAt ws (s .first) .offset ≡ 0 = subst (λ (y : ℕ). itemAt ws y .offset ≡ 0) (sym e) o in
     rw (le-ltb 1024 (s .first) (omega arith), ne-eqb (s .first) 1024 (λ z. omega arith), le-ltb 0 (itemAt ws (s .first) .offset) (omega arith))
 
-behind-goes : (ws es : List ℕ) (id r : ℕ) (s : OutgoingStream) (next : ℕ) (x : Swept) → maySweep ws next (s .«buffered_amount») ≡ true
+pub behind-goes : (ws es : List ℕ) (id r : ℕ) (s : OutgoingStream) (next : ℕ) (x : Swept) → maySweep ws next (s .«buffered_amount») ≡ true
     → sweepFrom ws es id (s .«low_threshold») next (s .«buffered_amount») ≡ x → closeBehind ws es id r s next ≡ behindLeft x r s
 unfolding closeBehind
 behind-goes ws es id r s next x m e = rw m (ap (λ (y : Swept). behindLeft y r s) e)
 
-whole-goes : (ws es : List ℕ) (id r : ℕ) (s : OutgoingStream) (x : Swept) → maySweep ws (s .first) (s .«buffered_amount») ≡ true → removeStream ws id .done ≡ true
+pub whole-goes : (ws es : List ℕ) (id r : ℕ) (s : OutgoingStream) (x : Swept) → maySweep ws (s .first) (s .«buffered_amount») ≡ true → removeStream ws id .done ≡ true
     → sweepFrom (removeStream ws id .next) es id (s .«low_threshold») (s .first) (s .«buffered_amount») ≡ x → closeWhole ws es id r s ≡ wholeLeft x r s
 unfolding closeWhole
 whole-goes ws es id r s x m d e = rw (m, d) (ap (λ (y : Swept). wholeLeft y r s) e)
@@ -328,13 +328,16 @@ module _ (ws st es : List ℕ) (g : Good ws st) (i : ℕ) (hk : i < totalsAt ws 
         (closed-leaves ws st (g .shape) i hk (x ∷ []) xs (λ y. omega (arith, counts y)) (omega (arith, ap (λ (z : List ℕ). length z) eq)) (omega (arith, ap (sumOf (sizeOf ws)) eq))
         (putNext (cleared ws xs) x 1024) (clear-cut (cleared ws xs) st x 1024 l x-fits ws xs absent c0) left (fits Pending (s .«buffered_amount» - bytes xs) (s .first) (s .first)) (first-is, x-fits, cut-next (cleared ws xs) st x 1024 l x-fits) first-is)
 
+    -- the test passes
+    pub may-behind : maySweep ws (nextOf ws x) (s .«buffered_amount») ≡ true
+    may-behind = may-sweep ws st (nextOf ws x) (s .«buffered_amount») xs ready-behind (omega (arith, short-here (x ∷ xs) eq)) (omega (arith, total-enough)) (omega (arith, amount-is (x ∷ xs) eq)) (omega (arith, waits-here (x ∷ xs) eq)) (omega (arith, used-here (x ∷ xs) eq))
+
     behind-link : 0 < itemAt ws x .offset → Told ws st es (idAt ws i) (closeOpen ws es (idAt ws i) (rowAt ws i) s)
     behind-link h =
         let e = behind-steps h in
         let b : 0 + length (fired xs) ≤ 2305 = omega (arith, subst (λ (z : Step). length (z .outcome .events) ≤ 2305) e (events-fit d (model ws st) (g .well))) in
-        let m = may-sweep ws st (nextOf ws x) (s .«buffered_amount») xs ready-behind (omega (arith, short-here (x ∷ xs) eq)) (omega (arith, total-enough)) (omega (arith, amount-is (x ∷ xs) eq)) (omega (arith, waits-here (x ∷ xs) eq)) (omega (arith, used-here (x ∷ xs) eq)) in
         let w = sweep-all st (idAt ws i) (s .«low_threshold») all refl refl xs ws es 0 (s .«buffered_amount») (nextOf ws x) 1024 options ready-behind refl (omega (arith, short-here (x ∷ xs) eq)) long b in
-        rw (open-behind ws es (idAt ws i) (rowAt ws i) x s first-is x-fits h, behind-goes ws es (idAt ws i) (rowAt ws i) s (nextOf ws x) (swept (record { place = 1024; count = 0 + length (fired xs); amount = s .«buffered_amount» - bytes xs }) (cleared ws xs) (written es 0 (fired xs))) m w)
+        rw (open-behind ws es (idAt ws i) (rowAt ws i) x s first-is x-fits h, behind-goes ws es (idAt ws i) (rowAt ws i) s (nextOf ws x) (swept (record { place = 1024; count = 0 + length (fired xs); amount = s .«buffered_amount» - bytes xs }) (cleared ws xs) (written es 0 (fired xs))) may-behind w)
         (leaves-told ws st es (idAt ws i) (putStream (putNext (cleared ws xs) (s .first) 1024) (rowAt ws i) left) (fired xs) (totalsAt ws .total - bytes xs) left-streams (modelScheduler ws) g t behind-leaves e)
 
     -- ---- "none makes it paused", and "closing to paused ends that", its waiting
@@ -424,14 +427,17 @@ module _ (ws st es : List ℕ) (g : Good ws st) (i : ℕ) (hk : i < totalsAt ws 
           ≡ swept (record { place = 1024; count = 0 + length (fired (x ∷ xs)); amount = s .«buffered_amount» - bytes (x ∷ xs) }) (cleared us (x ∷ xs)) (written es 0 (fired (x ∷ xs)))
       whole-swept vs n a b = rw (a, b)
 
+      -- the test passes
+      pub may-whole : maySweep ws (s .first) (s .«buffered_amount») ≡ true
+      may-whole = may-sweep ws st (s .first) (s .«buffered_amount») (x ∷ xs) ready-all (short-here (x ∷ xs) eq) total-enough (omega (arith, amount-is (x ∷ xs) eq)) (waits-here (x ∷ xs) eq) (used-here (x ∷ xs) eq)
+
       whole-link : Told ws st es (idAt ws i) (closeOpen ws es (idAt ws i) (rowAt ws i) s)
       whole-link =
           let b : length (fired (x ∷ xs)) ≤ 2305 = subst (λ (z : Step). length (z .outcome .events) ≤ 2305) whole-steps (events-fit d (model ws st) (g .well)) in
           let b′ : 0 + length (sweep-events options all (each (itemIn us st) (x ∷ xs)) (totalsAt us .total) (s .«buffered_amount»)) ≤ 2305 = omega (arith, b, ap (λ (z : List Event). length z) fired-still) in
-          let m = may-sweep ws st (s .first) (s .«buffered_amount») (x ∷ xs) ready-all (short-here (x ∷ xs) eq) total-enough (omega (arith, amount-is (x ∷ xs) eq)) (waits-here (x ∷ xs) eq) (used-here (x ∷ xs) eq) in
           let w = sweep-all st (idAt ws i) (s .«low_threshold») all refl refl (x ∷ xs) us es 0 (s .«buffered_amount») (s .first) 1024 options ready-then (ap optionsOf (let-go .untouched .same-options)) (short-here (x ∷ xs) eq) long b′ in
           let w′ = w ∙ whole-swept (sweep-events options all (each (itemIn us st) (x ∷ xs)) (totalsAt us .total) (s .«buffered_amount»)) (sumOf (restAt us) (x ∷ xs)) fired-still bytes-still in
-          rw (open-whole ws es (idAt ws i) (rowAt ws i) x s first-is x-fits h, whole-goes ws es (idAt ws i) (rowAt ws i) s (swept (record { place = 1024; count = 0 + length (fired (x ∷ xs)); amount = s .«buffered_amount» - bytes (x ∷ xs) }) (cleared us (x ∷ xs)) (written es 0 (fired (x ∷ xs)))) m (remove-link ws (g .shape .schedules) (idAt ws i) id-fits .step-done) w′)
+          rw (open-whole ws es (idAt ws i) (rowAt ws i) x s first-is x-fits h, whole-goes ws es (idAt ws i) (rowAt ws i) s (swept (record { place = 1024; count = 0 + length (fired (x ∷ xs)); amount = s .«buffered_amount» - bytes (x ∷ xs) }) (cleared us (x ∷ xs)) (written es 0 (fired (x ∷ xs)))) may-whole (remove-link ws (g .shape .schedules) (idAt ws i) id-fits .step-done) w′)
           (leaves-told ws st es (idAt ws i) (putStream (cleared us (x ∷ xs)) (rowAt ws i) none-left) (fired (x ∷ xs)) (totalsAt ws .total - bytes (x ∷ xs)) none-streams ended g t whole-leaves whole-steps)
 
   open-link : (ps : List ℕ) → g .shape .q i ≡ ps → s .«pause_state» ≡ NotPaused → Told ws st es (idAt ws i) (closeOpen ws es (idAt ws i) (rowAt ws i) s)

@@ -1,2 +1,3 @@
--- Discarding without the test for 16. Assumes nothing.
+-- Discarding and closing without the tests for 16. Assumes nothing.
 pub mod Own
+pub mod Closes

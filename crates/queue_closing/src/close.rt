@@ -1,11 +1,14 @@
 // Closing a stream (Rust: prepare_reset_stream).
 ghost use mathlib.Core.Path.{_≡_};
-ghost use Prim.Native.Nat.{_<_};
+ghost use Prim.Native.Nat.{_<_, _≤_};
+ghost use Rattle.queue_words.specs.Header.{optionsAt};
+ghost use Rattle.queue_words.specs.Known.{knownCount};
 ghost use Rattle.message_chains.specs.Notes.{notes};
+ghost use Rattle.queue_streams.specs.Known.{newStream, inserted};
 ghost use Rattle.queue_streams.specs.Settings.{calledWith};
 ghost use Rattle.queue_closing.specs.Walk.{walkFailed, mayGo, walkItem, walk, maySweep};
 ghost use Rattle.queue_closing.specs.Sweep.{swept, sweepNotes, sweepItem, sweep, sweepFrom};
-ghost use Rattle.queue_closing.specs.Close.{wholeLeft, closeWhole, behindLeft, closeBehind, closeOpen, closeIn, close};
+ghost use Rattle.queue_closing.specs.Close.{wholeLeft, closeWhole, behindLeft, closeBehind, closeOpen, closeIn, pausedNew, close};
 ghost use Rattle.queue_streams.specs.declared.answers.Call.the-variants.{Accepted};
 use message_chains::amounts::minus;
 use message_chains::amounts::remaining;
@@ -347,6 +350,17 @@ fn close_in(queue: &mut [u64; QUEUE_WORDS], events: &mut [u64], id: u16, row: us
     Call::Accepted(0)
 }
 
+// A stream that is not known becomes known and paused.
+pub fn close_new(queue: &mut [u64; QUEUE_WORDS], id: u16, position: usize)
+    requires { ⌜ (position ≤ knownCount (now queue)) × (knownCount (now queue) < 256) ⌝ }
+    ensures { λ _. ⌜ now (queue .exit) ≡ inserted (now (queue .entry)) position id (pausedNew (newStream (optionsAt (now (queue .entry))))) ⌝ }
+{
+    let o = load_options(&*queue);
+    let s = new_stream(o);
+    let closed = with_pause(s, PauseState::Paused);
+    insert_stream(queue, position, id, closed);
+}
+
 // Closes a stream; one that is not known becomes known and paused.
 pub fn prepare_reset_stream(queue: &mut [u64; QUEUE_WORDS], events: &mut [u64], id: u16) -> Call
     ensures { λ r. ⌜ calledWith r (now (queue .exit)) (now (events .exit)) ≡ close (now (queue .entry)) (now (events .entry)) id ⌝ }
@@ -358,10 +372,7 @@ pub fn prepare_reset_stream(queue: &mut [u64; QUEUE_WORDS], events: &mut [u64], 
     match place {
         Place::Row(row) => close_in(queue, events, id, row),
         Place::New(position) => {
-            let o = load_options(&*queue);
-            let s = new_stream(o);
-            let closed = with_pause(s, PauseState::Paused);
-            insert_stream(queue, position, id, closed);
+            close_new(queue, id, position);
             Call::Accepted(0)
         }
         Place::Refused(n) => Call::Refused(n),
