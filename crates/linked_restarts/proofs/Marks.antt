@@ -23,20 +23,24 @@ use Rattle.queue_model.specs.Reset.{is-paused, paused-ids, paused-to-resetting,
 use Rattle.queue_model.specs.Ascending.{Ascending}
 use Rattle.queue_model.specs.Calls
 use Rattle.queue_model.proofs.Ready.{paused-ascending}
+use Rattle.payload_store.proofs.Cases.{by-index}
 use Rattle.stream_scheduler.specs.Link.{modelScheduler}
+use Rattle.stream_scheduler.proofs.Link.{scheduler-same}
 use Rattle.queue_streams.specs.declared.answers.Call.the-variants.{Accepted}
+use Rattle.queue_restarts.specs.Marking.{putResetting}
 use Rattle.queue_restarts.specs.Ready.{placesFit, allPlacesFit, marked, markedAll, collected, readied, ready, countOf, readyCount}
 use Rattle.queue_restarts.specs.declared.ready.ReadyStreams.{ReadyStreams}
+use Rattle.queue_restarts.proofs.MarkLaws
 use Rattle.queue_state.specs.Chains.{each}
 use Rattle.queue_state.specs.Model.{itemIn, pauseOf, streamOf, rowAt, streamIn, streamsIn, model, optionsOf}
 use Rattle.queue_state.specs.Good.{Shape, Good}
 use Rattle.queue_state.specs.Promise.{shown, numberOf}
 use Rattle.queue_state.proofs.Frames.{stream-is, row-below}
-use Rattle.queue_state.proofs.Singles.{model-is}
+use Rattle.queue_state.proofs.Singles.{Alike, model-is}
 use Rattle.queue_state.proofs.Rooms.{AllKnown, all-known}
 use Rattle.linked_restarts.specs.Ids.{idsOf, readyOf, Readies}
 use Rattle.linked_restarts.proofs.Sweeps.{Turn, Swept, foldTo, sweep, swept-streams}
-use Rattle.linked_restarts.proofs.Turns.{paused-is, no-turn, stored-turn}
+use Rattle.linked_restarts.proofs.Turns.{paused-is, turn-alike, no-turn, stored-turn}
 use Rattle.linked_restarts.proofs.Closings.{good-after}
 use Rattle.linked_restarts.proofs.Collects.{collected-is}
 use Rattle.queue_model.proofs.Arrivals.Ledger.{ready-id}
@@ -75,16 +79,51 @@ module _ (us st : List ℕ) (g : Shape us st) (a : AllKnown us st) (i : ℕ) (hi
       let f = Laws.stream-at-fits us (rowAt us i) in
       record { priority-fits = f .priority-fits; ssn-fits = f .ssn-fits; unordered-mid-fits = f .unordered-mid-fits; ordered-mid-fits = f .ordered-mid-fits }
 
-  by-state : (b : Bool) → isPaused (row .«pause_state») ≡ b → Turn paused-to-resetting still us st i (pick b (putStream us (rowAt us i) (withPause row Resetting)) us)
-  by-state true e =
+  -- the row stored whole with the other state
+  abbrev vs : List ℕ
+  vs = putStream us (rowAt us i) (withPause row Resetting)
+
+  below : rowAt us i < 256
+  below = row-below us st g i hi
+
+  row-alike : (j : ℕ) → streamAt (putResetting us (rowAt us i)) j ≡ streamAt vs j
+  row-alike j = by-index (rowAt us i) j
+      (λ e. subst (λ (k : ℕ). streamAt (putResetting us (rowAt us i)) k ≡ streamAt vs k) e (MarkLaws.stream-put us (rowAt us i) (g .long) below ∙ sym (Laws.stream-at-put us (rowAt us i) (withPause row Resetting) (g .long) below fits)))
+      (λ ne. MarkLaws.stream-put-other us (rowAt us i) j ne ∙ sym (Laws.stream-at-put-other us (rowAt us i) (withPause row Resetting) j ne))
+
+  totals-alike : totalsAt (putResetting us (rowAt us i)) ≡ totalsAt vs
+  totals-alike = MarkLaws.totals-put us (rowAt us i) ∙ sym (Laws.totals-put-stream us (rowAt us i) (withPause row Resetting))
+
+  alike : Alike vs (putResetting us (rowAt us i))
+  alike = record {
+    long = MarkLaws.whole-put us (rowAt us i) ∙ sym (Laws.whole-put-stream us (rowAt us i) (withPause row Resetting));
+    known = ap (λ (t : Totals). t .known) totals-alike;
+    waiting = ap (λ (t : Totals). t .waiting) totals-alike;
+    free = ap (λ (t : Totals). t .free) totals-alike;
+    used = ap (λ (t : Totals). t .used) totals-alike;
+    gaps = ap (λ (t : Totals). t .gaps) totals-alike;
+    table = λ j h. MarkLaws.known-put us (rowAt us i) j h ∙ sym (Laws.known-put-stream us (rowAt us i) (withPause row Resetting) j h);
+    rows = λ j h. row-alike j;
+    items = λ j h. MarkLaws.item-put us (rowAt us i) j below ∙ sym (Laws.item-put-stream us (rowAt us i) (withPause row Resetting) j below);
+  }
+
+  stored : is-paused (streamIn us st i) ≡ true → Turn paused-to-resetting still us st i vs
+  stored e =
       stored-turn us st g a i hi paused-to-resetting still (withPause row Resetting) fits refl refl
-      (state-is (idAt us i) row (each (itemIn us st) (g .q i)) ∙ ap (with-pause resetting) (sym here) ∙ sym (marked-by (streamIn us st i) true (state ∙ e))) refl
+      (state-is (idAt us i) row (each (itemIn us st) (g .q i)) ∙ ap (with-pause resetting) (sym here) ∙ sym (marked-by (streamIn us st i) true e)) refl
+
+  by-state : (b : Bool) → isPaused (row .«pause_state») ≡ b → Turn paused-to-resetting still us st i (pick b (putResetting us (rowAt us i)) us)
+  by-state true e =
+      let t = stored (state ∙ e) in
+      let o = MarkLaws.options-put us (rowAt us i) in
+      let sc = scheduler-same us (putResetting us (rowAt us i)) (MarkLaws.whole-put us (rowAt us i)) o (MarkLaws.scheduler-put us (rowAt us i)) (λ j. MarkLaws.active-put us (rowAt us i) j below) (MarkLaws.leasts-put us (rowAt us i)) (g .schedules) in
+      turn-alike paused-to-resetting still us st i vs (putResetting us (rowAt us i)) t alike totals-alike (o ∙ sym (t .options)) (sc .0) (sc .1 ∙ sym (t .scheduler))
   by-state false e = no-turn us st g a i hi paused-to-resetting still (marked-by (streamIn us st i) false (state ∙ e)) refl
 
   mark-turn : Turn paused-to-resetting still us st i (marked us (rowAt us i))
   unfolding marked
   mark-turn =
-      let r : rowAt us i < 256 = row-below us st g i hi in
+      let r = below in
       rw (le-ltb 255 (rowAt us i) (omega arith)) (by-state (isPaused (row .«pause_state»)) refl)
 
 -- ---- the call

@@ -7,7 +7,7 @@ use Prim.Native.Nat.{ℕ, _<_}
 use native.Mathlib.Omega.{arith}
 use borrow.Author.Tests.{lt-ltb, le-ltb}
 use lib.Dec.{ltb}
-use Rattle.queue_words.specs.Header.{totalsAt}
+use Rattle.queue_words.specs.Header.{optionsAt, totalsAt}
 use Rattle.queue_words.specs.Known.{idAt}
 use Rattle.queue_words.specs.Streams.{isPaused, isResetting, streamAt, putStream, FitsStream}
 use Rattle.queue_words.specs.declared.streams.OutgoingStream.{OutgoingStream}
@@ -20,14 +20,14 @@ use Rattle.queue_model.specs.Streams.{find-stream, put-stream, stream-key, head
 use Rattle.queue_model.specs.Reset.{is-paused, is-resetting}
 use Rattle.queue_model.proofs.Scheduler.{reschedule-of}
 use Rattle.queue_model.proofs.Table.{put-found}
-use Rattle.stream_scheduler.specs.Link.{modelScheduler}
+use Rattle.stream_scheduler.specs.Link.{GoodScheduler, modelScheduler}
 use Rattle.queue_streams.specs.Waiting.{headSize, rescheduled}
 use Rattle.queue_state.specs.Chains.{Linked, each}
 use Rattle.queue_state.specs.Model.{nextOf, itemIn, pauseOf, streamOf, rowAt, streamIn, streamsIn}
 use Rattle.queue_state.specs.Good.{Shape}
 use Rattle.queue_state.proofs.Frames.{stream-is, row-below, stream-key-in}
 use Rattle.queue_state.proofs.Steps.{After}
-use Rattle.queue_state.proofs.Singles.{shape-row, row-streams}
+use Rattle.queue_state.proofs.Singles.{Alike, unmoved, shape-row, row-streams}
 use Rattle.stream_scheduler.proofs.Link.{scheduler-same}
 use Rattle.queue_state.proofs.Looks.{found-at}
 use Rattle.queue_state.proofs.Rooms.{AllKnown, KnownTo, Listing, known-put, known-position, listing-streams, streams-rise, Let, head-is, reschedule-sized, reschedule-known}
@@ -68,6 +68,20 @@ wait-alike il s s′ sc a b c = reschedule-of il s′ sc ∙ rw (weight il c, a,
     weight : (il : Bool) → s′ .priority ≡ s .priority → weight-of il s′ ≡ weight-of il s
     weight true e = unfold weight-of in rw e
     weight false e = unfold weight-of in refl
+
+-- Words that read alike after a turn are as good.
+pub turn-alike : (F : Stream → Stream) (R : Stream → Scheduler → Scheduler) (us st : List ℕ) (i : ℕ) (vs ws : List ℕ) → Turn F R us st i vs → Alike vs ws → totalsAt ws ≡ totalsAt vs → optionsAt ws ≡ optionsAt vs
+    → GoodScheduler ws → modelScheduler ws ≡ modelScheduler vs → Turn F R us st i ws
+turn-alike F R us st i vs ws t a et eo sc em =
+    let u = unmoved vs st (t .shape) ws a sc in
+    record {
+      shape = u .shape;
+      totals = et ∙ t .totals;
+      options = eo ∙ t .options;
+      streams = u .streams ∙ t .streams;
+      scheduler = em ∙ t .scheduler;
+      known = subst (λ (ss : List Stream). Listing ss ((modelScheduler ws) .active)) (sym (u .streams)) (subst (λ (x : Scheduler). Listing (streamsIn vs st) (x .active)) (sym em) (t .known));
+    }
 
 module _ (us st : List ℕ) (g : Shape us st) (a : AllKnown us st) (i : ℕ) (hi : i < totalsAt us .known) (F : Stream → Stream) (R : Stream → Scheduler → Scheduler) where
   -- A stream put that is there already.

@@ -1,2 +1,2 @@
--- What the owned call for the ready ids answers. Assumes nothing.
+-- What the owned call for the ready ids asks for and answers. Assumes nothing.
 pub mod Ready

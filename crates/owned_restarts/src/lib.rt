@@ -1,12 +1,11 @@
 // Commit, rollback, the interleaving switch, the whole-queue reset and the ready ids of a queue that its own calls alone have changed: no walk before the first write settles that 16 does not come, and there is no refusal.
 ghost use mathlib.Core.Path.{_≡_};
-ghost use Prim.Native.Nat.{_≤_};
 ghost use Rattle.queue_streams.specs.declared.answers.Call.the-variants.{Accepted};
-ghost use Rattle.queue_restarts.specs.Ready.{collected};
+ghost use Rattle.queue_restarts.specs.Ready.{collected, markedAll, readied};
 ghost use Rattle.linked_restarts.specs.Contracts.{CommitMeets, RollbackMeets, SwitchMeets, ResetMeets, ReadyMeets};
-ghost use Rattle.owned_streams.specs.Own.{OwnWords, RowsFit};
-ghost use Rattle.owned_restarts.specs.Ready.{readyAs};
-use queue_restarts::ready::mark_all;
+ghost use Rattle.owned_streams.specs.Own.{OwnWords};
+ghost use Rattle.owned_restarts.specs.Ready.{readyAs, OwnRows};
+use queue_restarts::marking::store_resetting;
 use queue_restarts::whole::reset_own;
 use queue_streams::restart::reopen_own;
 use queue_streams::restart::switch_own;
@@ -54,20 +53,21 @@ pub struct ReadyIds {
     pub ids: [u16; STREAM_ROWS],
 }
 
-// The ids of the paused ones among the first n known streams.
-fn collect(queue: &[u64; QUEUE_WORDS], n: usize) -> ReadyIds
-    requires { ⌜ RowsFit (now queue) n × (n ≤ 256) ⌝ }
-    ensures { λ r. ⌜ readyAs r ≡ collected (now (queue .entry)) n ⌝ }
+// The ids of the paused ones among the first n known streams, which "become resetting": one walk takes and marks them.
+fn take_paused(queue: &mut [u64; QUEUE_WORDS], n: usize) -> ReadyIds
+    requires { ⌜ OwnRows (now queue) n ⌝ }
+    ensures { λ r. ⌜ readied (readyAs r) (now (queue .exit)) ≡ readied (collected (now (queue .entry)) n) (markedAll (now (queue .entry)) n) ⌝ }
 {
     let mut ids = [0u16; STREAM_ROWS];
     let mut count = 0;
     let mut i = 0;
     while i < n {
-        let k = load_known(queue, i);
-        let s = load_stream(queue, k.place as usize);
+        let k = load_known(&*queue, i);
+        let s = load_stream(&*queue, k.place as usize);
         let state = s.pause_state;
         let paused = state.is_paused();
         if paused {
+            store_resetting(queue, k.place as usize);
             ids[count] = k.id.0;
             count += 1;
         }
@@ -85,7 +85,5 @@ pub fn get_streams_ready_to_reset(queue: &mut [u64; QUEUE_WORDS]) -> ReadyIds
     ensures { λ r. ⌜ ReadyMeets (now (queue .entry)) (readyAs r) (now (queue .exit)) ⌝ }
 {
     let t = load_totals(&*queue);
-    let r = collect(&*queue, t.known as usize);
-    mark_all(queue, t.known as usize);
-    r
+    take_paused(queue, t.known as usize)
 }

@@ -3,3 +3,4 @@ pub mod Loops
 pub mod Few
 pub mod Settled
 pub mod Resets
+pub mod MarkLaws

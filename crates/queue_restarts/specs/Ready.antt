@@ -7,13 +7,13 @@ use lib.ListN.{replicate, set, take}
 use Rattle.queue_words.specs.Flags.{pick}
 use Rattle.queue_words.specs.Header.{totalsAt}
 use Rattle.queue_words.specs.Known.{knownAt}
-use Rattle.queue_words.specs.Streams.{isPaused, streamAt, putStream, withPause}
-use Rattle.queue_words.specs.declared.streams.PauseState.the-variants.{Resetting}
+use Rattle.queue_words.specs.Streams.{isPaused, streamAt}
 use Rattle.queue_streams.specs.Answers.{callNumber}
 use Rattle.queue_streams.specs.declared.answers.Call.{Call}
 use Rattle.queue_streams.specs.declared.answers.Call.the-variants.{Accepted, Refused}
 use Rattle.queue_streams.specs.declared.answers.Number.{Number}
 use Rattle.queue_streams.specs.declared.answers.Number.the-variants as number
+use Rattle.queue_restarts.specs.Marking.{putResetting}
 use Rattle.queue_restarts.specs.declared.ready.ReadyStreams.{ReadyStreams}
 
 -- 16: "a place kept in the state lies outside its table": whether those of m known streams from position i on lie in theirs.
@@ -51,7 +51,7 @@ collectedOr16 ws n = pick (placesFit ws 0 n) (collected ws n) refusedReady
 unfoldable pub marked : List ℕ → ℕ → List ℕ
 marked ws place =
     pick (ltb 255 place) ws
-    (pick (isPaused (streamAt ws place .«pause_state»)) (putStream ws place (withPause (streamAt ws place) Resetting)) ws)
+    (pick (isPaused (streamAt ws place .«pause_state»)) (putResetting ws place) ws)
 
 unfoldable pub markedAll : List ℕ → ℕ → List ℕ
 markedAll ws zero = ws

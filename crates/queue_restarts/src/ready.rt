@@ -2,6 +2,7 @@
 ghost use mathlib.Core.Path.{_≡_};
 ghost use Prim.Native.Nat.{_≤_};
 ghost use Rattle.queue_restarts.specs.Ready.{refusedReady, pausedAt, collectedOr16, marked, markedAll, readied, ready, readyCount};
+use crate::marking::store_resetting;
 use queue_streams::answers::Call;
 use queue_streams::answers::Number;
 use queue_streams::answers::is_accepted;
@@ -11,10 +12,7 @@ use queue_words::known::load_known;
 use queue_words::limits::LAST_STREAM;
 use queue_words::limits::STREAM_ROWS;
 use queue_words::limits::STREAMS;
-use queue_words::streams::PauseState;
 use queue_words::streams::load_stream;
-use queue_words::streams::store_stream;
-use queue_words::streams::with_pause;
 
 // "Ready ids, at most 256, come by value with their count in ascending order". The ids are the first `count`; the others are 0.
 pub struct ReadyStreams {
@@ -83,12 +81,11 @@ fn mark(queue: &mut [u64; QUEUE_WORDS], place: u64)
     let state = s.pause_state;
     let paused = state.is_paused();
     if paused {
-        let o = with_pause(s, PauseState::Resetting);
-        store_stream(queue, place as usize, o);
+        store_resetting(queue, place as usize);
     }
 }
 
-pub fn mark_all(queue: &mut [u64; QUEUE_WORDS], n: usize)
+fn mark_all(queue: &mut [u64; QUEUE_WORDS], n: usize)
     requires { ⌜ n ≤ 256 ⌝ }
     ensures { λ _. ⌜ now (queue .exit) ≡ markedAll (now (queue .entry)) n ⌝ }
 {
