@@ -34,7 +34,7 @@ use Rattle.chunks.proofs.WriteCases.{header-length}
 use Rattle.packets.specs.declared.filling.Filling.{Filling}
 use Rattle.packets.specs.declared.packet.Packet.{Packet}
 use Rattle.packets.specs.declared.packet.PacketFilled.{PacketFilled}
-use Rattle.packets.specs.Filling.{kindOf, fillCode, chunkAround, packetAfter, around, oneFilled, FillingWith, fillingWith, reached, andOn, sizeAsked, fillOn, filledWith, finishedAnswer, finishedPacket, finished, fillPacket}
+use Rattle.packets.specs.Filling.{kindOf, packetCode, eventsCode, fillCode, chunkAround, packetAfter, around, oneFilled, FillingWith, fillingWith, reached, andOn, sizeAsked, fillOn, filledWith, finishedAnswer, finishedPacket, finished, fillPacket}
 use Rattle.packets.proofs.Within.{after-within}
 
 -- ------------------------------------------------------------------ sizes
@@ -205,6 +205,39 @@ module _ (k : ChunkKind) (st : List ℕ) (time limit most : ℕ) (left : ℕ) (w
           (λ n g. ap (λ (x : Produced). andOn (λ (l v c : List ℕ) (u j m t : ℕ). fillOn n k st time limit most l v c u j m t) k used j₀ chunks tsn (producedWith x us vs o)) (sym e) ∙ turned n)
 
 -- ------------------------------------------------------------------ the call
+
+-- The packet is judged before all else.
+pub packet-refused : (room limit next code : ℕ) → code ≡ packetCode room limit 0 → 0 < code → packetCode room limit next ≡ code
+packet-refused room limit next code e h = go (ltb limit 36) (ltb 65535 limit) (ltb room limit) e
+  where
+    go : (a b c : Bool) → code ≡ pick a 20 (pick b 20 (pick c 21 0)) → pick a 20 (pick b 20 (pick c 21 next)) ≡ code
+    go true b c e = sym e
+    go false true c e = sym e
+    go false false true e = sym e
+    go false false false e = absurd (omega (arith, h))
+
+pub packet-passed : (room limit next code : ℕ) → code ≡ packetCode room limit 0 → code ≤ 0 → packetCode room limit next ≡ next
+packet-passed room limit next code e h = go (ltb limit 36) (ltb 65535 limit) (ltb room limit) e
+  where
+    go : (a b c : Bool) → code ≡ pick a 20 (pick b 20 (pick c 21 0)) → pick a 20 (pick b 20 (pick c 21 next)) ≡ next
+    go true b c e = absurd (omega (arith, h))
+    go false true c e = absurd (omega (arith, h))
+    go false false true e = absurd (omega (arith, h))
+    go false false false e = refl
+
+module _ (ws : List ℕ) (len places room time limit code : ℕ) (ec : code ≡ packetCode room limit 0) where
+  pub judged-packet : 0 < code → code ≡ fillCode ws len places room time limit
+  unfolding fillCode
+  judged-packet h = sym (packet-refused room limit (pick (eqb (optionsAt ws .«store_length») len) (eventsCode places time) 2) code ec h)
+
+  module _ (h : code ≤ 0) (o : Options) (eo : o ≡ optionsAt ws) where
+    pub judged-store : (o .«store_length» ≡ len → ⊥) → 2 ≡ fillCode ws len places room time limit
+    unfolding fillCode
+    judged-store n = rw (← eo, ne-eqb (o .«store_length») len n) (sym (packet-passed room limit 2 code ec h))
+
+    pub judged-events : o .«store_length» ≡ len → (r : ℕ) → r ≡ eventsCode places time → r ≡ fillCode ws len places room time limit
+    unfolding fillCode
+    judged-events e r er = rw (← eo, eq-eqb (o .«store_length») len e) (er ∙ sym (packet-passed room limit (eventsCode places time) code ec h))
 
 -- What the arguments have settled where no check applies.
 pub code-allows : (ws : List ℕ) (len places room time limit code : ℕ) → code ≡ fillCode ws len places room time limit → code ≤ 0

@@ -35,16 +35,22 @@ abbrev pub kindOf : Bool → ChunkKind
 kindOf false = kind.Data
 kindOf true = kind.IData
 
--- The refusals that the arguments decide. "20 when the packet limit is outside 36 to 65,535, 21 when the packet buffer is shorter than the limit; both come before 01's checks for the next fragment": 2, 3, 4.
-unfoldable pub fillCode : List ℕ → ℕ → ℕ → ℕ → ℕ → ℕ → ℕ
-fillCode ws len places room time limit =
+-- "20 when the packet limit is outside 36 to 65,535, 21 when the packet buffer is shorter than the limit"; `next` is what comes after them.
+abbrev pub packetCode : ℕ → ℕ → ℕ → ℕ
+packetCode room limit next =
     pick (ltb limit 36) 20
     (pick (ltb 65535 limit) 20
-    (pick (ltb room limit) 21
-    (pick (eqb (optionsAt ws .«store_length») len)
-    (pick (ltb places eventWords) 3
-    (pick (ltb 4611686018427387903 time) 4 0))
-    2)))
+    (pick (ltb room limit) 21 next))
+
+-- Document 01's 3: "the event list has fewer than 2,305 places", and 4: "A time or lifetime is above 4,611,686,018,427,387,903."
+abbrev pub eventsCode : ℕ → ℕ → ℕ
+eventsCode places time =
+    pick (ltb places eventWords) 3
+    (pick (ltb 4611686018427387903 time) 4 0)
+
+-- The refusals that the arguments decide: 20 and 21; "both come before 01's checks for the next fragment": 2, 3, 4.
+unfoldable pub fillCode : List ℕ → ℕ → ℕ → ℕ → ℕ → ℕ → ℕ
+fillCode ws len places room time limit = packetCode room limit (pick (eqb (optionsAt ws .«store_length») len) (eventsCode places time) 2)
 
 -- ------------------------------------------------------------------ one call for the next fragment
 

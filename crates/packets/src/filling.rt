@@ -1,35 +1,31 @@
 // Filling a packet: a loop of calls for the next fragment, each payload read from the store to its place in the packet.
 ghost use mathlib.Core.Path.{_≡_};
-ghost use Prim.Native.Nat.{_+_, _-_, _≤_, min};
-ghost use lib.ListN.{length, replicate};
-ghost use Rattle.types.specs.Wrap.{wrap-suc};
-ghost use Rattle.queue_model.specs.Bytes.{row-bytes};
-ghost use Rattle.queue_model.specs.Chunks.{padding, padded};
-ghost use Rattle.queue_model.specs.Fill.{rounded-down, common-header-length};
+ghost use Prim.Native.Nat.{_+_, _≤_};
+ghost use lib.ListN.{length};
+ghost use Rattle.queue_model.specs.Chunks.{padded};
+ghost use Rattle.queue_model.specs.Fill.{common-header-length};
 ghost use Rattle.queue_streams.specs.Events.{eventWords};
 ghost use Rattle.queue_sending.specs.Data.{producedWith};
-ghost use Rattle.big_endian.specs.Numbers.{wrote};
 ghost use Rattle.chunks.specs.Layout.{headerSize};
-ghost use Rattle.packets.specs.Filling.{kindOf, fillCode, chunkAround, oneFilled, fillingWith, fillOn, filledWith, finishedAnswer, finishedPacket, fillPacket};
+ghost use Rattle.packets.specs.Filling.{fillCode, oneFilled, fillingWith, fillOn, filledWith, finishedAnswer, finishedPacket, fillPacket};
 use crate::packet::COMMON_HEADER;
-use crate::packet::LEAST_LIMIT;
-use crate::packet::MOST_LIMIT;
 use crate::packet::Packet;
 use crate::packet::PacketFilled;
 use crate::packet::put_common_header;
+use crate::parts::events_code;
+use crate::parts::kind_of;
+use crate::parts::next_tsn;
+use crate::parts::packet_code;
+use crate::parts::put_around;
+use crate::parts::size_asked;
 use chunks::ChunkKind;
 use chunks::header_size;
 use chunks::padded;
-use chunks::put_header;
-use chunks::put_zeros;
-use queue_sending::Data;
 use queue_sending::Produced;
 use queue_sending::produce_after;
-use queue_streams::events::EVENT_WORDS;
 use queue_words::QUEUE_WORDS;
 use queue_words::header::load_options;
 use queue_words::header::load_totals;
-use queue_words::limits::MAX_TIME;
 
 // The refusals that the arguments decide: 20, 21, then document 01's 2, 3, 4, or 0.
 fn fill_code(
@@ -42,73 +38,15 @@ fn fill_code(
 ) -> u8
     ensures { λ r. ⌜ r ≡ fillCode (now (queue .entry)) len places room time limit ⌝ }
 {
-    if limit < LEAST_LIMIT {
-        return 20;
-    }
-    if limit > MOST_LIMIT {
-        return 20;
-    }
-    if room < limit {
-        return 21;
+    let code = packet_code(room, limit);
+    if code > 0 {
+        return code;
     }
     let o = load_options(queue);
     if o.store_length != len {
         return 2;
     }
-    if places < EVENT_WORDS as u64 {
-        return 3;
-    }
-    if time > MAX_TIME {
-        return 4;
-    }
-    0
-}
-
-// "I-DATA while interleaving is on, else DATA".
-fn kind_of(interleaving: bool) -> ChunkKind
-    ensures { λ r. ⌜ r ≡ kindOf interleaving ⌝ }
-{
-    if interleaving {
-        return ChunkKind::IData;
-    }
-    ChunkKind::Data
-}
-
-// "rounded down to a multiple of 4, at most the payload limit"; `start` is where the payload would begin.
-fn size_asked(limit: usize, start: usize, most: u16) -> usize
-    ensures { λ r. ⌜ r ≡ min (rounded-down (limit - start)) most ⌝ }
-{
-    if limit < start {
-        return 0;
-    }
-    let room = (limit - start) / 4 * 4;
-    if room > most as usize {
-        return most as usize;
-    }
-    room
-}
-
-// "consecutive TSNs"; they wrap at 32 bits.
-fn next_tsn(tsn: u32) -> u32
-    ensures { λ r. ⌜ r ≡ wrap-suc 32 tsn ⌝ }
-{
-    if tsn == u32::MAX {
-        return 0;
-    }
-    tsn + 1
-}
-
-// The chunk's header before a payload that is in its place, and the zeros behind it.
-fn put_around(packet: &mut [u8], at: usize, kind: ChunkKind, tsn: u32, d: Data)
-    requires { ⌜ (headerSize kind + d .length ≤ 65535) × (at + padded (headerSize kind + d .length) ≤ length (now packet)) ⌝ }
-    ensures { λ _. ⌜ now (packet .exit) ≡ chunkAround kind tsn d (now (packet .entry)) at ⌝ }
-{
-    let size = header_size(kind);
-    let len = size + d.length as usize;
-    let end = padded(len);
-    let stop = at + size;
-    put_header(&mut packet[at..stop], kind, tsn, d, len as u16);
-    put_zeros(packet, at + len, end - len);
+    events_code(places, time)
 }
 
 // One call for the next fragment, after k events: its fragment buffer is the part of the packet in which the payload lies.

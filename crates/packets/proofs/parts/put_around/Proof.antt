@@ -1,10 +1,10 @@
--- `packets::filling::put_around` meets its contract: the header before the payload, and the zeros behind it. Assumes nothing.
+-- `packets::parts::put_around` meets its contract: the header before the payload, and the zeros behind it. Assumes nothing.
 use native.Mathlib.Omega.{arith}
 use Rattle.chunks.proofs.WriteCases.{zeros-fit}
 use Rattle.packets.proofs.Cases.{around-fits, around-is}
 use borrow.Author.Needs.{needs}
-use Rattle.packets.proofs.filling.put_around.Statement.{statement}
-use Rattle.packets.proofs.filling.put_around.Tie as tie
+use Rattle.packets.proofs.parts.put_around.Statement.{statement}
+use Rattle.packets.proofs.parts.put_around.Tie as tie
 
 put-zeros-requires : tie.Need-put-zeros-requires
 put-zeros-requires c κs = (

@@ -1,0 +1,3 @@
+-- What the proofs of several functions use. Assumes nothing.
+pub mod Turns
+pub mod Answers
