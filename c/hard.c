@@ -1,9 +1,9 @@
-/* Hard use of the C interface: random calls on a queue, on words that somebody has damaged, and with images at random. Meant to run
- * under valgrind (scripts/hard): every buffer that is lent ends where its block ends.
+/* Hard use of the C interface: random calls of every function on a queue, on words that somebody has damaged, and with images, chunks,
+ * packets and responses that came damaged. Meant to run under valgrind (scripts/hard): every buffer that is lent ends where its block ends.
  *
  * usage: hard [CALLS] [SEED]
  *
- * It ends when so many calls were on damaged words or with an image; those on the words of a queue come on top. Then, for each 400 of these
+ * It ends when so many calls were on damaged words or with damaged bytes; the others come on top. Then, for each 400 of these
  * calls, one next fragment where up to 1,024 messages have expired and some of the words in use were damaged. Each answer must be one of
  * those that the header lists behind the function, and each event of a kind that there is, without an amount where its kind has none; at
  * one refusal in eight, and at every refused restoring, all that was lent is compared with what it was before the call. */
@@ -50,11 +50,24 @@ static uint64_t odd_number(void) {
 
 /* All that is lent, and what it was before the call. */
 struct lent {
-    uint64_t *queue, *events, *out;
+    uint64_t *queue, *events, *out, *chunk;
     uint8_t *store, *buffer, *image;
-    uint16_t *ids;
+    uint16_t *ids, *priorities;
     uint32_t *handler;
 };
+
+/* Its arrays, each with its bytes. */
+#define ARRAYS(OF)                                   \
+    OF(queue, QUEUE_BYTES)                           \
+    OF(events, EVENT_BYTES)                          \
+    OF(out, DSQ_OUT_WORDS * sizeof(uint64_t))        \
+    OF(chunk, DSQ_CHUNK_WORDS * sizeof(uint64_t))    \
+    OF(store, STORE)                                 \
+    OF(buffer, BUFFER)                               \
+    OF(image, IMAGE)                                 \
+    OF(ids, DSQ_MAX_STREAMS * sizeof(uint16_t))      \
+    OF(priorities, DSQ_MAX_PLANNED * sizeof(uint16_t)) \
+    OF(handler, DSQ_HANDLER_NUMBERS * sizeof(uint32_t))
 
 static struct lent now, was;
 
@@ -62,38 +75,28 @@ static struct lent now, was;
 static size_t store_length = STORE;
 static int damaged;
 
+/* Whether the bytes that the call reads came damaged: changed, cut, or at random. */
+static int spoiled;
+
 static size_t a_store(void) {
     return below(32) ? store_length : (size_t)below(STORE);
 }
 
 static struct lent lend(void) {
     struct lent l;
-    l.queue = block(QUEUE_BYTES);
-    l.events = block(EVENT_BYTES);
-    l.out = block(DSQ_OUT_WORDS * sizeof(uint64_t));
-    l.store = block(STORE);
-    l.buffer = block(BUFFER);
-    l.image = block(IMAGE);
-    l.ids = block(DSQ_MAX_STREAMS * sizeof(uint16_t));
-    l.handler = block(DSQ_HANDLER_NUMBERS * sizeof(uint32_t));
+#define LEND(array, bytes) l.array = block(bytes);
+    ARRAYS(LEND)
     return l;
 }
 
 static void keep(void) {
-    memcpy(was.queue, now.queue, QUEUE_BYTES);
-    memcpy(was.events, now.events, EVENT_BYTES);
-    memcpy(was.out, now.out, DSQ_OUT_WORDS * sizeof(uint64_t));
-    memcpy(was.store, now.store, STORE);
-    memcpy(was.buffer, now.buffer, BUFFER);
-    memcpy(was.image, now.image, IMAGE);
-    memcpy(was.ids, now.ids, DSQ_MAX_STREAMS * sizeof(uint16_t));
-    memcpy(was.handler, now.handler, DSQ_HANDLER_NUMBERS * sizeof(uint32_t));
+#define KEEP(array, bytes) memcpy(was.array, now.array, bytes);
+    ARRAYS(KEEP)
 }
 
 static int changed(void) {
-    return memcmp(was.queue, now.queue, QUEUE_BYTES) || memcmp(was.events, now.events, EVENT_BYTES) || memcmp(was.out, now.out, DSQ_OUT_WORDS * sizeof(uint64_t))
-        || memcmp(was.store, now.store, STORE) || memcmp(was.buffer, now.buffer, BUFFER) || memcmp(was.image, now.image, IMAGE)
-        || memcmp(was.ids, now.ids, DSQ_MAX_STREAMS * sizeof(uint16_t)) || memcmp(was.handler, now.handler, DSQ_HANDLER_NUMBERS * sizeof(uint32_t));
+#define DIFFERS(array, bytes) || memcmp(was.array, now.array, bytes)
+    return 0 ARRAYS(DIFFERS);
 }
 
 /* A store of this length, at the end of its block: what is read or written past it is not the queue's. */
@@ -136,26 +139,35 @@ static uint32_t produce(void) {
     return dsq_produce(now.queue, store_of(store), store, now.events + (DSQ_EVENT_WORDS - places), places, buffer, length, now.out, a_time(), below(8) ? 1 + below(BUFFER) : odd_number());
 }
 
-/* An image: bytes at random, or one that was saved with some bytes changed or cut off, or whole. */
+/* These bytes in a block of their own: whole, cut off, longer, some of them changed, or, at times, others at random. */
+static uint8_t *carried(const uint8_t *sent, size_t *length) {
+    uint8_t *bytes;
+    size_t i, whole = *length;
+    int any = whole == 0 || below(8) == 0;
+    if (any)
+        *length = (size_t)below(200);
+    else if (below(4) == 0)
+        *length = below(2) ? (size_t)below(whole + 1) : whole + (size_t)below(9);
+    bytes = block(*length);
+    for (i = 0; i < *length; i++)
+        bytes[i] = any || i >= whole ? (uint8_t)next() : sent[i];
+    if (!any && below(2) && *length > 0)
+        for (i = 1 + (size_t)below(4); i > 0; i--)
+            bytes[below(*length)] = (uint8_t)next();
+    spoiled = any || *length != whole || memcmp(bytes, sent, whole) != 0;
+    return bytes;
+}
+
+/* The image of the queue as it is, carried. */
 static uint32_t restore(void) {
     static uint8_t saved[IMAGE];
-    size_t length = (size_t)below(200), store, i;
+    size_t length = 0, store;
     uint8_t *image;
     uint32_t r;
-    int any = below(8) == 0;
-    if (!any) {
-        uint64_t out[DSQ_OUT_WORDS] = {0};
-        if (dsq_save(now.queue, store_of(store_length), store_length, saved, IMAGE, out, 1) == 0)
-            length = (size_t)out[DSQ_OUT_VALUE];
-        if (below(4) == 0)
-            length = (size_t)below(length + 1);
-    }
-    image = block(length);
-    for (i = 0; i < length; i++)
-        image[i] = any ? (uint8_t)next() : saved[i];
-    if (!any && below(2) && length > 0)
-        for (i = 1 + (size_t)below(4); i > 0; i--)
-            image[below(length)] = (uint8_t)next();
+    uint64_t out[DSQ_OUT_WORDS] = {0};
+    if (dsq_save(now.queue, store_of(store_length), store_length, saved, IMAGE, out, 1) == 0)
+        length = (size_t)out[DSQ_OUT_VALUE];
+    image = carried(saved, &length);
     if (below(4)) { /* into a new queue, sometimes with less room */
         store_length = below(4) ? STORE : 600;
         (void)!dsq_create(now.queue, store_of(store_length), store_length, 1200, 256, 0, 0, 1, a_rule());
@@ -186,7 +198,7 @@ static uint32_t create(void) {
     return r;
 }
 
-enum kind { ADD, PRODUCE, DISCARD, CLOSE, READY, COMMIT, ROLLBACK, RESET, SWITCH, PRIORITY, THRESHOLD, ASK_PRIORITY, ASK_AMOUNT, ASK_THRESHOLD, ASK_DATA, ASK_READY, ASK_COUNT, REQUEST, RESPONSE, RESET_THROUGH, ASK_PLAIN, SAVE, RESTORE, CREATE, KINDS };
+enum kind { ADD, PRODUCE, DISCARD, CLOSE, READY, COMMIT, ROLLBACK, RESET, SWITCH, PRIORITY, THRESHOLD, ASK_PRIORITY, ASK_AMOUNT, ASK_THRESHOLD, ASK_DATA, ASK_READY, ASK_COUNT, START, REQUEST, RESPONSE, RESET_THROUGH, ASK_PLAIN, PLAN, WRITE, READ, FILL, READ_PACKET, SAVE, RESTORE, CREATE, KINDS };
 
 #define N(k) (UINT32_C(1) << (k))
 
@@ -209,10 +221,16 @@ static const uint32_t listed[KINDS] = {
     [ASK_DATA] = N(16),
     [ASK_READY] = N(16),
     [ASK_COUNT] = N(16),
+    [START] = 0,
     [REQUEST] = N(25) | N(16) | N(26),
     [RESPONSE] = N(27) | N(16),
     [RESET_THROUGH] = N(16),
     [ASK_PLAIN] = 0,
+    [PLAN] = N(1) | N(28) | N(29),
+    [WRITE] = N(17) | N(18),
+    [READ] = N(19),
+    [FILL] = N(20) | N(21) | N(2) | N(3) | N(4) | N(16),
+    [READ_PACKET] = N(19),
     [SAVE] = N(2) | N(4) | N(11) | N(16),
     [RESTORE] = N(2) | N(4) | N(12) | N(13) | N(14) | N(15),
     [CREATE] = N(1) | N(2),
@@ -227,26 +245,107 @@ static uint32_t request(void) {
     return dsq_make_reset_request(now.queue, now.handler, now.buffer + (BUFFER - length), length, now.out, (uint32_t)next(), (uint32_t)next());
 }
 
-/* A response, mostly to the request underway, some of its bytes changed or cut off; or bytes at random. */
+/* A response, mostly to the request underway, carried. */
 static uint32_t response(void) {
-    size_t length = below(8) ? 16 : (size_t)below(24), i;
-    uint8_t right[16] = {130, 0, 0, 16, 0, 16, 0, 12, 0}, *bytes = block(length);
+    uint8_t right[16] = {130, 0, 0, 16, 0, 16, 0, 12, 0}, *bytes;
+    size_t length = sizeof right, i;
     uint32_t r;
     for (i = 0; i < 4; i++)
         right[8 + i] = (uint8_t)(now.handler[DSQ_HANDLER_NUMBER] >> (24 - 8 * i));
     right[15] = (uint8_t)below(9);
-    for (i = 0; i < length; i++)
-        bytes[i] = i < 16 && below(64) ? right[i] : (uint8_t)next();
+    bytes = carried(right, &length);
     r = dsq_handle_reset_response(now.queue, now.handler, bytes, length, now.out);
     free(bytes);
     return r;
 }
 
+/* A wanted order, mostly one that can be; ids and sizes end where their blocks end. */
+static uint32_t plan(void) {
+    size_t count = (size_t)below(below(8) ? 8 : DSQ_MAX_PLANNED + 2), sizes = below(16) ? count : (size_t)below(DSQ_MAX_PLANNED + 2), i;
+    uint16_t *id = block(count * sizeof *id);
+    uint64_t *size = block(sizes * sizeof *size);
+    uint32_t r;
+    for (i = 0; i < count; i++)
+        id[i] = (uint16_t)(below(64) ? 7 * i : below(40));
+    for (i = 0; i < sizes; i++)
+        size[i] = below(64) ? 1 + below(3000) : odd_number();
+    r = dsq_plan_priorities(id, count, size, sizes, now.priorities, below(8) ? 1 + below(1500) : odd_number());
+    free(id);
+    free(size);
+    return r;
+}
+
+/* The last chunk that was written, and the last packet that was filled. */
+static uint8_t chunk[BUFFER], packet[BUFFER];
+static size_t chunk_length, packet_length;
+
+/* A chunk into an output that ends where its block ends. */
+static uint32_t write_chunk(void) {
+    size_t length = below(16) ? 1 + (size_t)below(300) : below(2) ? 0 : DSQ_MAX_CHUNK_PAYLOAD + (size_t)below(2), room = below(4) ? BUFFER : (size_t)below(BUFFER);
+    uint8_t *payload = block(length), *output = now.buffer + (BUFFER - room);
+    uint32_t r = dsq_write_chunk(output, room, payload, length, now.out, (uint8_t)below(3), (uint32_t)next(), a_stream(), (uint8_t)below(3), (uint16_t)next(),
+        (uint32_t)next(), (uint32_t)next(), (uint32_t)next(), (uint8_t)below(3), (uint8_t)below(3));
+    free(payload);
+    if (r == 0) {
+        chunk_length = (size_t)now.out[DSQ_OUT_VALUE];
+        memcpy(chunk, output, chunk_length);
+    }
+    return r;
+}
+
+/* Reads these bytes, of so many; what is read lies inside them. */
+static uint32_t read_bytes(const uint8_t *bytes, size_t length) {
+    uint32_t r = dsq_read_chunk(bytes, length, now.out, now.chunk);
+    return r == 0 && (now.chunk[DSQ_CHUNK_PAYLOAD_AT] > length || now.out[DSQ_OUT_LENGTH] > length - now.chunk[DSQ_CHUNK_PAYLOAD_AT]) ? 99 : r;
+}
+
+static uint32_t read_chunk(void) {
+    size_t length = chunk_length;
+    uint8_t *bytes = carried(chunk, &length);
+    uint32_t r = read_bytes(bytes, length);
+    free(bytes);
+    return r;
+}
+
+static uint32_t fill_packet(void) {
+    size_t room = odd_length(BUFFER), store = a_store(), places = odd_length(DSQ_EVENT_WORDS);
+    uint8_t *buffer = now.buffer + (BUFFER - room);
+    uint32_t r = dsq_fill_packet(now.queue, store_of(store), store, now.events + (DSQ_EVENT_WORDS - places), places, buffer, room, now.out, a_time(),
+        below(8) ? DSQ_MIN_PACKET_LIMIT + below(BUFFER - DSQ_MIN_PACKET_LIMIT + 1) : odd_number(), (uint16_t)next(), (uint16_t)next(), (uint32_t)next(), (uint32_t)next());
+    if (r == 0 && now.out[DSQ_OUT_VALUE] > 0) {
+        if (now.out[DSQ_OUT_LENGTH] > room)
+            return 99;
+        packet_length = (size_t)now.out[DSQ_OUT_LENGTH];
+        memcpy(packet, buffer, packet_length);
+    }
+    return r;
+}
+
+/* The last packet, carried, and taken apart by the lengths that its chunks tell, as a host would; the first refusal ends it. */
+static uint32_t read_packet(void) {
+    size_t length = packet_length, at = 12;
+    uint8_t *bytes = carried(packet, &length);
+    uint32_t r = 0;
+    while (r == 0 && at < length) {
+        size_t left = length - at, told = left < 4 ? left : ((size_t)bytes[at + 2] * 256 + bytes[at + 3] + 3) / 4 * 4, one = told < left ? told : left;
+        uint8_t *alone = block(one);
+        memcpy(alone, bytes + at, one);
+        memcpy(was.out, now.out, DSQ_OUT_WORDS * sizeof(uint64_t));
+        memcpy(was.chunk, now.chunk, DSQ_CHUNK_WORDS * sizeof(uint64_t));
+        r = read_bytes(alone, one);
+        free(alone);
+        at += one;
+    }
+    free(bytes);
+    return r;
+}
+
 static uint32_t ask_plain(void) {
+    uint64_t room = dsq_free_bytes(now.queue), messages = dsq_waiting_messages(now.queue), streams = dsq_known_streams(now.queue);
+    if (!damaged && (room > store_length || messages > DSQ_MAX_MESSAGES || streams > DSQ_MAX_STREAMS))
+        return 99;
     if (dsq_is_empty(now.queue) != (dsq_total_buffered_amount(now.queue) == 0))
         return 99;
-    if (dsq_free_bytes(now.queue) == 1 && dsq_waiting_messages(now.queue) == 1 && dsq_known_streams(now.queue) == 1)
-        return 0;
     return dsq_get_handover_readiness(now.queue) & ~UINT64_C(2) ? 99 : 0;
 }
 
@@ -270,10 +369,16 @@ static uint32_t call(enum kind k) {
     case ASK_DATA: return dsq_has_data_to_send(now.queue, now.out);
     case ASK_READY: return dsq_has_streams_ready_to_be_reset(now.queue, now.out);
     case ASK_COUNT: return dsq_count_streams_ready_to_reset(now.queue, now.out);
+    case START: return dsq_start_reset_handler(now.handler, (uint32_t)next());
     case REQUEST: return request();
     case RESPONSE: return response();
     case RESET_THROUGH: return dsq_reset_through_handler(now.queue, now.handler);
     case ASK_PLAIN: return ask_plain();
+    case PLAN: return plan();
+    case WRITE: return write_chunk();
+    case READ: return read_chunk();
+    case FILL: return fill_packet();
+    case READ_PACKET: return read_packet();
     case SAVE: return save();
     case RESTORE: return restore();
     default: return create();
@@ -295,7 +400,7 @@ static int right_events(enum kind k) {
 }
 
 static enum kind a_kind(void) {
-    static const enum kind often[] = {ADD, ADD, ADD, ADD, PRODUCE, PRODUCE, PRODUCE, PRODUCE, PRODUCE, CLOSE, DISCARD};
+    static const enum kind often[] = {ADD, ADD, ADD, ADD, PRODUCE, PRODUCE, PRODUCE, PRODUCE, FILL, CLOSE, DISCARD};
     return below(2) ? often[below(sizeof often / sizeof *often)] : (enum kind)below(KINDS - 1);
 }
 
@@ -336,7 +441,7 @@ static uint32_t past_expired(void) {
 }
 
 int main(int argc, char **argv) {
-    long wanted = argc > 1 ? atol(argv[1]) : 1000000, n, calls, left = 0, on_damaged = 0, images = 0, accepted = 0, refused[32] = {0};
+    long wanted = argc > 1 ? atol(argv[1]) : 1000000, n, calls, left = 0, on_damaged = 0, with[KINDS] = {0}, hard = 0, accepted = 0, refused[32] = {0};
     uint64_t *good = block(QUEUE_BYTES);
     size_t good_length = STORE;
     int good_damaged = 0;
@@ -346,9 +451,9 @@ int main(int argc, char **argv) {
     was = lend();
     if (dsq_create(now.queue, now.store, STORE, 1200, 256, 100, 500, 1, DSQ_RESTART_DCSCTP) != 0)
         return 1;
-    for (calls = 0; on_damaged + images < wanted; calls++) {
+    for (calls = 0; hard < wanted; calls++) {
         enum kind k = a_kind();
-        int look = below(8) == 0;
+        int look = below(8) == 0, on_words;
         uint32_t r;
         if (left > 0) {
             if (--left == 0) { /* back to the words of a queue */
@@ -368,11 +473,12 @@ int main(int argc, char **argv) {
         }
         if (look)
             keep();
-        if (k == RESTORE)
-            images++;
-        else if (damaged)
-            on_damaged++;
+        on_words = damaged;
+        spoiled = 0;
         r = call(k);
+        with[k] += spoiled;
+        on_damaged += on_words && !spoiled;
+        hard += on_words || spoiled;
         if (r != 0 && (r > 31 || !(listed[k] >> r & 1))) {
             printf("hard: call %ld of kind %d answers %u, which is not listed\n", calls, (int)k, r);
             return 1;
@@ -390,7 +496,8 @@ int main(int argc, char **argv) {
         else
             refused[r]++;
     }
-    printf("hard: %ld calls, %ld of them on damaged words, %ld with an image; %ld accepted; refused", calls, on_damaged, images, accepted);
+    printf("hard: %ld calls, %ld of them on damaged words, and with damaged bytes %ld images, %ld chunks, %ld packets, %ld responses; %ld accepted; refused", calls, on_damaged,
+        with[RESTORE], with[READ], with[READ_PACKET], with[RESPONSE], accepted);
     for (n = 1; n < 32; n++)
         if (n <= 16 || refused[n])
             printf(" %ld:%ld", n, refused[n]);

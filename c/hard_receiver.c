@@ -1,5 +1,5 @@
-/* Hard use of the receiving head's C interface: random chunks on a receiver, on words that somebody has damaged, with stores of other lengths
- * and bytes, and buffers of any length. Meant to run under valgrind (scripts/hard): every array that is lent ends where its block ends.
+/* Hard use of the receiving head's C interface: random chunks, some of them damaged, on a receiver, on words that somebody has damaged, with
+ * stores of other lengths and bytes, and buffers of any length. Meant to run under valgrind (scripts/hard): every array that is lent ends where its block ends.
  *
  * usage: hard_receiver [CALLS] [SEED]
  *
@@ -72,6 +72,8 @@ static uint8_t kind;
 static uint32_t first_tsn;
 static uint64_t reached;
 static int damaged, whole;
+/* Whether the chunk came damaged: a byte of it changed, or cut. */
+static int spoiled;
 
 static struct lent lend(void) {
     struct lent l;
@@ -150,9 +152,13 @@ static size_t a_chunk(uint8_t bytes[CHUNK]) {
     }
     for (i = 0; i < payload; i++)
         bytes[header + i] = (uint8_t)(near + i);
-    if (below(16) == 0)
-        bytes[below(end)] = (uint8_t)next();
-    return below(16) ? end : (size_t)below(end + 1);
+    spoiled = below(16) == 0;
+    if (spoiled)
+        bytes[below(end)] ^= (uint8_t)(1 + below(255));
+    if (below(16))
+        return end;
+    spoiled = 1;
+    return (size_t)below(end);
 }
 
 static uint32_t receive(void) {
@@ -253,7 +259,7 @@ static uint32_t looked_at(long calls, enum call k) {
 }
 
 int main(int argc, char **argv) {
-    long wanted = argc > 1 ? atol(argv[1]) : 1000000, n, calls, left = 0, on_damaged = 0, accepted = 0, messages = 0, refused[32] = {0};
+    long wanted = argc > 1 ? atol(argv[1]) : 1000000, n, calls, left = 0, on_damaged = 0, chunks = 0, accepted = 0, messages = 0, refused[32] = {0};
     struct lent good;
     uint64_t good_reached = 0;
     if (argc > 2)
@@ -286,14 +292,16 @@ int main(int argc, char **argv) {
             k = CREATE;
         }
         on_damaged += damaged;
+        spoiled = 0;
         r = looked_at(calls, k);
+        chunks += spoiled;
         if (r != 0)
             refused[r]++;
         else
             accepted++;
         messages += k == FETCH && r == 0 && now.out[DSR_OUT_VALUE] == 1;
     }
-    printf("hard_receiver: %ld calls, %ld of them on damaged words; %ld accepted, %ld messages; refused", calls, on_damaged, accepted, messages);
+    printf("hard_receiver: %ld calls, %ld of them on damaged words, %ld with a damaged chunk; %ld accepted, %ld messages; refused", calls, on_damaged, chunks, accepted, messages);
     for (n = 1; n < 32; n++)
         if (refused[n])
             printf(" %ld:%ld", n, refused[n]);
