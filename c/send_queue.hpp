@@ -4,78 +4,29 @@
 #ifndef DSQ_SEND_QUEUE_HPP
 #define DSQ_SEND_QUEUE_HPP
 
+#include "desqariy_host.hpp"
 #include "send_queue.h"
 #include "send_queue_names.h"
 #include "send_queue_structs.h"
 
 #include <array>
-#include <cstddef>
-#include <cstdint>
-#include <cstdlib>
 #include <memory>
-#include <optional>
-#include <type_traits>
-#include <utility>
 #include <vector>
 
 namespace dsq {
 
+using desqariy::Buffer;
+using desqariy::Bytes;
+using desqariy::Span;
 using Refusal = ::dsq_refusal;
 using Fragment = ::dsq_fragment;
 using Event = ::dsq_event_told;
+using Done = desqariy::Done<Refusal>;
+template <class T>
+using Result = desqariy::Result<T, Refusal>;
 
 inline const char *name(Refusal refusal) { return ::dsq_refusal_name(static_cast<unsigned>(refusal)); }
 inline const char *text(Refusal refusal) { return ::dsq_refusal_text(static_cast<unsigned>(refusal)); }
-
-// Elements that somebody else owns. An empty one points to something all the same: the functions take no null.
-template <class T>
-class Span {
-  public:
-    constexpr Span() = default;
-    constexpr Span(T *data, std::size_t size) : data_(data), size_(size) {}
-    template <class C, class = std::enable_if_t<std::is_convertible_v<decltype(std::declval<C &>().data()), T *>>>
-    constexpr Span(C &elements) : data_(elements.data()), size_(elements.size()) {}
-    template <std::size_t N>
-    constexpr Span(T (&elements)[N]) : data_(elements), size_(N) {}
-
-    constexpr T *data() const { return size_ ? data_ : &nothing_; }
-    constexpr std::size_t size() const { return size_; }
-    constexpr bool empty() const { return size_ == 0; }
-    constexpr T &operator[](std::size_t i) const { return data_[i]; }
-    constexpr T *begin() const { return data(); }
-    constexpr T *end() const { return data() + size_; }
-
-  private:
-    inline static std::remove_const_t<T> nothing_{};
-    T *data_ = nullptr;
-    std::size_t size_ = 0;
-};
-
-using Bytes = Span<const std::uint8_t>;
-using Buffer = Span<std::uint8_t>;
-
-// What a call answers that can be refused: DSQ_ACCEPTED and a value, or why not.
-template <class T>
-class [[nodiscard]] Result {
-  public:
-    Result(T value) : value_(std::move(value)) {}
-    Result(Refusal refusal) : refusal_(refusal) {}
-
-    explicit operator bool() const { return refusal_ == DSQ_ACCEPTED; }
-    Refusal refusal() const { return refusal_; }
-    // Only of an accepted call.
-    T &operator*() { return *value_; }
-    T *operator->() { return &*value_; }
-
-  private:
-    Refusal refusal_ = DSQ_ACCEPTED;
-    std::optional<T> value_;
-};
-
-struct [[nodiscard]] Done {
-    Refusal refusal;
-    explicit operator bool() const { return refusal == DSQ_ACCEPTED; }
-};
 
 struct Options {
     std::size_t store_length = DSQ_MAX_STORE;
@@ -106,6 +57,65 @@ struct Sent : Fragment {
 struct Filled {
     std::size_t bytes;
     std::size_t chunks;
+};
+
+// A fragment read from the wire, with its bytes among those that were read.
+struct Chunk : Fragment {
+    ::dsq_chunk_kind kind;
+    std::uint32_t tsn;
+    Bytes payload;
+};
+
+// Writes a fragment as a chunk, and tells its bytes. Refusals: 17, 18.
+inline Result<std::size_t> write_chunk(Buffer output, ::dsq_chunk_kind kind, std::uint32_t tsn, const Fragment &f, Bytes payload)
+{
+    std::array<std::uint64_t, DSQ_OUT_WORDS> told{};
+    const std::uint32_t number =
+        ::dsq_write_chunk(output.data(), output.size(), payload.data(), payload.size(), told.data(), static_cast<std::uint8_t>(kind), tsn,
+                          f.stream_id, f.unordered, f.ssn, f.mid, f.fsn, f.ppid, f.first, f.last);
+    if (number != DSQ_ACCEPTED)
+        return static_cast<Refusal>(number);
+    return static_cast<std::size_t>(told[DSQ_OUT_VALUE]);
+}
+
+// The chunk that the bytes are. Refusals: 19.
+inline Result<Chunk> read_chunk(Bytes bytes)
+{
+    std::array<std::uint64_t, DSQ_OUT_WORDS> told{};
+    std::array<std::uint64_t, DSQ_CHUNK_WORDS> chunk{};
+    const std::uint32_t number = ::dsq_read_chunk(bytes.data(), bytes.size(), told.data(), chunk.data());
+    if (number != DSQ_ACCEPTED)
+        return static_cast<Refusal>(number);
+    const Fragment f = ::dsq_fragment_of(told.data());
+    return Chunk{f, static_cast<::dsq_chunk_kind>(chunk[DSQ_CHUNK_KIND]), static_cast<std::uint32_t>(chunk[DSQ_CHUNK_TSN]),
+                 Bytes(bytes.data() + chunk[DSQ_CHUNK_PAYLOAD_AT], f.length)};
+}
+
+// A priority for each id, for first fragments in the order of ids. Refusals: 1, 28, 29.
+inline Result<std::vector<std::uint16_t>> plan_priorities(Span<const std::uint16_t> ids, Span<const std::uint64_t> sizes,
+                                                          std::uint64_t payload_limit)
+{
+    std::vector<std::uint16_t> priorities(DSQ_MAX_PLANNED);
+    const std::uint32_t number =
+        ::dsq_plan_priorities(ids.data(), ids.size(), sizes.data(), sizes.size(), priorities.data(), payload_limit);
+    if (number != DSQ_ACCEPTED)
+        return static_cast<Refusal>(number);
+    priorities.resize(ids.size());
+    return priorities;
+}
+
+// A stream reset handler: it goes with one queue, from whose methods below it is called.
+class StreamResetHandler {
+  public:
+    explicit StreamResetHandler(std::uint32_t first_number)
+    {
+        Done{static_cast<Refusal>(::dsq_start_reset_handler(numbers_.data(), first_number))}.never_refused();
+    }
+    bool is_underway() const { return numbers_[DSQ_HANDLER_UNDERWAY] != 0; }
+    std::uint32_t *numbers() { return numbers_.data(); }
+
+  private:
+    std::array<std::uint32_t, DSQ_HANDLER_NUMBERS> numbers_{};
 };
 
 class SendQueue {
@@ -173,7 +183,7 @@ class SendQueue {
 
     void discard(std::uint16_t stream_id, std::uint32_t message_id)
     {
-        never_refused(reported(::dsq_discard(queue(), list(), DSQ_EVENT_WORDS, out(), stream_id, message_id)));
+        reported(::dsq_discard(queue(), list(), DSQ_EVENT_WORDS, out(), stream_id, message_id)).never_refused();
     }
 
     Done prepare_reset_stream(std::uint16_t stream_id)
@@ -185,7 +195,7 @@ class SendQueue {
     {
         events_ = 0;
         std::vector<std::uint16_t> ids(DSQ_MAX_STREAMS);
-        never_refused(done(::dsq_get_streams_ready_to_reset(queue(), ids.data(), out())));
+        done(::dsq_get_streams_ready_to_reset(queue(), ids.data(), out())).never_refused();
         ids.resize(static_cast<std::size_t>(value()));
         return ids;
     }
@@ -205,6 +215,30 @@ class SendQueue {
     {
         return reported(::dsq_set_buffered_amount_low_threshold(queue(), list(), DSQ_EVENT_WORDS, out(), stream_id, threshold));
     }
+
+    // A request to the peer for all streams that are ready to be reset, and its bytes; 0 where none is. Refusals: 25, 26.
+    Result<std::size_t> make_reset_request(StreamResetHandler &handler, Buffer output, std::uint32_t response_number,
+                                           std::uint32_t last_tsn)
+    {
+        events_ = 0;
+        const Done call = done(::dsq_make_reset_request(queue(), handler.numbers(), output.data(), output.size(), out(), response_number,
+                                                        last_tsn));
+        if (!call)
+            return call.refusal;
+        return static_cast<std::size_t>(value());
+    }
+
+    // The peer's response, and what it led to. Refusals: 27.
+    Result<::dsq_response> handle_reset_response(StreamResetHandler &handler, Bytes bytes)
+    {
+        events_ = 0;
+        const Done call = done(::dsq_handle_reset_response(queue(), handler.numbers(), bytes.data(), bytes.size(), out()));
+        if (!call)
+            return call.refusal;
+        return static_cast<::dsq_response>(value());
+    }
+
+    void reset_through(StreamResetHandler &handler) { changed(::dsq_reset_through_handler(queue(), handler.numbers())); }
 
     // The events of the last call that is no question; a refused one has none.
     std::size_t event_count() const { return events_; }
@@ -277,17 +311,10 @@ class SendQueue {
     static Refusal refusal(std::uint32_t number) { return static_cast<Refusal>(number); }
     static Done done(std::uint32_t number) { return Done{refusal(number)}; }
 
-    // 16 alone is left for these calls, and it is proved that no queue gets there.
-    static void never_refused(const Done &call)
-    {
-        if (!call)
-            std::abort();
-    }
-
     void changed(std::uint32_t number)
     {
         events_ = 0;
-        never_refused(done(number));
+        done(number).never_refused();
     }
 
     Done reported(std::uint32_t number)
@@ -300,7 +327,7 @@ class SendQueue {
     std::uint64_t asked(Ask ask) const
     {
         Words told{};
-        never_refused(done(ask(told.data())));
+        done(ask(told.data())).never_refused();
         return told[DSQ_OUT_VALUE];
     }
 

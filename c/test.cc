@@ -1,4 +1,5 @@
-// Tests the layer for C++17 (c/send_queue.hpp): every method beside the C function that it stands for, on a queue of each.
+// Tests the layers for C++17 (c/send_queue.hpp, c/receiver.hpp): every method.
+#include "receiver.hpp"
 #include "send_queue.hpp"
 
 #include <cstdio>
@@ -128,13 +129,100 @@ static void changeover()
     CHECK(copy.is_empty() && moved.total_buffered_amount() == 100);
 }
 
+static void planning()
+{
+    const std::vector<std::uint16_t> ids = {3, 1, 2};
+    const std::vector<std::uint64_t> sizes = {900, 900, 900};
+    auto priorities = dsq::plan_priorities(ids, sizes, 1200);
+    CHECK(priorities && priorities->size() == 3 && (*priorities)[1] >= 1);
+    CHECK(dsq::plan_priorities(ids, sizes, 0).refusal() == DSQ_PAYLOAD_LIMIT_WRONG);
+    CHECK(dsq::plan_priorities({}, {}, 1200).refusal() == DSQ_ORDER_WRONG);
+    auto queue = made();
+    queue.enable_message_interleaving(true);
+    std::array<std::uint8_t, 1200> buffer{};
+    for (std::size_t k = 0; k < ids.size(); k++)
+        CHECK(queue.set_priority(ids[k], (*priorities)[k]));
+    for (std::uint16_t stream = 1; stream <= 3; stream++)
+        CHECK(queue.add(1, message(stream, 900)));
+    for (const std::uint16_t stream : ids)
+        CHECK((*queue.produce(1, buffer))->stream_id == stream);
+}
+
+static void resets()
+{
+    auto queue = made();
+    dsq::StreamResetHandler handler(70);
+    std::array<std::uint8_t, DSQ_MAX_RESET_REQUEST> request{};
+    CHECK(!handler.is_underway() && *queue.make_reset_request(handler, request, 1, 2) == 0);
+    CHECK(queue.prepare_reset_stream(5) && queue.make_reset_request(handler, dsq::Buffer(), 1, 2).refusal() == DSQ_REQUEST_OUTPUT_SHORT);
+    CHECK(*queue.make_reset_request(handler, request, 1, 2) == 24 && request[7] == 18 && request[11] == 70 && handler.is_underway());
+    CHECK(queue.make_reset_request(handler, request, 1, 2).refusal() == DSQ_REQUEST_UNDERWAY);
+    std::array<std::uint8_t, 16> response = {130, 0, 0, 16, 0, 16, 0, 12, 0, 0, 0, 70, 0, 0, 0, 6};
+    CHECK(*queue.handle_reset_response(handler, response) == DSQ_RESPONSE_WAITING && handler.is_underway());
+    CHECK(queue.handle_reset_response(handler, dsq::Bytes(response.data(), 15)).refusal() == DSQ_RESPONSE_WRONG);
+    response[15] = 1;
+    CHECK(*queue.handle_reset_response(handler, response) == DSQ_RESPONSE_COMMITTED && !handler.is_underway());
+    CHECK(*queue.handle_reset_response(handler, response) == DSQ_RESPONSE_IGNORED);
+    CHECK(queue.prepare_reset_stream(6) && *queue.make_reset_request(handler, request, 1, 2) > 0 && request[11] == 71);
+    queue.reset_through(handler);
+    CHECK(!handler.is_underway() && !queue.has_streams_ready_to_be_reset());
+}
+
+// A message in chunks, the last one first, each twice.
+static void receiving()
+{
+    dsr::Options options;
+    options.store_length = 0;
+    CHECK(dsr::Receiver::create(options).refusal() == DSR_STORE_WRONG);
+    options.store_length = SIZE_MAX;
+    CHECK(dsr::Receiver::create(options).refusal() == DSR_STORE_WRONG);
+    options.store_length = 2000;
+    options.starting_tsn = 0xffffffff;
+    auto receiver = dsr::Receiver::create(options);
+    CHECK(receiver && dsr::name(DSR_TSN_FAR) == std::string_view("DSR_TSN_FAR"));
+    auto queue = made();
+    CHECK(queue.add(1, message(9, 1500)));
+    std::vector<std::vector<std::uint8_t>> chunks;
+    std::array<std::uint8_t, 700> buffer{};
+    while (auto fragment = *queue.produce(1, buffer)) {
+        std::vector<std::uint8_t> chunk(DSQ_MAX_CHUNK(buffer.size()));
+        const auto tsn = static_cast<std::uint32_t>(options.starting_tsn + chunks.size());
+        auto written = dsq::write_chunk(chunk, DSQ_CHUNK_DATA, tsn, *fragment, fragment->payload);
+        CHECK(written && *written == 16 + (fragment->payload.size() + 3) / 4 * 4);
+        CHECK(dsq::write_chunk(dsq::Buffer(), DSQ_CHUNK_DATA, tsn, *fragment, fragment->payload).refusal() == DSQ_CHUNK_OUTPUT_SHORT);
+        chunk.resize(*written);
+        auto read = dsq::read_chunk(chunk);
+        CHECK(read && read->kind == DSQ_CHUNK_DATA && read->tsn == tsn && read->stream_id == 9 && read->first == fragment->first);
+        CHECK(read->payload.size() == fragment->payload.size() && read->payload[0] == 7 && read->payload.data() == chunk.data() + 16);
+        chunks.push_back(chunk);
+    }
+    CHECK(chunks.size() == 3 && dsq::read_chunk(dsq::Bytes()).refusal() == DSQ_CHUNK_WRONG);
+    std::array<std::uint8_t, 1500> whole{};
+    for (std::size_t k = chunks.size(); k-- > 0;) {
+        CHECK(!*receiver->fetch(whole));
+        CHECK(*receiver->receive(chunks[k]) == dsr::Received::accepted && *receiver->receive(chunks[k]) == dsr::Received::repeat);
+    }
+    CHECK(receiver->receive(dsr::Bytes()).refusal() == DSR_CHUNK_WRONG);
+    CHECK(receiver->fetch(dsr::Buffer()).refusal() == DSR_BUFFER_SHORT);
+    auto copy = receiver->clone();
+    auto got = receiver->fetch(whole);
+    CHECK(got && *got && (*got)->stream_id == 9 && (*got)->ppid == 53 && !(*got)->unordered && (*got)->payload.size() == 1500);
+    CHECK((*got)->payload[1499] == 7 && !*receiver->fetch(whole));
+    dsr::Receiver moved = std::move(copy);
+    CHECK(*moved.fetch(whole));
+}
+
 int main()
 {
     static_assert(!std::is_copy_constructible_v<dsq::SendQueue> && std::is_nothrow_move_constructible_v<dsq::SendQueue>);
+    static_assert(!std::is_copy_constructible_v<dsr::Receiver> && std::is_nothrow_move_constructible_v<dsr::Receiver>);
     creation();
     sending();
     streams();
     changeover();
+    planning();
+    resets();
+    receiving();
     std::printf("c++: %lu checks passed\n", passed);
     return failed != 0;
 }
