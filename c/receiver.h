@@ -1,4 +1,4 @@
-/* The receiving head for a host in C99 or C++: link it with libreceiver_c.a, which `rt staticlib receiver_c` makes for x86-64. DATA or
+/* The receiving head for a host in C99 or C++: link it with libreceiver_c.a, which `scripts/libraries` makes for x86-64. DATA or
  * I-DATA chunks go in, in any order and with repeats; the messages that they carry come out. Of the C library it uses memcpy, memmove and
  * memset. It allocates nothing and keeps nothing: all of a receiver is in the words and the store that the host lends to each call.
  *
@@ -14,6 +14,8 @@
  *   - No two arguments of a call overlap, and nobody else writes to them while it runs.
  *   - The words of a receiver, from creation on, and the bytes of its store are changed by these functions only, and each call gets both
  *     as the last one left them. The words hold no pointer: between two calls words and store may be moved or copied.
+ *   - 4 KB of stack: a call takes at most that (measured: c/told.c). The functions have no unwind tables: a report of a crash in one does not
+ *     show who called it.
  *
  * The library and this header belong together: a host compiled with a header of another layout does not link (dsr_layout_2 below).
  * A flag that is passed in is 0 for no and anything else for yes; one that is told is 0 or 1.
@@ -66,7 +68,8 @@ enum dsr_refusal {
     DSR_FRAGMENT_OTHER = 24
 };
 
-/* The places of an out-array. A call that is not refused writes those that are named at it; the others stay. */
+/* The places of an out-array. A call that is not refused writes those that are named at it; the others stay. A refused call leaves all as they
+ * were: the array then still tells of the call before, so look at the number first. */
 enum dsr_out {
     DSR_OUT_VALUE = 0, /* 1 for a chunk accepted or a message, 0 for a repeat or where none is ready */
     /* What goes with a message. */
@@ -76,7 +79,7 @@ enum dsr_out {
     DSR_OUT_PPID = 4       /* its first fragment's payload protocol id, 32 bits */
 };
 
-/* The places of an out-array. */
+/* How many places an out-array has. */
 #define DSR_OUT_WORDS 5
 
 /* The library's DSR_LAYOUT. */

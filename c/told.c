@@ -1,6 +1,7 @@
-/* What the header, the crate and docs/CHANGEOVER.md tell a user of a changeover, of known streams, of refused calls and of the stack, tried
- * on the library: each sentence fails here when it is no longer so. Ends with 1 and says what failed where something did. */
+/* What the headers, the crate and docs/CHANGEOVER.md tell a user of a changeover, of known streams, of refused calls and of the stack, tried
+ * on the libraries: each sentence fails here when it is no longer so. Ends with 1 and says what failed where something did. */
 #define _POSIX_C_SOURCE 200809L
+#include "receiver.h"
 #include "send_queue.h"
 
 #include <pthread.h>
@@ -161,6 +162,36 @@ static void refused_calls(void)
     CHECK(add(&new_host, 1, 1, 0) == DSQ_STORE_WRONG && produce(&new_host, 1) == DSQ_STORE_WRONG);
 }
 
+/* The receiver: a refused call leaves the out-array of the call before, and the message that is ready. */
+enum { HELD = 1000 };
+static uint64_t receiver[DSR_RECEIVER_WORDS], told[DSR_OUT_WORDS];
+static uint8_t held[HELD], chunk[DSQ_MAX_CHUNK(HELD)];
+
+static size_t unordered(uint32_t tsn, size_t length)
+{
+    uint64_t out[DSQ_OUT_WORDS] = {0};
+    CHECK(dsq_write_chunk(chunk, sizeof chunk, payload, length, out, DSQ_CHUNK_DATA, tsn, 1, 1, 0, 0, 0, 53, 1, 1) == 0);
+    return (size_t)out[DSQ_OUT_VALUE];
+}
+
+static uint32_t receive(uint32_t tsn, size_t length)
+{
+    return dsr_receive(receiver, held, HELD, chunk, unordered(tsn, length), told);
+}
+
+static uint32_t fetch(size_t length) { return dsr_fetch(receiver, held, HELD, buffer, length, told); }
+
+static void received(void)
+{
+    static uint64_t before[DSR_OUT_WORDS];
+    CHECK(dsr_create(receiver, held, HELD, 0, 7) == 0 && receive(7, 400) == 0 && told[DSR_OUT_VALUE] == 1);
+    CHECK(fetch(LIMIT) == 0 && told[DSR_OUT_LENGTH] == 400 && receive(8, 300) == 0);
+    memcpy(before, told, sizeof before);
+    CHECK(fetch(299) == DSR_BUFFER_SHORT && receive(9, HELD) == DSR_RECEIVER_FULL && receive(9 + DSR_WINDOW, 1) == DSR_TSN_FAR);
+    CHECK(receive(8, 299) == DSR_FRAGMENT_OTHER);
+    CHECK(memcmp(before, told, sizeof before) == 0 && fetch(300) == 0 && told[DSR_OUT_LENGTH] == 300);
+}
+
 /* ---------------------------------------------------------------- the stack of the other calls, each on a painted thread */
 
 static size_t image_length;
@@ -204,6 +235,23 @@ static void call_request(void)
     given = dsq_make_reset_request(old_host.queue, handler, output, sizeof output, old_host.out, 1, 2);
 }
 
+static uint32_t handler[DSQ_HANDLER_NUMBERS];
+static void call_response(void)
+{
+    static const uint8_t bytes[] = {130, 0, 0, 16, 0, 16, 0, 12, 0, 0, 0, 0, 0, 0, 0, 1};
+    given = dsq_handle_reset_response(old_host.queue, handler, bytes, sizeof bytes, old_host.out);
+}
+static void call_reset_through(void) { given = dsq_reset_through_handler(old_host.queue, handler); }
+static void call_read_chunk(void)
+{
+    uint64_t fields[DSQ_CHUNK_WORDS];
+    given = dsq_read_chunk(chunk, unordered(9, HELD), old_host.out, fields);
+}
+/* The rest of the store is free in two pieces, and what is held is moved together. */
+static void call_receive(void) { given = receive(9, 500); }
+static void call_fetch(void) { given = fetch(LIMIT); }
+static void call_dsr_create(void) { given = dsr_create(receiver, held, HELD, 1, 0); }
+
 static void *run(void *call)
 {
     void (*which)(void);
@@ -236,12 +284,14 @@ static size_t used(void (*call)(void))
 static void stack(void)
 {
     static void (*const calls[])(void) = {call_save, call_restore, call_add, call_priority, call_threshold, call_interleave, call_discard,
-                                          call_reset, call_close, call_ready, call_rollback, call_commit, call_plan, call_request};
+                                          call_reset, call_close, call_ready, call_rollback, call_commit, call_plan, call_request,
+                                          call_response, call_reset_through, call_read_chunk, call_receive, call_fetch, call_dsr_create};
     size_t without = used(call_nothing), most = 0, k, bytes;
     CHECK(create(&old_host) == 0 && create(&new_host) == 0);
     for (k = 0; k < DSQ_MAX_MESSAGES - 1; k++)
         CHECK(add(&old_host, k % 4 == 0 ? 0 : (uint16_t)(k % 256), 50, 1) == 0);
     image_length = save(&old_host, image);
+    CHECK(dsr_create(receiver, held, HELD, 0, 7) == 0 && receive(7, 400) == 0 && receive(8, 400) == 0 && fetch(LIMIT) == 0);
     for (k = 0; k < sizeof calls / sizeof *calls; k++) {
         bytes = used(calls[k]) - without;
         CHECK(given == DSQ_ACCEPTED && bytes <= SHALLOW);
@@ -257,6 +307,7 @@ int main(void)
     carriage();
     known_streams();
     refused_calls();
+    received();
     stack();
     printf("told: %lu checks passed\n", passed);
     return failed != 0;

@@ -36,7 +36,10 @@ impl SendQueue {
     /// Messages whose time is over are dropped on the way; what happened to them is in [`events`](SendQueue::events) either way.
     ///
     /// Each chunk carries what one [`produce`](SendQueue::produce) at this time would give; its payload is copied once, from the queue to its
-    /// place. The buffer behind the packet stays as it was. It takes as much stack as `produce`.
+    /// place. The buffer behind the packet stays as it was.
+    ///
+    /// Where it drops up to 17 messages it takes 7 KB of stack, up to 128 of them 37 KB, and 253 KB to drop more in one call (measured):
+    /// give a thread more.
     ///
     /// # Errors
     ///

@@ -96,8 +96,8 @@ impl SendQueue {
     ///
     /// Its bytes are lent until the next call; [`produce_into`](SendQueue::produce_into) writes them straight to the caller's buffer.
     ///
-    /// Where it drops up to 17 messages it takes 7 KB of stack, up to 128 of them 37 KB, and 253 KB to drop more in one call (measured):
-    /// give a thread more.
+    /// It takes at most 4 KB of stack (measured). A build with debug assertions calls the checked function, which takes 7 KB where it drops up
+    /// to 17 messages, 37 KB for up to 128 of them, and 253 KB to drop more in one call: give a thread more.
     ///
     /// # Errors
     ///
