@@ -1,4 +1,5 @@
--- The choice in two levels is right: the row that is found stands among the n, and where the groups' words are right (`Leasts`) it is at most each of them. What a store, and making a
+-- The choice in two levels is right: the row that is found stands among the n, and where the groups' words are right (`Leasts`) it is at most each of
+-- them. What a store, and making a
 -- group fresh, leave of that. Assumes nothing.
 use mathlib.Core.Path.{_≡_, refl, sym, ap, ap₂, _∙_, subst}
 use mathlib.Core.Bool.{Bool, true, false, _&&_, _||_}

@@ -1,4 +1,5 @@
--- The table of waiting streams: a stream's row, and the least row. A table is given by its rows, place by place: the queue's are `activeAt ws`, a lent table's `rowsOf t`. Assumes nothing.
+-- The table of waiting streams: a stream's row, and the least row. A table is given by its rows, place by place: the queue's are `activeAt ws`, a lent
+-- table's `rowsOf t`. Assumes nothing.
 use Prim.Native.Nat.{ℕ, zero, suc, _+_}
 use mathlib.Core.Bool.{_&&_, _||_}
 use mathlib.Core.List.{List}

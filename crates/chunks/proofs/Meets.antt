@@ -113,7 +113,8 @@ read-meets bs r ok e = record {
 
 -- ------------------------------------------------------------------ both
 
--- THE ROUND TRIP, on what the two calls answer: bytes that the writer says it wrote, given to the reader, are answered with the TSN and the fragment, the fields that
+-- THE ROUND TRIP, on what the two calls answer: bytes that the writer says it wrote, given to the reader, are answered with the TSN and the fragment,
+-- the fields that
 -- the chunk does not carry at 0.
 pub comes-back : (out : List ℕ) (k : ChunkKind) (tsn : ℕ) (f : DataToSend) (p out′ : List ℕ) (n : ℕ) (r : ChunkRead) → WriteMeets out k tsn f p (answer.Bytes n) out′ → ReadMeets (take n out′) r
     → r ≡ read.Read (chunk k tsn (carried k f (length p)))

@@ -28,7 +28,8 @@ pub record InWidth (tsn : ℕ) (d : Data) : Type 0 where
   pub fsn-fits : d .fsn .0 < 4294967296
   pub ppid-fits : d .ppid < 4294967296
 
--- bs are one chunk of the kind, with the TSN, the data and the payload: any other flags beside the three marks, any reserved bits, "the padding there, of any value".
+-- bs are one chunk of the kind, with the TSN, the data and the payload: any other flags beside the three marks, any reserved bits, "the padding there,
+-- of any value".
 pub record LaidOut (bs : List ℕ) (k : ChunkKind) (tsn : ℕ) (d : Data) (payload : List ℕ) : Type 0 where
   pub flags : ℕ
   pub reserved : ℕ

@@ -23,7 +23,8 @@ outcome a out = record { answer = a; output = out }
 abbrev pub maxWritten : ℕ
 maxWritten = 65515
 
--- "17 when a payload to write is empty or above 65,515 bytes, 18 when the output is shorter than the padded chunk, [..] checked in this order"; "lent output past what
+-- "17 when a payload to write is empty or above 65,515 bytes, 18 when the output is shorter than the padded chunk, [..] checked in this order"; "lent
+-- output past what
 -- is written stays unchanged". A refusal leaves all of it.
 unfoldable pub writeChunk : List ℕ → ChunkKind → ℕ → DataToSend → List ℕ → Outcome
 writeChunk out k tsn f payload =

@@ -38,7 +38,8 @@ unfoldable pub messageRight : HandoverStreamMessage → Bool → Bool
 messageRight m head =
     pick (numbersRight m) (pick (lifetimeRight m) (pick (midRight m head) (orderRight m) false) false) false
 
--- "by rising stream, in queue order": n records from `at` on fill the `left` bytes of their part. `least` is the id that would be a new stream's: one above the last
+-- "by rising stream, in queue order": n records from `at` on fill the `left` bytes of their part. `least` is the id that would be a new stream's: one
+-- above the last
 -- record's, 0 before the first.
 unfoldable pub messagesRight : List ℕ → ℕ → ℕ → ℕ → ℕ → Bool
 messagesRight bs at left least zero = eqb left 0

@@ -1,4 +1,5 @@
--- Adding leaves nothing undone, on any words (specs/Settled): between the test and the two steps nothing is written that the test has read, but the new message's own row. Assumes nothing.
+-- Adding leaves nothing undone, on any words (specs/Settled): between the test and the two steps nothing is written that the test has read, but the new
+-- message's own row. Assumes nothing.
 use mathlib.Core.Path.{_≡_, refl, sym, ap, _∙_, subst}
 use mathlib.Core.Bool.{Bool, true, false}
 use mathlib.Core.List.{List}
@@ -74,7 +75,8 @@ put-done us st i bs c = by-index (putCode us (length st) i (length bs)) 0
     (λ e. rw (eq-eqb (putCode us (length st) i (length bs)) 0 e))
     (λ ne. rw (ne-eqb (putCode us (length st) i (length bs)) 0 ne, eq-eqb (putCode us (length st) i (length bs)) 1 (omega arith)) (elsewhere-done us st i bs))
 
--- What a row of n bytes leaves of two tallies with as much left, by the four tests: as much again, and the first is as good as the second; also where only the second fails the third test, of a row without bytes.
+-- What a row of n bytes leaves of two tallies with as much left, by the four tests: as much again, and the first is as good as the second; also where
+-- only the second fails the third test, of a row without bytes.
 kept-still : (a b c d : Bool) (n k l : ℕ) (x y : Bool) → k ≡ l → (y ≡ true → x ≡ true)
     → ((pick a (tally x k) (pick b (tally false l) (pick c (tally false l) (pick d (tally false l) (tally x (l - n)))))) .left ≡ (pick a (tally y l) (pick b (tally false l) (pick c (tally false l) (pick d (tally false l) (tally y (l - n)))))) .left)
     × ((pick a (tally y l) (pick b (tally false l) (pick c (tally false l) (pick d (tally false l) (tally y (l - n)))))) .ok ≡ true → (pick a (tally x k) (pick b (tally false l) (pick c (tally false l) (pick d (tally false l) (tally x (l - n)))))) .ok ≡ true)

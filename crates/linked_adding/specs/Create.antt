@@ -17,7 +17,8 @@ use Rattle.queue_state.specs.Model.{model}
 use Rattle.queue_state.specs.Good.{Good}
 use Rattle.queue_messages.specs.Create as words-create
 
--- "Creation takes the payload limit, the store, the default priority, the default and total thresholds and the choice of handover with waiting data". Document 02, 6/13: "Creation chooses
+-- "Creation takes the payload limit, the store, the default priority, the default and total thresholds and the choice of handover with waiting data".
+-- Document 02, 6/13: "Creation chooses
 -- the rule, as in the Rust or strict."
 abbrev pub optionsFor : ℕ → ℕ → ℕ → ℕ → ℕ → Bool → RestartRule → Options
 optionsFor len limit priority threshold total handover rule = record {

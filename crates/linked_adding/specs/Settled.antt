@@ -1,4 +1,5 @@
--- Adding leaves nothing undone, on any words: where its test has passed, the payload is put, and a stream that the message starts is let wait. (The definition keeps the words that `put_payload` and `begin_waiting` leave and not whether they were done.) Assumes nothing.
+-- Adding leaves nothing undone, on any words: where its test has passed, the payload is put, and a stream that the message starts is let wait. (The
+-- definition keeps the words that `put_payload` and `begin_waiting` leave and not whether they were done.) Assumes nothing.
 use Prim.Native.Nat.{ℕ}
 use mathlib.Core.Path.{_≡_}
 use mathlib.Core.Bool.{true}
@@ -18,7 +19,8 @@ use Rattle.queue_messages.specs.Message.{newItem}
 use Rattle.queue_messages.specs.declared.message.Message.{Message}
 use Rattle.linked_adding.specs.Message.{messageOf}
 
--- What follows the test, from the words vs in which the stream is known: the item in the first free place, its payload bs put, hung to the stream s, which waits then.
+-- What follows the test, from the words vs in which the stream is known: the item in the first free place, its payload bs put, hung to the stream s,
+-- which waits then.
 pub record Settled (vs st : List ℕ) (item : Item) (bs : List ℕ) (row : ℕ) (s : OutgoingStream) : Type 0 where
   pub put : putPayload (putItem vs (totalsAt vs .free) item) st (totalsAt vs .free) bs .answer ≡ 0
   pub begun : (free id : ℕ) (p : SchedulingParameters) → starts s ≡ true

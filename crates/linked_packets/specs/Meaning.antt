@@ -55,7 +55,8 @@ packet-chunks (fragment f) = 0
 packet-chunks nothing-waits = 0
 packet-chunks (filled bs n) = n
 
--- "If an answer is an enum, a definition states this paper's number and values for each case of the enum. The promises use that definition." The number, how many events it tells, the bytes and the chunks: the model's.
+-- "If an answer is an enum, a definition states this paper's number and values for each case of the enum. The promises use that definition." The number,
+-- how many events it tells, the bytes and the chunks: the model's.
 pub record TellsPacket (o : Outcome) (r : PacketFilled) : Type 0 where
   pub number : filledNumber r ≡ answer-number (o .answer)
   pub events : filledEvents r ≡ event-count o

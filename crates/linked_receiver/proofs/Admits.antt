@@ -1,4 +1,5 @@
--- Room for a fragment, and the whole judgement: a fragment that is refused or a repeat leaves words and store as they were, with the model's answer. Assumes nothing.
+-- Room for a fragment, and the whole judgement: a fragment that is refused or a repeat leaves words and store as they were, with the model's answer.
+-- Assumes nothing.
 use mathlib.Core.Path.{_≡_, refl, sym, ap, ap₂, _∙_, subst}
 use mathlib.Core.Logic.{_⊎_, ⊎-elim}
 use mathlib.Core.Bool.{Bool, true, false, not, _&&_, _||_}

@@ -1,4 +1,5 @@
--- A fragment is held in a free row: the held rows, the free ones, the indexes, the count and the store change by that row, and nothing else is changed. Assumes nothing.
+-- A fragment is held in a free row: the held rows, the free ones, the indexes, the count and the store change by that row, and nothing else is changed.
+-- Assumes nothing.
 use mathlib.Core.Path.{_≡_, refl, sym, ap, _∙_, subst}
 use mathlib.Core.Bool.{Bool, true, false}
 use mathlib.Core.List.{List, _∷_}
@@ -43,7 +44,8 @@ use Rattle.linked_receiver.proofs.Frees.{Holds, held-rows, held-once, h
 
 -- ------------------------------------------------------------------ what holding a row leaves alone
 
--- nothing is changed but counts and ends of chains in the header (words 4 to 9), the age chain, the free rows, places and lengths, the first two indexes, and row i
+-- nothing is changed but counts and ends of chains in the header (words 4 to 9), the age chain, the free rows, places and lengths, the first two
+-- indexes, and row i
 pub record Grown (ws ws′ : List ℕ) (i : ℕ) : Type 0 where
   pub long : length ws′ ≡ length ws
   pub low : (m : ℕ) → m < 4 → wordAt Header ws′ 0 m ≡ wordAt Header ws 0 m

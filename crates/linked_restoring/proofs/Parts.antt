@@ -1,4 +1,5 @@
--- Restoring an image that keeps the rules, on any words: all parts, and the queue they leave, whatever the tables held before; that of a queue that knows no stream. Assumes nothing.
+-- Restoring an image that keeps the rules, on any words: all parts, and the queue they leave, whatever the tables held before; that of a queue that
+-- knows no stream. Assumes nothing.
 use mathlib.Core.Path.{_≡_, refl, sym, ap, _∙_, subst}
 use mathlib.Core.List.{List, []}
 use Prim.Native.Nat.{ℕ, zero, suc, _*_, _≤_, _<_}

@@ -1,4 +1,5 @@
--- Restoring leaves nothing undone, on any words: whatever they hold beside the options and the choice of interleaving, where its test passes they hold together then, and stand for the queue
+-- Restoring leaves nothing undone, on any words: whatever they hold beside the options and the choice of interleaving, where its test passes they hold
+-- together then, and stand for the queue
 -- that the image restores into an unused one. (The definitions keep the words that the steps leave, and not whether each step was done.) Assumes nothing.
 use Prim.Native.Nat.{ℕ, _≤_}
 use mathlib.Core.Path.{_≡_}

@@ -11,7 +11,8 @@ use Rattle.saving.specs.declared.image.Saved.{Saved}
 use Rattle.saving.specs.declared.image.Saved.the-variants.{Image, Refused}
 use Rattle.saving.specs.Save.{SavedAs, savedAs, savedNumber, savedLength, saveImage}
 
--- The model's answer and the lent buffer: the refusal's number, and the buffer as it was; or the image's length, and the image at the buffer's start, "places past what
+-- The model's answer and the lent buffer: the refusal's number, and the buffer as it was; or the image's length, and the image at the buffer's start,
+-- "places past what
 -- a call writes stay unchanged".
 abbrev pub savedOf : List ℕ → image.Saving → SavedAs
 savedOf b (image.not-saved n) = savedAs (Refused n) b

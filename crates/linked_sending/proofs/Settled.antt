@@ -1,4 +1,5 @@
--- The next fragment leaves nothing undone, on any words (specs/Settled): a row that is chosen is one of the table's, and the table has no more rows than it may have. Assumes nothing.
+-- The next fragment leaves nothing undone, on any words (specs/Settled): a row that is chosen is one of the table's, and the table has no more rows than
+-- it may have. Assumes nothing.
 use mathlib.Core.Path.{_≡_, refl, sym, ap, _∙_, subst}
 use mathlib.Core.Bool.{Bool, true, false}
 use mathlib.Core.List.{List}

@@ -74,7 +74,8 @@ pub record Sends (s : Step) (st es bs : List ℕ) (p : ProducedWith) : Type 0 wh
   pub events : p .events ≡ written es 0 (s .outcome .events)
   pub buffer : p .buffer ≡ bufferOf (s .outcome .answer) bs
 
--- "If an answer is an enum, a definition states this paper's number and values for each case of the enum. The promises use that definition." The number, how many events it tells, what goes with the fragment: the model's.
+-- "If an answer is an enum, a definition states this paper's number and values for each case of the enum. The promises use that definition." The number,
+-- how many events it tells, what goes with the fragment: the model's.
 pub record TellsFragment (o : Outcome) (r : Produced) : Type 0 where
   pub number : producedNumber r ≡ answer-number (o .answer)
   pub events : producedEvents r ≡ event-count o

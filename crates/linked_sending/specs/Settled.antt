@@ -1,4 +1,5 @@
--- The next fragment leaves nothing undone, on any words: of the head that it looks at and chooses, the scheduler takes what is handed out. (The definitions keep the words that the scheduler leaves and not whether it did.) Assumes nothing.
+-- The next fragment leaves nothing undone, on any words: of the head that it looks at and chooses, the scheduler takes what is handed out. (The
+-- definitions keep the words that the scheduler leaves and not whether it did.) Assumes nothing.
 use Prim.Native.Nat.{ℕ}
 use mathlib.Core.Path.{_≡_}
 use mathlib.Core.Bool.{true}

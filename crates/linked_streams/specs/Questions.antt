@@ -33,7 +33,8 @@ pub record Asked {A : Type 0} (ws : List ℕ) (r w : A) (m : List ℕ → A) : T
   pub words : r ≡ w
   pub model : (st : List ℕ) → Good ws st → r ≡ m st
 
--- "If an answer is an enum, a definition states this paper's number and values for each case of the enum. The promises use that definition." A question c that a broken state can refuse: the same, and the answer's number and value are the model's.
+-- "If an answer is an enum, a definition states this paper's number and values for each case of the enum. The promises use that definition." A question
+-- c that a broken state can refuse: the same, and the answer's number and value are the model's.
 pub record AskedNumber (c : run.Call) (ws : List ℕ) (r w : Number) : Type 0 where
   pub words : r ≡ w
   pub model : (st : List ℕ) → Good ws st → r ≡ numberOf (shown c ws st .answer)

@@ -19,8 +19,10 @@ use Rattle.queue_streams.specs.declared.answers.Call.the-variants.{Accepted, Re
 use Rattle.message_chains.specs.Amounts.{rest}
 use Rattle.message_chains.specs.Heads.{headCode, headDropped, dropNotes}
 
--- "When a pending stream's message ends or is discarded, it is paused", and stops waiting; document 02, 3/13: "When a pending stream's half-sent head expires, the stream
--- becomes paused, its later messages wait [..] and the choice goes to the other streams." Any other stream waits with what is behind ("or a discard, schedules a paused stream").
+-- "When a pending stream's message ends or is discarded, it is paused", and stops waiting; document 02, 3/13: "When a pending stream's half-sent head
+-- expires, the stream
+-- becomes paused, its later messages wait [..] and the choice goes to the other streams." Any other stream waits with what is behind ("or a discard,
+-- schedules a paused stream").
 unfoldable pub scheduledBehind : List ℕ → ℕ → OutgoingStream → ℕ → Outcome
 scheduledBehind ws id s next =
     pick (isPending (s .«pause_state»)) (removeStream ws id)

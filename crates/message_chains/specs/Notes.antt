@@ -20,7 +20,8 @@ noted es k kind number amount =
     pick (ltb 2304 k) (notes es 2306)
     (pick (ltb (length es) eventWords) (notes es 2306) (notes (putEvent es k kind number amount) (k + 1)))
 
--- "Low fires when an amount goes from above its threshold to at or below it", and tells "the amount after the fall" (document 02, 2/13): this watcher's, after this step.
+-- "Low fires when an amount goes from above its threshold to at or below it", and tells "the amount after the fall" (document 02, 2/13): this watcher's,
+-- after this step.
 unfoldable pub lowNoted : List ℕ → ℕ → ℕ → ℕ → ℕ → ℕ → ℕ → Notes
 lowNoted es k kind number threshold old new =
     pick (leb old threshold) (notes es k) (pick (ltb threshold new) (notes es k) (noted es k kind number new))

@@ -1,4 +1,5 @@
--- "If an answer is an enum, a definition states this paper's number and values for each case of the enum." Of the owned settings, as the checked call says it; 16 is none of them. Assumes nothing.
+-- "If an answer is an enum, a definition states this paper's number and values for each case of the enum." Of the owned settings, as the checked call
+-- says it; 16 is none of them. Assumes nothing.
 use Rattle.queue_streams.specs.declared.answers.Call.{Call}
 use Rattle.queue_streams.specs.declared.answers.Call.the-variants.{Accepted, Refused}
 use Rattle.owned_streams.specs.declared.settings.PrioritySet.{PrioritySet}

@@ -1,4 +1,5 @@
--- The row that is moved next, by groups of rows: the best of the groups' least rows is the least row of all, and what is kept of a group holds while its row lies at or above the cursor. Assumes nothing.
+-- The row that is moved next, by groups of rows: the best of the groups' least rows is the least row of all, and what is kept of a group holds while its
+-- row lies at or above the cursor. Assumes nothing.
 use mathlib.Core.Path.{_≡_, refl, sym, ap, _∙_}
 use mathlib.Core.Logic.{_⊎_, inl, inr, ⊎-elim}
 use mathlib.Core.List.{List}

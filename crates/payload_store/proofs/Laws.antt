@@ -1,4 +1,5 @@
--- Laws of the words: what is read after a place, a length, or the used bytes and the gaps were stored. Each follows from the laws of queue_words. Assumes nothing.
+-- Laws of the words: what is read after a place, a length, or the used bytes and the gaps were stored. Each follows from the laws of queue_words.
+-- Assumes nothing.
 use mathlib.Core.Path.{_≡_, ap}
 use mathlib.Core.List.{List}
 use Prim.Native.Nat.{ℕ, _<_}

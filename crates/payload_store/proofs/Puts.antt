@@ -1,4 +1,5 @@
--- Putting a payload where the invariant holds: the row then has it, every other row has its own, and no payload is refused for which the free bytes suffice. Assumes nothing.
+-- Putting a payload where the invariant holds: the row then has it, every other row has its own, and no payload is refused for which the free bytes
+-- suffice. Assumes nothing.
 use mathlib.Core.Path.{_≡_, refl, sym, ap, _∙_}
 use mathlib.Core.Logic.{_⊎_, inl, inr, ⊎-elim}
 use mathlib.Core.Bool.{Bool, true, false}

@@ -34,14 +34,16 @@ gapFor g n =
     (pick (near g) (turned g)
     (pick (leb n (room g)) g (turned g)))
 
--- the second gap stays where n bytes elsewhere are free: it begins with a piece, as those that a search has found, has as many bytes, and more than half of what the other one has
+-- the second gap stays where n bytes elsewhere are free: it begins with a piece, as those that a search has found, has as many bytes, and more than half
+-- of what the other one has
 unfoldable pub keeps : Gaps → ℕ → Bool
 keeps g n =
     pick (eqb (g .from) 0) false
     (pick (ltb 0 (g .from % 8192)) false
     (pick (ltb (spare g) n) false (ltb (room g / 2) (spare g))))
 
--- the gaps once the n bytes from p on are free: one grows where those begin at its upper end, else they are the second one, unless that stays; as they are, where a word has no room for p + n
+-- the gaps once the n bytes from p on are free: one grows where those begin at its upper end, else they are the second one, unless that stays; as they
+-- are, where a word has no room for p + n
 unfoldable pub gapsLeft : Gaps → ℕ → ℕ → Gaps
 gapsLeft g p n =
     pick (ltb (18446744073709551615 - p) n) g

@@ -1,4 +1,5 @@
--- The definitions that the contracts cite: the words used, gaps, moving together, searching, putting, reading, dropping; the invariant and what the calls promise. Assumes nothing.
+-- The definitions that the contracts cite: the words used, gaps, moving together, searching, putting, reading, dropping; the invariant and what the
+-- calls promise. Assumes nothing.
 pub mod Words
 pub mod Gaps
 pub mod Searching

@@ -1,4 +1,5 @@
--- Request 13/13 for the plan's own job: the call's priorities, set on a new queue, are accepted and put the first fragments in the list's order. Assumes nothing.
+-- Request 13/13 for the plan's own job: the call's priorities, set on a new queue, are accepted and put the first fragments in the list's order. Assumes
+-- nothing.
 use mathlib.Core.Path.{_≡_, refl, sym, ap, ap₂, _∙_, subst}
 use mathlib.Core.Bool.{Bool, true, false, not, _&&_}
 use mathlib.Core.List.{List, [], _∷_, _++_, map}

@@ -1,4 +1,5 @@
--- What a next fragment does to the scheduler's entries on an interleaving queue: it serves the least one, and leaves those of other streams as they are. Assumes nothing.
+-- What a next fragment does to the scheduler's entries on an interleaving queue: it serves the least one, and leaves those of other streams as they are.
+-- Assumes nothing.
 use mathlib.Core.Path.{_≡_, refl, sym, ap, _∙_, subst}
 use mathlib.Core.Bool.{Bool, true, false}
 use mathlib.Core.List.{List, [], _∷_, _++_}

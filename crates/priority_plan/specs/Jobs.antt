@@ -102,7 +102,8 @@ set-up o ss = after (map setting-call ss) (new-queue o)
 abbrev pub loaded : Options → List Setting → List Adding → Queue
 loaded o ss as′ = after (map adding-call as′) (set-up o ss)
 
--- "set on a new interleaving queue before the messages are added": settings and messages in any order among themselves, also of other streams, and also more than
+-- "set on a new interleaving queue before the messages are added": settings and messages in any order among themselves, also of other streams, and also
+-- more than
 -- one message on a stream.
 pub record Job (o : Options) (hs : List PlannedStream) (ps : List ℕ) (ss : List Setting) (as′ : List Adding) : Type 0 where
   pub created : Created o

@@ -20,7 +20,8 @@ full-cost limit size = min size limit * byte-cost
 abbrev pub no-bound : ℕ
 no-bound = max-limit * byte-cost + 1
 
--- "the smallest finish time, then the smallest id": what the finish time of a stream must stay below to come before the next one, that is the next finish time, or one more
+-- "the smallest finish time, then the smallest id": what the finish time of a stream must stay below to come before the next one, that is the next
+-- finish time, or one more
 -- where its own id is the smaller one.
 abbrev pub bound-before : ℕ → ℕ → ℕ → ℕ
 bound-before id next finish = if ltb id next then suc finish else finish

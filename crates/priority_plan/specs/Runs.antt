@@ -34,7 +34,8 @@ Request13-entries = (o : Options) (hs : List PlannedStream) (ps : List ℕ) (ss 
 
 -- ------------------------------------------------------------------ the order
 
--- "make the scheduler's finish times and ids put those first fragments in that order": in any run of next fragments, of whatever sizes, and of more messages, refused calls
+-- "make the scheduler's finish times and ids put those first fragments in that order": in any run of next fragments, of whatever sizes, and of more
+-- messages, refused calls
 -- included, in which no message has expired when a fragment is asked for.
 unfoldable pub Request13-order : Type 0
 unfolding after new-queue run streams-shown firsts still-without ends expiry none-expired
@@ -64,7 +65,8 @@ Request13-served =
     → (loaded o ss as′) .total < length xs
     → firsts (stream-ids hs) (streams-shown (run (map later-call (map ask xs)) (loaded o ss as′))) ≡ stream-ids hs
 
--- The converse: allowed priorities of different streams that put the first fragments in the list's order in every such run have finish times and ids in that order. So
+-- The converse: allowed priorities of different streams that put the first fragments in the list's order in every such run have finish times and ids in
+-- that order. So
 -- "any working set" means the same by finish times and by runs.
 unfoldable pub Request13-only : Type 0
 unfolding after new-queue run streams-shown firsts still-without ends named-twice expiry
@@ -86,7 +88,8 @@ priorities-of (h ∷ hs) (p ∷ ps) = priority (h .stream-id) p ∷ priorities-o
 abbrev pub plan-settings : List PlannedStream → List ℕ → List Setting
 plan-settings hs ps = interleaving true ∷ priorities-of hs ps
 
--- The priorities that the call gives are accepted by a new queue with its payload limit; and where the messages are accepted, the first one of each listed stream having
+-- The priorities that the call gives are accepted by a new queue with its payload limit; and where the messages are accepted, the first one of each
+-- listed stream having
 -- the size that the call was given, the listed streams get their first fragments in the list's order, as long as no added message expires.
 unfoldable pub Request13-plan : Type 0
 unfolding planned planned-streams after new-queue run streams-shown firsts still-without ends priorities-of first-size expiry

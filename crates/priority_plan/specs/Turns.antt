@@ -64,7 +64,8 @@ unfoldable pub ends : List Outcome → Bool
 ends [] = false
 ends (o ∷ os) = says-nothing (o .answer) || ends os
 
--- The streams get their first fragments in the list's order, by the streams of the fragments shown: those that have had one are the list's first, in its order, and the others
+-- The streams get their first fragments in the list's order, by the streams of the fragments shown: those that have had one are the list's first, in its
+-- order, and the others
 -- are the rest of the list. Where a call finds that nothing waits, all have had theirs.
 pub record ServedInTurn (is ks : List ℕ) (ended : Bool) : Type 0 where
   pub in-turn : is ≡ firsts is ks ++ still-without is ks

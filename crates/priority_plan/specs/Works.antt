@@ -23,7 +23,8 @@ planned-streams (i ∷ is) (n ∷ ns) = record { stream-id = i; size = n } ∷ p
 
 -- ------------------------------------------------------------------ the order
 
--- What the scheduler lists of a stream whose first message is added to a new interleaving queue: "A stream that begins waiting starts at the system time", which is 0
+-- What the scheduler lists of a stream whose first message is added to a new interleaving queue: "A stream that begins waiting starts at the system
+-- time", which is 0
 -- until a first fragment is handed out.
 unfoldable pub first-entry : ℕ → PlannedStream → ℕ → Active
 unfolding scheduled

@@ -69,7 +69,8 @@ fn least_plan(limit: u64, ids: &[u16], sizes: &[u64]) -> PlannedPriorities
     }
 }
 
-// Priorities from 1 to 65,535 which, set on a new interleaving queue before the messages are added, put the streams' first fragments in the list's order; each is the least
+// Priorities from 1 to 65,535 which, set on a new interleaving queue before the messages are added, put the streams' first fragments in the list's
+// order; each is the least
 // that any working set has for that stream. 1 for a wrong payload limit, then 28 for a wrong list, then 29 where no set works.
 pub fn plan_priorities(payload_limit: u64, ids: &[u16], sizes: &[u64]) -> PlannedPriorities
     ensures { λ r. ⌜ r ≡ planned «payload_limit» (now (ids .entry)) (now (sizes .entry)) ⌝ }

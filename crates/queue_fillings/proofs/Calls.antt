@@ -1,4 +1,5 @@
--- The calls of a filling that no check refuses: by document 02's sizes, at least one, none of them refused; without a fragment one alone, which says that nothing waits. Assumes nothing.
+-- The calls of a filling that no check refuses: by document 02's sizes, at least one, none of them refused; without a fragment one alone, which says
+-- that nothing waits. Assumes nothing.
 use mathlib.Core.Path.{_≡_, refl, sym, ap, _∙_}
 use mathlib.Core.Bool.{Bool, true, false}
 use mathlib.Core.List.{List, [], _∷_}

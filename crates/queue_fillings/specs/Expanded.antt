@@ -51,7 +51,8 @@ instead ask-ready-count s = ask-ready-count ∷ []
 instead ask-readiness s = ask-readiness ∷ []
 instead (ask-room r) s = (ask-room r) ∷ []
 
--- "The size asked for is [..]. Filling ends when that size is 0 or less or nothing is waiting": of a filling that is not refused, on every queue that creation and calls lead to.
+-- "The size asked for is [..]. Filling ends when that size is 0 or less or nothing is waiting": of a filling that is not refused, on every queue that
+-- creation and calls lead to.
 unfoldable pub Request5-sizes : Type 0
 Request5-sizes =
     (a : Arguments) (len : ℕ) (s : State) (es bs : List ℕ) (time : ℕ) (p : Packet)

@@ -1,4 +1,5 @@
--- What heads see after a strict reset (request 6/13), over any calls, fillings among them: the fragments of a filling are those of its separate calls. Assumes nothing.
+-- What heads see after a strict reset (request 6/13), over any calls, fillings among them: the fragments of a filling are those of its separate calls.
+-- Assumes nothing.
 use Prim.Native.Nat.{ℕ}
 use mathlib.Core.Path.{_≡_}
 use mathlib.Core.Bool.{false}

@@ -25,7 +25,8 @@ pub record Saves (s : State) (saved : ℕ) (buffer after : List ℕ) (size : ℕ
 abbrev pub freshState : Arguments → State → Bool → State
 freshState a new b = step (set-interleaving b) (newState a new) .next
 
--- Restoring the image into it is accepted, and leaves what `by` restores from the Rust's own record (queue_model: specs/RustHandover), but for the streams that have nothing to
+-- Restoring the image into it is accepted, and leaves what `by` restores from the Rust's own record (queue_model: specs/RustHandover), but for the
+-- streams that have nothing to
 -- restore.
 pub record Restores (by : ℕ → HandoverState → Queue → Queue) (a : Arguments) (len : ℕ) (s new : State) (saved time : ℕ) (b : Bool) (image : List ℕ) : Type 0 where
   pub accepted : step (restore time image) (freshState a new b) .shows .answer ≡ called (Accepted 0)
@@ -33,7 +34,8 @@ pub record Restores (by : ℕ → HandoverState → Queue → Queue) (a : Argume
   pub stands-for : queueOf (step (restore time image) (freshState a new b) .next)
       ≡ forget-plain (by time (handover-state saved (queueOf s)) (fresh (optionsWith a len) b))
 
--- "Every saved image is accepted at any allowed time by a new queue created alike, and restores what the Rust restores from its own record", as document 02's 10/13 amends it ("Restoring
+-- "Every saved image is accepted at any allowed time by a new queue created alike, and restores what the Rust restores from its own record", as document
+-- 02's 10/13 amends it ("Restoring
 -- without interleaving shall remember the stream whose first message is half-sent"): whenever it was saved, and whatever the new queue's interleaving choice.
 unfoldable pub Demand2-images : Type 0
 Demand2-images =

@@ -1,4 +1,5 @@
--- "and it gives back only the number of document 01's list", of saving and of creation, on any words at all; the calls of a queue: queue_runs, specs/Numbers. Assumes nothing.
+-- "and it gives back only the number of document 01's list", of saving and of creation, on any words at all; the calls of a queue: queue_runs,
+-- specs/Numbers. Assumes nothing.
 use Prim.Native.Nat.{ℕ}
 use mathlib.Core.Path.{_≡_}
 use mathlib.Core.Bool.{true}

@@ -1,4 +1,5 @@
--- A refused saving leaves the lent buffer as it was, on any words at all. (It has no queue to change: the words and the store are lent to be read.) Assumes nothing.
+-- A refused saving leaves the lent buffer as it was, on any words at all. (It has no queue to change: the words and the store are lent to be read.)
+-- Assumes nothing.
 use Prim.Native.Nat.{ℕ}
 use mathlib.Core.Path.{_≡_}
 use mathlib.Core.Bool.{Bool, true, false}

@@ -1,4 +1,5 @@
--- The fragments of a message stand together in what queues without interleaving show, changeovers included (document 02, 10/13: "RFC 9260 gives the fragments of a DATA message consecutive
+-- The fragments of a message stand together in what queues without interleaving show, changeovers included (document 02, 10/13: "RFC 9260 gives the
+-- fragments of a DATA message consecutive
 -- TSNs"), on the words and stores that the calls leave. Assumes nothing.
 use Prim.Native.Nat.{ℕ, _≤_}
 use mathlib.Core.Path.{_≡_}
@@ -52,8 +53,10 @@ pub data New (a : Arguments) (len : ℕ) : State → Type 0 where
   as-created : {before : State} → Creates a before → length (before .store) ≡ len → New a len (newState a before)
   as-chosen : {before : State} → Creates a before → length (before .store) ≡ len → New a len (freshState a before false)
 
--- The queue and all fragments sent until it. A new queue has sent none; then come those that the calls show, those of a filling being those of its separate calls (document 02, 5/13); and over any number of changeovers, at any points, the list goes on: this queue
--- is saved into a lent buffer, and a new queue, created alike, restores the image at an allowed time (it is accepted: `Demand2-images`). An image of unknown origin has no place here: the
+-- The queue and all fragments sent until it. A new queue has sent none; then come those that the calls show, those of a filling being those of its
+-- separate calls (document 02, 5/13); and over any number of changeovers, at any points, the list goes on: this queue
+-- is saved into a lent buffer, and a new queue, created alike, restores the image at an allowed time (it is accepted: `Demand2-images`). An image of
+-- unknown origin has no place here: the
 -- fragments of its half-sent message are in no list.
 pub data Sends (a : Arguments) (len : ℕ) : State → List DataToSend → Type 0 where
   begins : {s : State} → New a len s → Sends a len s []
@@ -64,7 +67,8 @@ pub data Sends (a : Arguments) (len : ℕ) : State → List DataToSend → Type 
       → Saves s saved buffer after size → New a len t → time ≤ 4611686018427387903
       → Sends a len (step (restore time (take size after)) t .next) ds
 
--- The fragments before saving and after restoring, put together: once a message's first fragment is out, the next fragments are the rest of it. It may stop short, where it expires or is
+-- The fragments before saving and after restoring, put together: once a message's first fragment is out, the next fragments are the rest of it. It may
+-- stop short, where it expires or is
 -- discarded; a head that the whole-queue reset puts back whole is sent again from its first fragment on.
 unfoldable pub Request10-unbroken : Type 0
 unfolding allIn

@@ -46,7 +46,8 @@ freed ws (suc i) = putNext (putPlace (putLength (freed ws i) i 0) i 0) i (i + 1)
 unfoldable pub newWords : List ℕ → Options → List ℕ
 newWords ws o = freed (putScheduler (putTotals (putOptions ws o) newTotals) newScheduler) 1024
 
--- "Creation takes the payload limit, the store, the default priority, the default and total thresholds and the choice of handover with waiting data". Document 02, 6/13: "Creation chooses
+-- "Creation takes the payload limit, the store, the default priority, the default and total thresholds and the choice of handover with waiting data".
+-- Document 02, 6/13: "Creation chooses
 -- the rule, as in the Rust or strict."
 abbrev pub newOptions : ℕ → ℕ → ℕ → ℕ → ℕ → Bool → RestartRule → Options
 newOptions len limit priority threshold total handover rule = record {

@@ -1,4 +1,5 @@
--- The strict rule's reset (request 6/13), judged from RFC 8260 as document 02 has it: "a message put back starts with FSN 0 and with numbers from the zeroed counters". Assumes nothing.
+-- The strict rule's reset (request 6/13), judged from RFC 8260 as document 02 has it: "a message put back starts with FSN 0 and with numbers from the
+-- zeroed counters". Assumes nothing.
 use mathlib.Core.Path.{_≡_, refl, sym, ap, subst, _∙_}
 use mathlib.Core.Bool.{Bool, true, false, _||_}
 use mathlib.Core.List.{List, [], _∷_, _++_, map}

@@ -1,4 +1,5 @@
--- Document 01's likely slips, as theorems that rule each out on every queue: "MID 0 read as no MID; a priority applied at its setting; free space judged by the longest gap;
+-- Document 01's likely slips, as theorems that rule each out on every queue: "MID 0 read as no MID; a priority applied at its setting; free space judged
+-- by the longest gap;
 -- the lifetime without its extra millisecond". Assumes nothing.
 use mathlib.Core.Path.{_≡_, refl, ap}
 use mathlib.Core.Bool.{Bool, true, false}

@@ -1,4 +1,5 @@
--- The laws of tables (specs/Table): finding after putting and after taking out, rows in ascending order, sums; and that what is found tells the table. Assumes nothing.
+-- The laws of tables (specs/Table): finding after putting and after taking out, rows in ascending order, sums; and that what is found tells the table.
+-- Assumes nothing.
 use mathlib.Core.Path.{_≡_, refl, sym, ap, ap₂, _∙_, subst}
 use mathlib.Core.Bool.{Bool}
 use mathlib.Core.List.{List, [], _∷_, _++_, map}

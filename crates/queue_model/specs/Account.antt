@@ -1,4 +1,5 @@
--- The account of a stream's bytes (request 11/13, first half), counted from the call history: what calls accept, hand out, drop, put back and restore. Assumes nothing.
+-- The account of a stream's bytes (request 11/13, first half), counted from the call history: what calls accept, hand out, drop, put back and restore.
+-- Assumes nothing.
 use Prim.Native.Nat.{ℕ, suc, _+_, _-_}
 use mathlib.Core.Bool.{true, false}
 use mathlib.Core.List.{List, [], _∷_}
@@ -105,9 +106,12 @@ fill-account k store places now (n ∷ ns) q = both (produce-account k store pla
 abbrev pub none-refused : Answer → Account → Account
 none-refused a moved = if is-refused a then no-bytes else moved
 
--- What one call moves in stream k. "each counted from the call history": bytes accepted, handed out and left to send in an image are read off the call's arguments and its answer alone. Unsent bytes of dropped
--- messages, and bytes put back, are read off the messages that wait when the call is made (their lengths and offsets), in the queue that the earlier calls lead to. Which of
--- them it drops is told by the definitions that the call itself uses (`passing`, `closing-bytes`, `head-bytes`); no amount is counted. No single answer shows them, and which expired heads a next fragment drops no list of
+-- What one call moves in stream k. "each counted from the call history": bytes accepted, handed out and left to send in an image are read off the call's
+-- arguments and its answer alone. Unsent bytes of dropped
+-- messages, and bytes put back, are read off the messages that wait when the call is made (their lengths and offsets), in the queue that the earlier
+-- calls lead to. Which of
+-- them it drops is told by the definitions that the call itself uses (`passing`, `closing-bytes`, `head-bytes`); no amount is counted. No single answer
+-- shows them, and which expired heads a next fragment drops no list of
 -- answers does: events tell it only where they have a lifecycle id.
 unfoldable pub account : ℕ → Call → Queue → Account
 unfolding step for-stream produce-account fill-account filling head-bytes closing-bytes image-left read-image find put-back
@@ -141,8 +145,10 @@ unfolding account step
 accounts k [] q = no-bytes
 accounts k (c ∷ cs) q = both (account k c q) (accounts k cs ((step c q) .next))
 
--- "from a new queue, after any calls, a stream's amount is the payload bytes it accepted, less those handed out, less the unsent ones of dropped messages, plus those put back and those left to send in an image it
--- restored, each counted from the call history; the total is the sum over the streams." Stated as amount + out = in, so that nothing hides in a difference that stops at 0.
+-- "from a new queue, after any calls, a stream's amount is the payload bytes it accepted, less those handed out, less the unsent ones of dropped
+-- messages, plus those put back and those left to send in an image it
+-- restored, each counted from the call history; the total is the sum over the streams." Stated as amount + out = in, so that nothing hides in a
+-- difference that stops at 0.
 pub record Accounted (k : ℕ) (a : Account) (q : Queue) : Type 0 where
   pub amount-is : amount-of q k + (a .handed-out + a .dropped-unsent) ≡ a .accepted + (a .put-back-whole + a .left-to-send)
   pub total-is : q .total ≡ amounts (q .streams)

@@ -21,7 +21,8 @@ unfoldable pub new-item : ℕ → ℕ → Message → Item
 unfolding expiry
 new-item now k m = record { message-id = k; ppid = m .ppid; unordered = m .unordered; max-retransmissions = Option·getD (m .max-retransmissions) 65535; expires-at = expiry now (m .lifetime); lifecycle-id = m .lifecycle-id; payload = m .payload; offset = 0; mid = none; ssn = 0; fsn = 0 }
 
--- "messages added to a paused or resetting stream do not start it"; in the Rust a pending one without messages is started. (With document 02's 3/13 no queue has such a stream:
+-- "messages added to a paused or resetting stream do not start it"; in the Rust a pending one without messages is started. (With document 02's 3/13 no
+-- queue has such a stream:
 -- `pending-half`, proofs/Invariant/Pending.)
 unfoldable pub starts-waiting : PauseState → Bool
 starts-waiting not-paused = true

@@ -6,7 +6,8 @@ use lib.Dec.{ltb, leb}
 use Rattle.queue_model.specs.Logic.{if_then_else_}
 use Rattle.queue_model.specs.Types.{Item, Stream, Options, Queue, Event, remaining}
 
--- "Low fires when an amount goes from above its threshold to at or below it" (Rust: SubAssign of ThresholdWatcher), and tells the new amount: "the amount after the fall"
+-- "Low fires when an amount goes from above its threshold to at or below it" (Rust: SubAssign of ThresholdWatcher), and tells the new amount: "the
+-- amount after the fall"
 -- (document 02, 2/13).
 unfoldable pub low-event : ℕ → ℕ → ℕ → ℕ → ℕ → List Event
 low-event kind n threshold old new = if ltb threshold old && leb new threshold then record { kind = kind; number = n; amount = new } ∷ [] else []

@@ -59,7 +59,8 @@ refusal-in (filled bs n) = none
 
 -- ------------------------------------------------------------------ number and values
 
--- "If an answer is an enum, a definition states this paper's number and values for each case of the enum." The number: 0 where a call is accepted or a question answered, else the refusal's.
+-- "If an answer is an enum, a definition states this paper's number and values for each case of the enum." The number: 0 where a call is accepted or a
+-- question answered, else the refusal's.
 abbrev pub answer-number : Answer → ℕ
 answer-number (refused n) = n
 answer-number done = 0

@@ -33,7 +33,8 @@ after-calls strict cs = ledger strict 5 (history cs (new-queue (options strict))
 asks : ℕ → Call
 asks now = produce 9 2305 2 now 2
 
--- 3 bytes on stream 5, 1 on stream 3, 1 on stream 5. The first next fragment is stream 3's (equal finish times, the smaller id), the second has 2 bytes of stream 5's head.
+-- 3 bytes on stream 5, 1 on stream 3, 1 on stream 5. The first next fragment is stream 3's (equal finish times, the smaller id), the second has 2 bytes
+-- of stream 5's head.
 two-wait : List Call
 unfolding message asks
 two-wait = add 9 0 (message 5 none (1 ∷ 2 ∷ 3 ∷ [])) ∷ add 9 0 (message 3 none (4 ∷ [])) ∷ add 9 0 (message 5 none (5 ∷ [])) ∷ asks 0 ∷ asks 0 ∷ []
@@ -42,7 +43,8 @@ two-waiting : after-calls false two-wait ≡ record { next-id = 3; state = not-p
 unfolding after-calls two-wait item one-numbered
 two-waiting = refl
 
--- 2 of 3 bytes of a message with lifetime 0 are sent, its stream is closed, a message is added behind it. The next fragment 1 ms later passes over it: "the stream becomes paused, its later messages
+-- 2 of 3 bytes of a message with lifetime 0 are sent, its stream is closed, a message is added behind it. The next fragment 1 ms later passes over it:
+-- "the stream becomes paused, its later messages
 -- wait".
 closed-expired : List Call
 unfolding message asks

@@ -1,4 +1,5 @@
--- The waiting messages of a stream, followed from the history of calls (document 02, 4/13): what arrived and has not ended, in order of arrival, with its numbers. No chain, no place, no scheduler and no amount is in it.
+-- The waiting messages of a stream, followed from the history of calls (document 02, 4/13): what arrived and has not ended, in order of arrival, with
+-- its numbers. No chain, no place, no scheduler and no amount is in it.
 -- Assumes nothing.
 use Prim.Native.Nat.{ℕ}
 use mathlib.Core.Bool.{Bool, true, false}
@@ -51,7 +52,8 @@ append-arrival now m l = ledger-with l (l .state) (l .counters) (l .messages ++ 
 abbrev pub count-arrival : Ledger → Ledger
 count-arrival l = record { next-id = wrap-suc 32 (l .next-id); state = l .state; counters = l .counters; messages = l .messages }
 
--- The head is dropped if a test says so. "When a pending stream's message ends or is discarded, it is paused."; document 02, 3/13: "When a pending stream's half-sent head expires, the stream becomes
+-- The head is dropped if a test says so. "When a pending stream's message ends or is discarded, it is paused."; document 02, 3/13: "When a pending
+-- stream's half-sent head expires, the stream becomes
 -- paused".
 unfoldable pub drop-first : (Item → Bool) → Ledger → List Item → Ledger
 unfolding end-pending
@@ -72,7 +74,8 @@ unfolding on-stream expire-head
 expire-heads k now [] l = l
 expire-heads k now (s ∷ ss) l = expire-heads k now ss (on-stream s k (expire-head now) l)
 
--- A fragment of a message with its numbers. "A message gets its MID when its first fragment is made, ordered and unordered counting separately in each stream"; "FSN grows by one a fragment"; so many
+-- A fragment of a message with its numbers. "A message gets its MID when its first fragment is made, ordered and unordered counting separately in each
+-- stream"; "FSN grows by one a fragment"; so many
 -- bytes more are sent, and with its last fragment the message is gone: "When a pending stream's message ends or is discarded, it is paused."
 unfoldable pub sent-on : Piece → Ledger → Numbered → List Item → Ledger
 unfolding moved-on end-pending
@@ -101,7 +104,8 @@ unfoldable pub discard-head : ℕ → Ledger → Ledger
 unfolding drop-first
 discard-head m l = drop-first (has-message-id m) l (l .messages)
 
--- "Closing changes nothing unless the stream is open. It drops every message at offset 0; a remaining half-sent one makes the stream pending, none makes it paused."
+-- "Closing changes nothing unless the stream is open. It drops every message at offset 0; a remaining half-sent one makes the stream pending, none makes
+-- it paused."
 unfoldable pub close-in : PauseState → Ledger → Ledger
 unfolding kept closed-state
 close-in not-paused l = let is = kept (l .messages) in ledger-with l (closed-state is) (l .counters) is
@@ -135,13 +139,15 @@ unfoldable pub reopen-stream : Bool → Ledger → Ledger
 unfolding reopen-in
 reopen-stream zeroed l = reopen-in (l .state) zeroed l
 
--- "Whole-queue reset opens all streams, zeroes their counters and puts each head message back whole, keeping its MID, SSN and FSN"; document 02, 6/13: "Strict reset removes the head message's MID and SSN
+-- "Whole-queue reset opens all streams, zeroes their counters and puts each head message back whole, keeping its MID, SSN and FSN"; document 02, 6/13:
+-- "Strict reset removes the head message's MID and SSN
 -- and sets its FSN to 0."
 unfoldable pub reset-ledger : Bool → Ledger → Ledger
 unfolding whole-head
 reset-ledger strict l = ledger-with l not-paused zero-counters (whole-head strict (l .messages))
 
--- A restored image: the stream's messages in the order of their records, its counters from its record; "a stream with zero counters and the trailer's default priority has none". "Restored streams are
+-- A restored image: the stream's messages in the order of their records, its counters from its record; "a stream with zero counters and the trailer's
+-- default priority has none". "Restored streams are
 -- open". (What strict restoring refuses enters nothing.)
 unfoldable pub records-of : ℕ → ℕ → List MessageRecord → List Item
 unfolding restored-item
@@ -162,7 +168,8 @@ image-laid k now (some h) l = record { next-id = h .next-message-id; state = not
 
 -- ------------------------------------------------------------------ the ledger after a history
 
--- What an accepted call enters in the ledger of stream k; the rule of a restart is creation's. A filling enters nothing by itself: the calls for the next fragment that it is made of stand behind it (`history`).
+-- What an accepted call enters in the ledger of stream k; the rule of a restart is creation's. A filling enters nothing by itself: the calls for the
+-- next fragment that it is made of stand behind it (`history`).
 unfoldable pub entered : Bool → ℕ → Call → List Piece → List ℕ → Ledger → Ledger
 unfolding on-stream append-arrival expire-heads send-pieces discard-head close-stream ready-stream reopen-stream reset-ledger image-laid read-image
 entered strict k (add store now m) ps ss l = count-arrival (on-stream (m .stream-id) k (append-arrival now m) l)

@@ -1,4 +1,5 @@
--- Three chunks by their bytes (document 02, 1/13), by computation: "fragments become chunks". Numbers have their high byte first (RFC 9260, 3). Assumes nothing.
+-- Three chunks by their bytes (document 02, 1/13), by computation: "fragments become chunks". Numbers have their high byte first (RFC 9260, 3). Assumes
+-- nothing.
 use Prim.Native.Nat.{ℕ}
 use mathlib.Core.Bool.{Bool, true, false}
 use mathlib.Core.List.{List, [], _∷_}

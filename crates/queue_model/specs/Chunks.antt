@@ -23,7 +23,8 @@ abbrev pub chunk-type : Bool → ℕ
 chunk-type false = 0
 chunk-type true = 64
 
--- "Both start with type, flags (4 unordered, 2 first, 1 last) and a 16-bit length without padding, then the 32-bit TSN and 16-bit stream id. DATA goes on with SSN
+-- "Both start with type, flags (4 unordered, 2 first, 1 last) and a 16-bit length without padding, then the 32-bit TSN and 16-bit stream id. DATA goes
+-- on with SSN
 -- and payload protocol id. I-DATA goes on with 16 reserved bits, MID, and the protocol id on a first fragment or the FSN on others." The widths in bytes.
 abbrev pub chunk-widths : Bool → List ℕ
 chunk-widths false = 1 ∷ 1 ∷ 2 ∷ 4 ∷ 2 ∷ 2 ∷ 4 ∷ []

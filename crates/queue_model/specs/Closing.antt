@@ -1,4 +1,5 @@
--- What closing leaves of a stream: its half-sent message, which it goes on to send, or none. Document 01, "Closing and restarting streams"; document 02, 3/13. Assumes nothing.
+-- What closing leaves of a stream: its half-sent message, which it goes on to send, or none. Document 01, "Closing and restarting streams"; document 02,
+-- 3/13. Assumes nothing.
 use Prim.Native.Nat.{ℕ}
 use mathlib.Core.List.{List, [], _∷_, _++_}
 use mathlib.Core.Option.{Option, none, some}
@@ -9,7 +10,8 @@ use Rattle.queue_model.specs.Logic.{if_then_else_}
 use Rattle.queue_model.specs.Types.{Item, pending, paused, Stream, Queue}
 use Rattle.queue_model.specs.Streams.{find-stream}
 
--- "It drops every message at offset 0; a remaining half-sent one makes the stream pending": the message that closing leaves, which is the stream's first. Only a first message is half-sent.
+-- "It drops every message at offset 0; a remaining half-sent one makes the stream pending": the message that closing leaves, which is the stream's
+-- first. Only a first message is half-sent.
 abbrev pub half-sent : List Item → Option Item
 half-sent [] = none
 half-sent (i ∷ is) = if eqb (i .offset) 0 then none else some i

@@ -84,7 +84,8 @@ fresh o b = (step (set-interleaving b) (new-queue o)) .next
 
 -- ------------------------------------------------------------------ demand 3
 
--- "cannot be told apart: for every list of calls on a queue other than saving ..., refused ones included, each call gives on both queues the same answer or refusal, the
+-- "cannot be told apart: for every list of calls on a queue other than saving ..., refused ones included, each call gives on both queues the same answer
+-- or refusal, the
 -- same fragment and the same events in order". (The lent buffers are the same for both, so what they hold afterwards is a function of what is compared here.)
 abbrev pub Indistinguishable : Queue → Queue → Type 0
 Indistinguishable q₁ q₂ = (cs : List Call) → AllTyped cs → run cs q₁ ≡ run cs q₂
@@ -94,7 +95,8 @@ pub record Restores (now : ℕ) (image : List ℕ) (q r : Queue) : Type 0 where
   pub bytes : T (areBytes image)
   pub accepted : Restore.restore (q .options .store-length) now image q ≡ reply done [] r
 
--- "Two accepted images are equal byte for byte exactly when the queues restored from them cannot be told apart". "Premises: both queues are created alike, have the same
+-- "Two accepted images are equal byte for byte exactly when the queues restored from them cannot be told apart". "Premises: both queues are created
+-- alike, have the same
 -- interleaving choice, and are restored at the same time, 1 or later".
 unfoldable pub Demand3 : Type 0
 Demand3 =
@@ -105,7 +107,8 @@ Demand3 =
 
 -- ------------------------------------------------------------------ demand 2 on images
 
--- "a stream with zero counters and the trailer's default priority has none, and without messages it is not known after restoring". Said again here, without the image's
+-- "a stream with zero counters and the trailer's default priority has none, and without messages it is not known after restoring". Said again here,
+-- without the image's
 -- `plain`: what demand 2 compares with shall rest on no definition of the image.
 unfoldable pub nothing-to-restore : ℕ → Stream → Bool
 unfolding has-items
@@ -120,7 +123,8 @@ unfoldable pub forget-plain : Queue → Queue
 unfolding without-plain
 forget-plain q = record { options = q .options; interleaving = q .interleaving; total = q .total; next-message-id = q .next-message-id; streams = without-plain (q .options .default-priority) (q .streams); scheduler = q .scheduler }
 
--- "Every saved image is accepted at any allowed time by a new queue created alike, and restores what the Rust restores from its own record" (specs/RustHandover), as document 02's 10/13
+-- "Every saved image is accepted at any allowed time by a new queue created alike, and restores what the Rust restores from its own record"
+-- (specs/RustHandover), as document 02's 10/13
 -- amends it, but for the streams that have nothing to restore: whenever it was saved, and whatever the new queue's interleaving choice.
 unfoldable pub Demand2-images : Type 0
 Demand2-images =

@@ -1,4 +1,5 @@
--- Document 01's examples marked P: one table, and one theorem that antt computes. Then a second table, of sentences that the other theorems leave open. Assumes nothing.
+-- Document 01's examples marked P: one table, and one theorem that antt computes. Then a second table, of sentences that the other theorems leave open.
+-- Assumes nothing.
 use mathlib.Core.Path.{_≡_, refl}
 use mathlib.Core.Bool.{Bool, true, false}
 use mathlib.Core.List.{List, [], _∷_, _++_, map}
@@ -16,7 +17,8 @@ use Rattle.queue_model.specs.Answers.{saving-number}
 use Rattle.queue_model.specs.Run.{Call, add, produce, discard, close, ready-ids, commit, rollback, reset, set-threshold, set-priority, set-interleaving, restore, ask-priority, ask-amount, ask-threshold, ask-total, ask-empty, ask-has-data, ask-streams-ready, ask-ready-count, ask-room, run, after}
 use Rattle.queue_model.specs.Questions.{free-store, waiting-messages, known-streams}
 
--- A queue with payload limit 1,000 and stream thresholds 0; the default priority, the total's threshold, handover with waiting data and the strict rule of a restart as given.
+-- A queue with payload limit 1,000 and stream thresholds 0; the default priority, the total's threshold, handover with waiting data and the strict rule
+-- of a restart as given.
 created : ℕ → ℕ → Bool → Bool → Queue
 unfolding new-queue
 created d t handover strict = new-queue (record { payload-limit = 1000; store-length = 100000; default-priority = d; default-threshold = 0; total-threshold = t; handover-with-data = handover; strict-restart = strict })
@@ -33,7 +35,8 @@ put s n now l = add 100000 now (record { stream-id = s; ppid = 0; unordered = fa
 get : ℕ → ℕ → Call
 get now n = produce 100000 2305 262144 now n
 
--- What an answer shows: a fragment its stream, length, first and last mark, MID, SSN and FSN; a packet its chunks and its bytes; a number itself; 888 that nothing waits, 999 a refusal.
+-- What an answer shows: a fragment its stream, length, first and last mark, MID, SSN and FSN; a packet its chunks and its bytes; a number itself; 888
+-- that nothing waits, 999 a refusal.
 show-answer : Answer → List ℕ
 unfolding bit
 show-answer (refused n) = 999 ∷ n ∷ []
@@ -197,7 +200,8 @@ facts =
     -- "messages added to a paused or resetting stream do not start it".
     ∷ (shows (close 2305 5 ∷ put 5 10 0 none ∷ get 0 10 ∷ []) gives (888 ∷ []))
     ∷ (shows (close 2305 5 ∷ ready-ids ∷ put 5 10 0 none ∷ get 0 10 ∷ []) gives (5 ∷ 888 ∷ []))
-    -- "When a pending stream's half-sent head expires, the stream becomes paused": it is ready, a message behind it waits for the commit, and is then the first of the stream.
+    -- "When a pending stream's half-sent head expires, the stream becomes paused": it is ready, a message behind it waits for the commit, and is then
+    -- the first of the stream.
     ∷ (shows (put 5 1500 0 (some 0) ∷ get 0 1000 ∷ close 2305 5 ∷ put 5 10 0 none ∷ get 1000000 1000 ∷ ready-ids ∷ get 1000000 10 ∷ commit ∷ get 1000000 10 ∷ [])
     gives (begun 5 ++ (888 ∷ 5 ∷ 888 ∷ 5 ∷ 10 ∷ 1 ∷ 1 ∷ 0 ∷ 0 ∷ 0 ∷ [])))
     -- The same with another stream, to which "the choice goes"; then a rollback, and a whole-queue reset.
@@ -210,27 +214,32 @@ facts =
     ∷ (fires (noted 5 9 ∷ discard 2305 5 0 ∷ []) gives (2 ∷ 0 ∷ 0 ∷ 1 ∷ 5 ∷ 0 ∷ 3 ∷ 9 ∷ 0 ∷ 4 ∷ 9 ∷ 0 ∷ []))
     ∷ (fires (noted 5 9 ∷ close 2305 5 ∷ []) gives (1 ∷ 5 ∷ 0 ∷ 2 ∷ 0 ∷ 0 ∷ 3 ∷ 9 ∷ 0 ∷ 4 ∷ 9 ∷ 0 ∷ []))
     ∷ (fires (put 5 10 0 none ∷ get 0 10 ∷ []) gives (2 ∷ 0 ∷ 0 ∷ 1 ∷ 5 ∷ 0 ∷ []))
-    -- Document 02, 2/13: "the amount after the fall, stepped as in the Rust". Closed, or dropped as expired, the second message fires the stream's event, which tells 10, though
+    -- Document 02, 2/13: "the amount after the fall, stepped as in the Rust". Closed, or dropped as expired, the second message fires the stream's
+    -- event, which tells 10, though
     -- the call goes on to 0.
     ∷ (fires (thrice none ++ (close 2305 5 ∷ [])) gives (1 ∷ 5 ∷ 10 ∷ 2 ∷ 0 ∷ 0 ∷ []))
     ∷ (fires (thrice (some 0) ++ (get 1000000 10 ∷ [])) gives (1 ∷ 5 ∷ 10 ∷ 2 ∷ 0 ∷ 0 ∷ []))
     -- A raise past the amount tells the amount, not the threshold.
     ∷ (fires (set-threshold 2305 5 4 ∷ put 5 10 0 none ∷ set-threshold 2305 5 12 ∷ []) gives (1 ∷ 5 ∷ 10 ∷ []))
-    -- Each event tells the amount that fell: with 7 bytes on another stream and the total's threshold 20 the same message takes the stream to 10 and the total to 17.
+    -- Each event tells the amount that fell: with 7 bytes on another stream and the total's threshold 20 the same message takes the stream to 10 and the
+    -- total to 17.
     ∷ (fires-at 20 (put 6 7 0 none ∷ thrice none ++ (close 2305 5 ∷ [])) gives (1 ∷ 5 ∷ 10 ∷ 2 ∷ 0 ∷ 17 ∷ []))
     ∷ (fires-at 20 (put 6 7 0 none ∷ thrice (some 0) ++ (get 1000000 7 ∷ [])) gives (2 ∷ 0 ∷ 17 ∷ 1 ∷ 5 ∷ 10 ∷ 1 ∷ 6 ∷ 0 ∷ []))
-    -- "a message put back starts with FSN 0 and with numbers from the zeroed counters": the second message of a stream, 1,000 of 1,500 bytes sent, strict reset; it starts with MID, SSN
+    -- "a message put back starts with FSN 0 and with numbers from the zeroed counters": the second message of a stream, 1,000 of 1,500 bytes sent,
+    -- strict reset; it starts with MID, SSN
     -- and FSN 0, and the message behind it follows with MID 1 and SSN 1.
     ∷ (strictly (put 5 10 0 none ∷ put 5 1500 0 none ∷ put 5 10 0 none ∷ get 0 1000 ∷ get 0 1000 ∷ reset ∷ ask-amount 5 ∷ get 0 1000 ∷ get 0 1000 ∷ get 0 1000 ∷ [])
     gives (5 ∷ 10 ∷ 1 ∷ 1 ∷ 0 ∷ 0 ∷ 0 ∷ 5 ∷ 1000 ∷ 1 ∷ 0 ∷ 1 ∷ 1 ∷ 0 ∷ 1510 ∷ (begun 5 ++ ended 5 ++ (5 ∷ 10 ∷ 1 ∷ 1 ∷ 1 ∷ 1 ∷ 0 ∷ []))))
-    -- "Strict restoring answers 13 also to a MID on a message at offset 0": an image of a head put back by the Rust's rule; one of a half-sent message is accepted, and so are both by
+    -- "Strict restoring answers 13 also to a MID on a message at offset 0": an image of a head put back by the Rust's rule; one of a half-sent message
+    -- is accepted, and so are both by
     -- the Rust's rule.
     ∷ (strictly (restore 100000 1 (image-after (put 5 10 0 none ∷ get 0 6 ∷ reset ∷ [])) ∷ []) gives (999 ∷ 13 ∷ []))
     ∷ (strictly (restore 100000 1 (image-after (put 5 10 0 none ∷ get 0 6 ∷ [])) ∷ ask-amount 5 ∷ []) gives (4 ∷ []))
     ∷ (shows (restore 100000 1 (image-after (put 5 10 0 none ∷ get 0 6 ∷ reset ∷ [])) ∷ ask-amount 5 ∷ []) gives (10 ∷ []))
     -- "the first that applies is given": 13 for it, then 14 for another default priority.
     ∷ (strictly (restore 100000 1 (other-image (put 5 10 0 none ∷ get 0 6 ∷ reset ∷ [])) ∷ restore 100000 1 (other-image (put 5 10 0 none ∷ get 0 6 ∷ [])) ∷ []) gives (999 ∷ 13 ∷ 999 ∷ 14 ∷ []))
-    -- "Restoring without interleaving shall remember the stream whose first message is half-sent, the smallest id if several are, and send its rest first": 10 of 40 bytes sent on 5, then a
+    -- "Restoring without interleaving shall remember the stream whose first message is half-sent, the smallest id if several are, and send its rest
+    -- first": 10 of 40 bytes sent on 5, then a
     -- message on 3. The rest of 5 comes first, then 3; restored with interleaving 3 comes first, by its finish time.
     ∷ (shows (restore 100000 1 (image-after half) ∷ get 1 40 ∷ get 1 40 ∷ []) gives (5 ∷ 30 ∷ 0 ∷ 1 ∷ 0 ∷ 0 ∷ 1 ∷ 3 ∷ 10 ∷ 1 ∷ 1 ∷ 0 ∷ 0 ∷ 0 ∷ []))
     ∷ (shows (set-interleaving true ∷ restore 100000 1 (image-after half) ∷ get 1 40 ∷ []) gives (3 ∷ 10 ∷ 1 ∷ 1 ∷ 0 ∷ 0 ∷ 0 ∷ []))
@@ -240,7 +249,8 @@ facts =
     ∷ (shows (restore 100000 1 (image-after halves) ∷ get 1 40 ∷ get 1 40 ∷ get 1 40 ∷ []) gives (5 ∷ 10 ∷ 0 ∷ 1 ∷ 0 ∷ 0 ∷ 1 ∷ 3 ∷ 10 ∷ 1 ∷ 1 ∷ 0 ∷ 0 ∷ 0 ∷ 7 ∷ 30 ∷ 0 ∷ 1 ∷ 0 ∷ 0 ∷ 1 ∷ []))
     -- "When a pending stream's message ends or is discarded, it is paused": a resetting one, which switching interleaving let wait, stays resetting.
     ∷ (shows (close 2305 5 ∷ put 5 10 0 none ∷ set-interleaving true ∷ ready-ids ∷ get 0 10 ∷ ready-ids ∷ []) gives (5 ∷ 5 ∷ 10 ∷ 1 ∷ 1 ∷ 0 ∷ 0 ∷ 0 ∷ []))
-    -- "The questions are the calls that only ask": whether it is empty, whether a stream waits (not one that was closed to paused), whether one is paused; amounts, thresholds and a priority.
+    -- "The questions are the calls that only ask": whether it is empty, whether a stream waits (not one that was closed to paused), whether one is
+    -- paused; amounts, thresholds and a priority.
     ∷ (shows (ask-empty ∷ put 5 10 0 none ∷ ask-empty ∷ []) gives (1 ∷ 0 ∷ []))
     ∷ (shows (ask-has-data ∷ close 2305 5 ∷ put 5 10 0 none ∷ ask-has-data ∷ put 3 10 0 none ∷ ask-has-data ∷ []) gives (0 ∷ 0 ∷ 1 ∷ []))
     ∷ (shows (ask-streams-ready ∷ close 2305 5 ∷ ask-streams-ready ∷ ready-ids ∷ ask-streams-ready ∷ []) gives (0 ∷ 1 ∷ 5 ∷ 0 ∷ []))
@@ -248,7 +258,8 @@ facts =
     ∷ (shows (ask-ready-count ∷ close 2305 5 ∷ close 2305 3 ∷ ask-ready-count ∷ ask-ready-count ∷ ready-ids ∷ ask-ready-count ∷ []) gives (0 ∷ 2 ∷ 2 ∷ 3 ∷ 5 ∷ 0 ∷ []))
     ∷ (shows (put 5 10 0 none ∷ get 0 6 ∷ close 2305 5 ∷ ask-ready-count ∷ get 0 4 ∷ ask-ready-count ∷ []) gives (5 ∷ 6 ∷ 1 ∷ 0 ∷ 0 ∷ 0 ∷ 0 ∷ 0 ∷ 5 ∷ 4 ∷ 0 ∷ 1 ∷ 0 ∷ 0 ∷ 1 ∷ 1 ∷ []))
     ∷ (shows (put 5 10 0 none ∷ put 3 20 0 none ∷ set-threshold 2305 5 4 ∷ ask-amount 5 ∷ ask-total ∷ ask-threshold 5 ∷ ask-threshold 3 ∷ ask-priority 3 ∷ []) gives (10 ∷ 30 ∷ 4 ∷ 0 ∷ 256 ∷ []))
-    -- What there is room for: a half-sent message occupies its full length, a setting makes its stream known; after the last fragment the bytes are free and nothing waits.
+    -- What there is room for: a half-sent message occupies its full length, a setting makes its stream known; after the last fragment the bytes are free
+    -- and nothing waits.
     ∷ (shows (put 5 10 0 none ∷ set-priority 3 7 ∷ get 0 6 ∷ ask-room free-store ∷ ask-room waiting-messages ∷ ask-room known-streams ∷ get 0 4 ∷ ask-room free-store ∷ ask-room waiting-messages ∷ ask-room known-streams ∷ [])
     gives (5 ∷ 6 ∷ 1 ∷ 0 ∷ 0 ∷ 0 ∷ 0 ∷ 99990 ∷ 1 ∷ 2 ∷ 5 ∷ 4 ∷ 0 ∷ 1 ∷ 0 ∷ 0 ∷ 1 ∷ 100000 ∷ 0 ∷ 2 ∷ []))
     -- "Readiness is 2 if handover with waiting data is off and the total is above 0, else 0."

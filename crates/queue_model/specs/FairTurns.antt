@@ -1,4 +1,5 @@
--- Fair turns (request 11/13, second half): over any stretch in which two streams always wait, the costs charged to them differ by at most the cost of one full fragment of
+-- Fair turns (request 11/13, second half): over any stretch in which two streams always wait, the costs charged to them differ by at most the cost of
+-- one full fragment of
 -- each. Assumes nothing.
 use Prim.Native.Nat.{ℕ, _+_, _≤_, _<_}
 use mathlib.Core.Bool.{Bool, true, not}
@@ -50,14 +51,16 @@ abbrev pub Throughout : (Queue → Type 0) → List Call → Queue → Type 0
 Throughout P [] q = Unit {0}
 Throughout P (c ∷ cs) q = P q × Throughout P cs ((step c q) .next)
 
--- "any stretch in which two streams always wait": when each of its calls is made. So its last call may be the one that ends a stream's waiting; one that hands out a last fragment and lets the stream begin anew with
+-- "any stretch in which two streams always wait": when each of its calls is made. So its last call may be the one that ends a stream's waiting; one that
+-- hands out a last fragment and lets the stream begin anew with
 -- the message behind it does not end the stretch.
 abbrev pub AlwaysWait : ℕ → ℕ → List Call → Queue → Type 0
 AlwaysWait j k cs q = Throughout (λ (r : Queue). (is-waiting j r ≡ true) × (is-waiting k r ≡ true)) cs q
 
 -- ------------------------------------------------------------------ the costs
 
--- What an answer charges to stream k, whose priority is p: the cost of the bytes that it hands out, "bytes × 1,000,000 / weight rounded down, weight 0 counting as 1".
+-- What an answer charges to stream k, whose priority is p: the cost of the bytes that it hands out, "bytes × 1,000,000 / weight rounded down, weight 0
+-- counting as 1".
 abbrev pub charge : ℕ → ℕ → Answer → ℕ
 charge p k a = cost (weighted p) (handed k a)
 
@@ -76,25 +79,29 @@ pub record Within (n a b : ℕ) : Type 0 where
   pub first : a ≤ b + n
   pub second : b ≤ a + n
 
--- "the costs charged to them differ by at most the cost of one full fragment of each": by at most the sum of both, which is reached (`bound-reached`, proofs/FairTurns/Tight). The run starts at q; the stretch is the
+-- "the costs charged to them differ by at most the cost of one full fragment of each": by at most the sum of both, which is reached (`bound-reached`,
+-- proofs/FairTurns/Tight). The run starts at q; the stretch is the
 -- calls `during`, from the queue `r` on.
 abbrev pub FairShare : Queue → ℕ → ℕ → List Call → Queue → Type 0
 FairShare q j k during r = Within (full-cost j q + full-cost k q) (charged (priority-of q j) j (run during r)) (charged (priority-of q k) k (run during r))
 
--- A planner's figure: payload limit 1,200, priorities 256 and 512. The bound is 7,031,250: what 1,800 bytes cost at priority 256, and 3,600 bytes at priority 512.
+-- A planner's figure: payload limit 1,200, priorities 256 and 512. The bound is 7,031,250: what 1,800 bytes cost at priority 256, and 3,600 bytes at
+-- priority 512.
 planner-figure : (cost (weighted 256) 1200 + cost (weighted 512) 1200 ≡ 7031250) × ((cost (weighted 256) 1800 ≡ 7031250) × (cost (weighted 512) 3600 ≡ 7031250))
 unfolding cost
 planner-figure = (refl, (refl, refl))
 
 -- ------------------------------------------------------------------ the claim
 
--- "The second starts at an empty queue, interleaving on, priorities fixed": any queue without messages that creation and calls lead to; no call of the run sets a priority.
+-- "The second starts at an empty queue, interleaving on, priorities fixed": any queue without messages that creation and calls lead to; no call of the
+-- run sets a priority.
 pub record Starts (o : Options) (q : Queue) : Type 0 where
   pub reachable : Reachable o q
   pub empty : is-empty q ≡ true
   pub interleaved : q .interleaving ≡ true
 
--- "with only adds and next fragments of exactly the payload limit in size, no expiry and finish times below 2^64 - 1. Over any stretch in which two streams always wait, the costs charged to them differ by at most
+-- "with only adds and next fragments of exactly the payload limit in size, no expiry and finish times below 2^64 - 1. Over any stretch in which two
+-- streams always wait, the costs charged to them differ by at most
 -- the cost of one full fragment of each."
 unfoldable pub Request11-turns : Type 0
 unfolding charged cost priority-of is-empty after run

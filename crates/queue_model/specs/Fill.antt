@@ -14,7 +14,8 @@ use Rattle.queue_model.specs.Chunks.{ChunkFields, chunk-header, chunk-le
 
 -- ------------------------------------------------------------------ the calls for the next fragment
 
--- What the calls for the next fragment give: the sizes asked for, one a call; their fragments; all their events, in order; the number of the last call's refusal; and the
+-- What the calls for the next fragment give: the sizes asked for, one a call; their fragments; all their events, in order; the number of the last call's
+-- refusal; and the
 -- queue after them.
 pub record Filling : Type 0 where
   pub sizes : List ℕ
@@ -31,7 +32,8 @@ no-calls q = record { sizes = []; fragments = []; events = []; refusal = none; n
 abbrev pub rounded-down : ℕ → ℕ
 rounded-down n = n / 4 * 4
 
--- "The size asked for is the packet limit less the bytes used and the chunk header (16, or 20 for I-DATA), rounded down to a multiple of 4, at most the payload limit."
+-- "The size asked for is the packet limit less the bytes used and the chunk header (16, or 20 for I-DATA), rounded down to a multiple of 4, at most the
+-- payload limit."
 unfoldable pub size-asked : Bool → ℕ → ℕ → Queue → ℕ
 size-asked idata limit used q = min (rounded-down (limit - (used + chunk-header idata))) (q .options .payload-limit)
 
@@ -104,7 +106,8 @@ packet-bytes idata p (f ∷ fs) = common-header p ++ chunks idata (p .tsn) (f �
 
 -- ------------------------------------------------------------------ the call
 
--- "The answer gives the bytes and chunks written; without a fragment no packet is written and both are 0. A 16 refuses the filling only at its first call and ends it at a later
+-- "The answer gives the bytes and chunks written; without a fragment no packet is written and both are 0. A 16 refuses the filling only at its first
+-- call and ends it at a later
 -- one."
 unfoldable pub filled-with : Packet → Queue → Filling → List Fragment → Option ℕ → Step
 unfolding packet-bytes
@@ -112,7 +115,8 @@ filled-with p q r [] (some n) = refuse q n
 filled-with p q r [] none = reply (filled (packet-bytes (q .interleaving) p []) 0) (r .events) (r .next)
 filled-with p q r (f ∷ fs) x = reply (filled (packet-bytes (q .interleaving) p (f ∷ fs)) (length (f ∷ fs))) (r .events) (r .next)
 
--- "20 when the packet limit is outside 36 to 65,535, 21 when the packet buffer is shorter than the limit; both come before 01's checks for the next fragment." Of those 2, 3
+-- "20 when the packet limit is outside 36 to 65,535, 21 when the packet buffer is shorter than the limit; both come before 01's checks for the next
+-- fragment." Of those 2, 3
 -- and 4 are made here; 9 and 10 never apply to the sizes that a filling asks for.
 abbrev pub fill-checks : ℕ → ℕ → ℕ → ℕ → ℕ → Queue → List Check
 fill-checks store places buffer now limit q = packet-limit-wrong limit ∷ packet-short buffer limit ∷ store-other store q ∷ places-few places ∷ time-late now ∷ []

@@ -26,7 +26,8 @@ pub record Piece : Type 0 where
 abbrev pub piece : Fragment → Piece
 piece f = record { stream-id = f .stream-id; message-id = f .message-id; last = f .last; size = length (f .bytes) }
 
--- A call, whether it was refused, the fragment that it handed out, if any, and the streams whose expired head it passed over, in order; of a refused next fragment those that it would have passed over.
+-- A call, whether it was refused, the fragment that it handed out, if any, and the streams whose expired head it passed over, in order; of a refused
+-- next fragment those that it would have passed over.
 pub record Entry : Type 0 where
   pub call : Call
   pub refused : Bool
@@ -89,7 +90,8 @@ unfolding step passed-at
 entries [] q = []
 entries (c ∷ cs) q = let s = step c q in entry c (s .outcome .answer) (passed-at (asks-at c) q) ∷ entries cs (s .next)
 
--- The calls for the next fragment that a call is made of: of a filling that is not refused one for each size asked for (document 02, 5/13: "each of them one call for the next fragment").
+-- The calls for the next fragment that a call is made of: of a filling that is not refused one for each size asked for (document 02, 5/13: "each of them
+-- one call for the next fragment").
 unfoldable pub made-of : Call → Queue → List Call
 unfolding step filling
 made-of (add store now m) q = []

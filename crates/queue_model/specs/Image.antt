@@ -26,7 +26,8 @@ stream-widths = 2 ∷ 2 ∷ 4 ∷ 4 ∷ 2 ∷ []
 abbrev pub stream-row : StreamRecord → List ℕ
 stream-row r = r .id ∷ r .next-ssn ∷ r .next-unordered-mid ∷ r .next-ordered-mid ∷ r .priority ∷ []
 
--- "message records ...: id 2, flags 1 (a sum of 1 unordered, 2 MID given, 4 lifetime, no other bit), zero 1, payload protocol id 4, milliseconds left 4, retransmissions 2,
+-- "message records ...: id 2, flags 1 (a sum of 1 unordered, 2 MID given, 4 lifetime, no other bit), zero 1, payload protocol id 4, milliseconds left 4,
+-- retransmissions 2,
 -- SSN 2, MID 4, FSN 4, lifecycle id 8, message id 4, offset 4, payload length 4, payload" (Rust: HandoverStreamMessage).
 pub record MessageRecord : Type 0 where
   pub id : ℕ
@@ -56,7 +57,8 @@ pub record Handover : Type 0 where
   pub streams : List StreamRecord
   pub messages : List MessageRecord
 
--- "Last the trailer's 20 bytes, pointing back: next message id 4, default priority 2, stream count 2, message count 2, form 2 (= 1), bytes of message records 4, bytes of
+-- "Last the trailer's 20 bytes, pointing back: next message id 4, default priority 2, stream count 2, message count 2, form 2 (= 1), bytes of message
+-- records 4, bytes of
 -- stream records 4."
 abbrev pub trailer-widths : List ℕ
 trailer-widths = 4 ∷ 2 ∷ 2 ∷ 2 ∷ 2 ∷ 4 ∷ 4 ∷ []

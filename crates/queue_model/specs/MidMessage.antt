@@ -1,4 +1,5 @@
--- The scheduler's shared condition on a stream in mid-message, as a type over the model (document 02, 10/13): "in a queue that never had interleaving, and was new or restored from an
+-- The scheduler's shared condition on a stream in mid-message, as a type over the model (document 02, 10/13): "in a queue that never had interleaving,
+-- and was new or restored from an
 -- image with at most one half-sent message, a half-sent head on a waiting stream means that this stream is remembered". Assumes nothing.
 use mathlib.Core.Path.{_≡_}
 use mathlib.Core.Bool.{true, false}

@@ -66,8 +66,10 @@ unfolding chunk-bytes
 each-chunk idata tsn [] = []
 each-chunk idata tsn (f ∷ fs) = fragment-chunk idata tsn f ∷ each-chunk idata (wrap-suc 32 tsn) fs
 
--- A filling that no check refuses is its separate calls, none of them refused: the same next queue, all their events, which the 2,305 places hold, and a packet within its limit of all
--- their fragments, which its chunks give back ("Reading its chunks back gives the fragments that those separate calls give": what each chunk gives back is 1/13's).
+-- A filling that no check refuses is its separate calls, none of them refused: the same next queue, all their events, which the 2,305 places hold, and a
+-- packet within its limit of all
+-- their fragments, which its chunks give back ("Reading its chunks back gives the fragments that those separate calls give": what each chunk gives back
+-- is 1/13's).
 pub record Fills (store places buffer now : ℕ) (p : Packet) (q : Queue) : Type 0 where
   pub sizes : List ℕ
   pub asks : Asks (q .interleaving) store places now (p .limit) common-header-length q sizes

@@ -37,9 +37,12 @@ drop-head q s i is =
     let s′ = with-items s (s .amount - remaining i) is in
     with-state q (q .total - remaining i) (put-stream s′ (q .streams)) (reschedule (q .interleaving) s′ (q .scheduler))
 
--- A head that is dropped, as expired or by a discard. "When a pending stream's message ends or is discarded, it is paused"; document 02, 3/13: "When a pending stream's half-sent
--- head expires, the stream becomes paused, its later messages wait for commit, rollback, whole-queue reset or what else 01 lists as scheduling a paused stream, and the choice goes
--- to the other streams." (A pending stream's head is always half-sent: `pending-half`, proofs/Invariant/Pending.) In any other state "A stream stays as it was" and waits with what
+-- A head that is dropped, as expired or by a discard. "When a pending stream's message ends or is discarded, it is paused"; document 02, 3/13: "When a
+-- pending stream's half-sent
+-- head expires, the stream becomes paused, its later messages wait for commit, rollback, whole-queue reset or what else 01 lists as scheduling a paused
+-- stream, and the choice goes
+-- to the other streams." (A pending stream's head is always half-sent: `pending-half`, proofs/Invariant/Pending.) In any other state "A stream stays as
+-- it was" and waits with what
 -- is behind ("or a discard, schedules a paused stream").
 unfoldable pub drop-in : PauseState → Queue → Stream → Item → List Item → Queue
 unfolding drop-head put remove-stream
@@ -106,7 +109,8 @@ unfoldable pub numbered : Counters → Item → Numbered
 unfolding numbered-in
 numbered c i = numbered-in (i .mid) c i
 
--- The fragment of n bytes of a numbered message. "First means offset 0; last means that nothing remains. Only the last fragment shows the lifecycle id. The fragment is
+-- The fragment of n bytes of a numbered message. "First means offset 0; last means that nothing remains. Only the last fragment shows the lifecycle id.
+-- The fragment is
 -- the part of the stored payload that starts at the offset."
 unfoldable pub make-fragment : Stream → Item → ℕ → Fragment
 make-fragment s i n =
@@ -168,7 +172,8 @@ unfoldable pub handed-out : Queue → Active → Stream → Item → List Item �
 unfolding handed-out-last handed-out-part
 handed-out q a s i is n = if eqb n (remaining i) then handed-out-last q a s i is n else handed-out-part q a s i is n
 
--- Hand out at most `size` bytes of the chosen message, after the events `es` of the drops before it. None: an amount, or what remains of the message, would fall below 0.
+-- Hand out at most `size` bytes of the chosen message, after the events `es` of the drops before it. None: an amount, or what remains of the message,
+-- would fall below 0.
 unfoldable pub hand-out : ℕ → Queue → List Event → Active → Stream → Item → List Item → Option Step
 unfolding short-of-head make-fragment numbered sent-events handed-out
 hand-out size q es a s i is =
@@ -186,7 +191,8 @@ after-look again size q es broken = none
 after-look again size q es (dropped q′ ds) = again q′ (es ++ ds)
 after-look again size q es (chosen a s i is) = hand-out size q es a s i is
 
--- "An expired head of the chosen stream is dropped, half-sent or not, and the choice begins again; with no stream left the answer is that nothing waits, and the drops
+-- "An expired head of the chosen stream is dropped, half-sent or not, and the choice begins again; with no stream left the answer is that nothing waits,
+-- and the drops
 -- and their events stand." Each turn has one waiting message fewer, so as many turns as messages wait, and one, suffice. None: 16.
 unfoldable pub pass-over : ℕ → ℕ → ℕ → Queue → List Event → Option Step
 unfolding look after-look

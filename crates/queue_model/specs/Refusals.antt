@@ -1,5 +1,6 @@
 -- Document 01's list of refusals: "Refused, in checking order; the first that applies is given, and none otherwise". Assumes nothing.
--- (13 stands with the reader of images, 14 and 15 with restoring; 16 is judged where an amount falls or rises, in Add, Produce, Discard, Close and Reset, and where the
+-- (13 stands with the reader of images, 14 and 15 with restoring; 16 is judged where an amount falls or rises, in Add, Produce, Discard, Close and
+-- Reset, and where the
 -- scheduler's choice is looked at, in Produce. That "a place kept in the state lies outside its table", part of 16, is not said here: the model has no places.)
 use Prim.Native.Nat.{ℕ, _+_}
 use mathlib.Core.Bool.{Bool, not, _||_}
@@ -59,7 +60,8 @@ max-word = 18446744073709551615
 abbrev pub limit-wrong : ℕ → Check
 limit-wrong n = 1 when outside 1 65535 n
 
--- 2. "The store is outside 1 to 2,000,000 bytes at creation, or not of its creation length later." (on the calls that are lent it: adding, next fragment, saving, restoring)
+-- 2. "The store is outside 1 to 2,000,000 bytes at creation, or not of its creation length later." (on the calls that are lent it: adding, next
+-- fragment, saving, restoring)
 abbrev pub store-wrong : ℕ → Check
 store-wrong n = 2 when outside 1 2000000 n
 

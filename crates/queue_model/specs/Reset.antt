@@ -68,7 +68,8 @@ unfoldable pub put-back : List Item → ℕ
 put-back [] = 0
 put-back (i ∷ is) = length (i .payload) - remaining i
 
--- A message put back whole by a rule, the Rust's or the strict one: "keeping its MID, SSN and FSN"; document 02, 6/13: "Strict reset removes the head message's MID and SSN and sets its
+-- A message put back whole by a rule, the Rust's or the strict one: "keeping its MID, SSN and FSN"; document 02, 6/13: "Strict reset removes the head
+-- message's MID and SSN and sets its
 -- FSN to 0."
 abbrev pub whole-item : Bool → Item → Item
 whole-item strict i = with-numbers i (if strict then none else i .mid) (if strict then 0 else i .ssn) (if strict then 0 else i .fsn) 0

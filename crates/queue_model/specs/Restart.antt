@@ -30,7 +30,8 @@ FirstAfresh (f ∷ fs) = Afresh f
 
 -- ------------------------------------------------------------------ the claim
 
--- Any calls, but no accepted restoring, which gives streams the counters and the half-sent messages of an image. (It is refused on a queue that knows a stream.) A filling stands in the list by the
+-- Any calls, but no accepted restoring, which gives streams the counters and the half-sent messages of an image. (It is refused on a queue that knows a
+-- stream.) A filling stands in the list by the
 -- calls for the next fragment that it is made of (document 02, 5/13).
 abbrev pub NotRestored : Call → Queue → Type 0
 NotRestored c q = ((store now : ℕ) (image : List ℕ) → c ≡ restore store now image → (step c q) .outcome .answer ≡ done → ⊥) × NotFilling c
@@ -44,7 +45,8 @@ pub record Restarts (k : ℕ) (cs : List Call) (q : Queue) : Type 0 where
   pub accepted : (step reset q) .outcome .answer ≡ done
   pub starts : FirstAfresh (fragments k (run cs ((step reset q) .next)))
 
--- "Newer head firmware follows RFC 8260 strictly after a peer restart: a message put back starts with FSN 0 and with numbers from the zeroed counters." Of every stream id and any calls, on every
+-- "Newer head firmware follows RFC 8260 strictly after a peer restart: a message put back starts with FSN 0 and with numbers from the zeroed counters."
+-- Of every stream id and any calls, on every
 -- queue whose creation chose the strict rule.
 unfoldable pub Request6-starts : Type 0
 unfolding step fragments run

@@ -37,7 +37,8 @@ unfoldable pub give : Bool → ℕ → Option ℕ
 give true n = some n
 give false n = none
 
--- A message as its record restores it at a time. As in the Rust it expires at now + milliseconds left, with no millisecond more. The flag says whether there is a MID,
+-- A message as its record restores it at a time. As in the Rust it expires at now + milliseconds left, with no millisecond more. The flag says whether
+-- there is a MID,
 -- so MID 0 is one.
 unfoldable pub restored-item : ℕ → MessageRecord → Item
 unfolding has-flag give
@@ -77,7 +78,8 @@ unfolding half-sent-first
 first-half-sent [] = none
 first-half-sent (s ∷ ss) = if half-sent-first (s .items) then some (s .id) else first-half-sent ss
 
--- Document 02, 10/13: "Restoring without interleaving shall remember the stream whose first message is half-sent, the smallest id if several are, and send its rest first."
+-- Document 02, 10/13: "Restoring without interleaving shall remember the stream whose first message is half-sent, the smallest id if several are, and
+-- send its rest first."
 unfoldable pub remember-half-sent : Bool → List Stream → Scheduler → Scheduler
 unfolding first-half-sent
 remember-half-sent true ss sc = sc

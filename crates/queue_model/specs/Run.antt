@@ -7,7 +7,8 @@ use Rattle.queue_model.specs.Questions.{Room}
 use Rattle.queue_model.specs.Calls
 use Rattle.queue_model.specs.Restore
 
--- A call other than saving, with its arguments. A lent buffer stands by its length: `store`, `places` of the event list, `buffer` of the fragment or the packet.
+-- A call other than saving, with its arguments. A lent buffer stands by its length: `store`, `places` of the event list, `buffer` of the fragment or the
+-- packet.
 pub data Call : Type 0 where
   add : (store now : ℕ) → Message → Call
   produce : (store places buffer now size : ℕ) → Call

@@ -1,5 +1,7 @@
--- The Rust's own handover record (api/handover.rs: streams and queued messages only) and what the Rust restores from it (tx/send_queue.rs: add_to_handover_state and
--- restore_from_state). Nothing here is made of the image's definitions: demand 2 compares the two. (Numbers are natural here: the Rust's `ms.max(0)` and its casts to u32 do
+-- The Rust's own handover record (api/handover.rs: streams and queued messages only) and what the Rust restores from it (tx/send_queue.rs:
+-- add_to_handover_state and
+-- restore_from_state). Nothing here is made of the image's definitions: demand 2 compares the two. (Numbers are natural here: the Rust's `ms.max(0)` and
+-- its casts to u32 do
 -- nothing to the numbers of a record that was saved.) Assumes nothing.
 use Prim.Native.Nat.{ℕ, _+_, _-_, _*_, _/_, min}
 use mathlib.Core.Bool.{Bool, true, false}
@@ -137,7 +139,8 @@ restore-from-state now h q =
 
 -- ------------------------------------------------------------------ the amendment of document 02's 10/13
 
--- "the stream whose first message is half-sent, the smallest id if several are": of the record's messages, which stand by rising stream, the first that is half-sent.
+-- "the stream whose first message is half-sent, the smallest id if several are": of the record's messages, which stand by rising stream, the first that
+-- is half-sent.
 unfoldable pub begun-stream : List StreamMessageState → Option ℕ
 begun-stream [] = none
 begun-stream (r ∷ rs) = if ltb 0 (r .remaining-offset) then some (r .stream-id) else begun-stream rs

@@ -123,7 +123,8 @@ peek sc = or-else (remembered (sc .current) (sc .active)) (least-of (sc .active)
 
 -- ------------------------------------------------------------------ handing out
 
--- "Without interleaving a stream is remembered from any fragment but a last one" (and by restoring, document 02, 10/13: `remember-half-sent`); with it none is ("switching interleaving on keeps it so until its next fragment").
+-- "Without interleaving a stream is remembered from any fragment but a last one" (and by restoring, document 02, 10/13: `remember-half-sent`); with it
+-- none is ("switching interleaving on keeps it so until its next fragment").
 unfoldable pub remember : ℕ → Weight → Option ℕ
 remember s round-robin = some s
 remember s (weighted w) = none
@@ -144,7 +145,8 @@ accept-part a bytes sc =
       active = put-active (scheduled (sc .payload-limit) (a .stream-id) (a .weight) (moved a bytes) (a .bytes-remaining - bytes)) (sc .active);
     }
 
--- "Handing out moves its start, and the system time, by the cost of the bytes handed out." As in the Rust (accept), the system time becomes that stream's new start,
+-- "Handing out moves its start, and the system time, by the cost of the bytes handed out." As in the Rust (accept), the system time becomes that
+-- stream's new start,
 -- whatever it was before.
 unfoldable pub accept : Active → ℕ → Scheduler → Scheduler
 unfolding accept-last accept-part

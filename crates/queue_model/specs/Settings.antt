@@ -9,7 +9,8 @@ use Rattle.queue_model.specs.Types.{Stream, Queue, Event, done, Step, re
 use Rattle.queue_model.specs.Streams.{stream-at, too-many, know, reschedule-each}
 use Rattle.queue_model.specs.Refusals.{Check, checked, places-few, streams-full}
 
--- "also when a threshold below the amount is raised to or past it" (Rust: set_low_threshold); it tells the amount, which "the raise that fires it" leaves as it is
+-- "also when a threshold below the amount is raised to or past it" (Rust: set_low_threshold); it tells the amount, which "the raise that fires it"
+-- leaves as it is
 -- (document 02, 2/13).
 unfoldable pub raised-event : Stream → ℕ → List Event
 raised-event s t = if ltb (s .threshold) (s .amount) && leb (s .amount) t then record { kind = 1; number = s .id; amount = s .amount } ∷ [] else []

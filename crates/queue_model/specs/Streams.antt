@@ -111,7 +111,8 @@ unfoldable pub weight-of : Bool → Stream → Weight
 weight-of true s = weighted (s .priority)
 weight-of false s = round-robin
 
--- Let a stream wait with its first message, or end its waiting if it has none. "A weight is read when the stream begins to wait, and at a drop ...": here, and after a last
+-- Let a stream wait with its first message, or end its waiting if it has none. "A weight is read when the stream begins to wait, and at a drop ...":
+-- here, and after a last
 -- fragment (`handed-out-last`).
 unfoldable pub reschedule : Bool → Stream → Scheduler → Scheduler
 unfolding set-bytes-remaining head-size weight-of

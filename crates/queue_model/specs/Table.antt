@@ -1,4 +1,5 @@
--- Rows in ascending order of a number that tells them apart, their key. The known streams are such a table (by id), and so are the scheduler's entries (by stream id). Assumes nothing.
+-- Rows in ascending order of a number that tells them apart, their key. The known streams are such a table (by id), and so are the scheduler's entries
+-- (by stream id). Assumes nothing.
 use mathlib.Core.List.{List, [], _∷_}
 use mathlib.Core.Option.{Option, none, some}
 use Prim.Native.Nat.{ℕ, _+_, _<_}

@@ -1,4 +1,5 @@
--- The fragments of a message stand together in what a queue without interleaving has sent, changeovers included: what the association relies on in document 02's 10/13 ("RFC 9260 gives the
+-- The fragments of a message stand together in what a queue without interleaving has sent, changeovers included: what the association relies on in
+-- document 02's 10/13 ("RFC 9260 gives the
 -- fragments of a DATA message consecutive TSNs"), as types over the model. Assumes nothing.
 use mathlib.Core.Path.{_≡_}
 use mathlib.Core.Bool.{Bool, false}
@@ -35,7 +36,8 @@ abbrev pub All : {A : Type 0} → (A → Type 0) → List A → Type 0
 All P [] = Unit {0}
 All P (x ∷ xs) = P x × All P xs
 
--- The list never has another message between two fragments of one, by message ids: if no fragment between f and g begins g's message anew, then f and all between are of g's message.
+-- The list never has another message between two fragments of one, by message ids: if no fragment between f and g begins g's message anew, then f and
+-- all between are of g's message.
 abbrev pub Together : {A : Type 0} → (A → Bool) → (A → ℕ) → List A → Type 0
 Together {A} first id fs =
     (before between behind : List A) (f g : A)
@@ -57,20 +59,24 @@ pub record Continues (f g : Fragment) : Type 0 where
 abbrev pub starts : Fragment → Bool
 starts f = f .first
 
--- The fragments of every sending of a message stand in order and with nothing between them. A message may stop short, where it expires or is discarded. A head that the whole-queue reset
+-- The fragments of every sending of a message stand in order and with nothing between them. A message may stop short, where it expires or is discarded.
+-- A head that the whole-queue reset
 -- puts back whole is sent again from its first fragment on: that is another sending.
 abbrev pub Unbroken : List Fragment → Type 0
 Unbroken fs = UnbrokenBehind starts Continues none fs
 
 -- ------------------------------------------------------------------ what a queue has sent
 
--- A call that neither switches interleaving on nor restores. A filling shows a packet; it stands in the list by the calls for the next fragment that it is made of (document 02, 5/13;
+-- A call that neither switches interleaving on nor restores. A filling shows a packet; it stands in the list by the calls for the next fragment that it
+-- is made of (document 02, 5/13;
 -- `Request10-packets`).
 abbrev pub Onward : Call → Queue → Type 0
 Onward c q = Uninterleaved ⊥ (λ x. ⊥) c q
 
--- The queue and all fragments sent until it: of a new queue none; then those that the calls show; and over any number of changeovers, at any points, the list goes on. The new host's queue is
--- a new one, created alike and without interleaving, that restores at any allowed time the image that this queue saves at any time (demand 2: it is accepted). An image of unknown origin has
+-- The queue and all fragments sent until it: of a new queue none; then those that the calls show; and over any number of changeovers, at any points, the
+-- list goes on. The new host's queue is
+-- a new one, created alike and without interleaving, that restores at any allowed time the image that this queue saves at any time (demand 2: it is
+-- accepted). An image of unknown origin has
 -- no place here: the fragments of its half-sent message are in no list.
 pub data Sends (o : Options) : Queue → List Fragment → Type 0 where
   begins : Created o → Sends o (new-queue o) []
@@ -100,7 +106,8 @@ pub record RestOf (k : ℕ) (i : Item) (g : Fragment) : Type 0 where
   pub its-message : g .message-id ≡ i .message-id
   pub not-first : starts g ≡ false
 
--- "and send its rest first": in a queue that never had interleaving, while a stream's first message is half-sent and has not expired, the next fragment is of it.
+-- "and send its rest first": in a queue that never had interleaving, while a stream's first message is half-sent and has not expired, the next fragment
+-- is of it.
 unfoldable pub Request10-rest : Type 0
 Request10-rest =
     (o : Options) (q : Queue) (k : ℕ) (s : Stream) (i : Item) (is : List Item) (store places buffer now size : ℕ) (g : Fragment)

@@ -1,4 +1,5 @@
--- What a host sees of waiting (request 11/13, "any stretch in which two streams always wait"): an open stream waits exactly while its amount is above 0. Assumes nothing.
+-- What a host sees of waiting (request 11/13, "any stretch in which two streams always wait"): an open stream waits exactly while its amount is above 0.
+-- Assumes nothing.
 use Prim.Native.Nat.{ℕ, _<_}
 use mathlib.Core.Bool.{Bool, true, false}
 use mathlib.Core.List.{List, [], _∷_}
@@ -20,8 +21,10 @@ unfoldable pub is-waiting : ℕ → Queue → Bool
 unfolding find is-some
 is-waiting k q = is-some (find-active k (q .scheduler .active))
 
--- Whether a stream waits, told by its state and its amount. An open or a pending stream waits exactly while its amount is above 0. A paused or a resetting one waits only while it is above 0, and
--- not always then: "closing to paused ends that, and messages added to a paused or resetting stream do not start it", but "switching interleaving, or a discard, schedules a paused stream".
+-- Whether a stream waits, told by its state and its amount. An open or a pending stream waits exactly while its amount is above 0. A paused or a
+-- resetting one waits only while it is above 0, and
+-- not always then: "closing to paused ends that, and messages added to a paused or resetting stream do not start it", but "switching interleaving, or a
+-- discard, schedules a paused stream".
 abbrev pub WaitsBy : PauseState → ℕ → Bool → Type 0
 WaitsBy not-paused amount waits = waits ≡ ltb 0 amount
 WaitsBy pending amount waits = waits ≡ ltb 0 amount

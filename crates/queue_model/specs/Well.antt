@@ -1,4 +1,5 @@
--- The invariant of every queue that creation and calls lead to (theorem `reachable-well`): numbers have their widths, amounts and counts are sums, limits hold, and the scheduler lists streams that wait with their first message. Assumes nothing.
+-- The invariant of every queue that creation and calls lead to (theorem `reachable-well`): numbers have their widths, amounts and counts are sums,
+-- limits hold, and the scheduler lists streams that wait with their first message. Assumes nothing.
 use mathlib.Core.Path.{_≡_}
 use mathlib.Core.Bool.{Bool, true, false}
 use mathlib.Core.List.{List, [], _∷_}
@@ -107,7 +108,8 @@ pub record Waits (limit : ℕ) (P : Active → Type 0) (sc : Scheduler) : Type 0
 
 -- ------------------------------------------------------------------ the queue
 
--- Created so; the known streams by rising id, each well-formed; the total is the sum of the amounts; at most 256 streams, 1,024 messages, as many bytes as the store has; the scheduler is that of these streams.
+-- Created so; the known streams by rising id, each well-formed; the total is the sum of the amounts; at most 256 streams, 1,024 messages, as many bytes
+-- as the store has; the scheduler is that of these streams.
 pub record Well (q : Queue) : Type 0 where
   pub creation : Created (q .options)
   pub rising : Rising stream-key (q .streams)

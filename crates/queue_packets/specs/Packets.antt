@@ -1,4 +1,5 @@
--- Request 5/13 on the code: a packet is its separate calls for the next fragment, and its chunks, read by the reader of 1/13, give their fragments. Assumes nothing.
+-- Request 5/13 on the code: a packet is its separate calls for the next fragment, and its chunks, read by the reader of 1/13, give their fragments.
+-- Assumes nothing.
 use Prim.Native.Nat.{ℕ, _≤_}
 use mathlib.Core.Path.{_≡_}
 use mathlib.Core.List.{List, [], _∷_}
@@ -22,14 +23,16 @@ use Rattle.queue_runs.specs.Meaning.{queueOf}
 use Rattle.queue_runs.specs.Creation.{Arguments}
 use Rattle.queue_runs.specs.Demand3.{Reached}
 
--- Each chunk, read, is a fragment, in order: its TSN, what the chunk carries of the fragment, and the payload; "subject to the zero fields of chunks" (`ReadsBack` of 1/13).
+-- Each chunk, read, is a fragment, in order: its TSN, what the chunk carries of the fragment, and the payload; "subject to the zero fields of chunks"
+-- (`ReadsBack` of 1/13).
 abbrev pub EachRead : ChunkKind → ℕ → List Fragment → List (List ℕ) → Type 0
 EachRead k tsn [] [] = Unit {0}
 EachRead k tsn [] (c ∷ cs) = ⊥
 EachRead k tsn (f ∷ fs) [] = ⊥
 EachRead k tsn (f ∷ fs) (c ∷ cs) = ReadsBack c k tsn (dataOf f) (f .bytes) × EachRead k (wrap-suc 32 tsn) fs cs
 
--- What an accepted filling answered with k events, n bytes and m chunks is: the separate calls for the next fragment, asked for document 02's sizes, on the queue that words and store stand for.
+-- What an accepted filling answered with k events, n bytes and m chunks is: the separate calls for the next fragment, asked for document 02's sizes, on
+-- the queue that words and store stand for.
 pub record Separately (s : State) (es bs : List ℕ) (time : ℕ) (p : Packet) (k n m : ℕ) : Type 0 where
   pub sizes : List ℕ
   -- "The size asked for is [..]. Filling ends when that size is 0 or less or nothing is waiting."

@@ -37,7 +37,8 @@ pub record PlanWorks (a : Arguments) (s : State) (ids sizes ps : List ℕ) : Typ
   pub keeps-order : (ms : List Adding) → Load a s ids sizes ps ms → KeepsOrder a s ids ps ms
   pub serves-all : (ms : List Adding) → Load a s ids sizes ps ms → ServesAll a s ids ps ms
 
--- "From the payload limit, the stream ids in that order and each first message's size, give priorities from 1 to 65,535 which, set on a new interleaving queue before the messages
+-- "From the payload limit, the stream ids in that order and each first message's size, give priorities from 1 to 65,535 which, set on a new interleaving
+-- queue before the messages
 -- are added, make the scheduler's finish times and ids put those first fragments in that order, if all those messages are accepted."
 unfoldable pub Request13-plan : Type 0
 Request13-plan =
@@ -47,7 +48,8 @@ Request13-plan =
 
 -- ------------------------------------------------------------------ and no smaller ones
 
--- A set of priorities that works by what the calls show: one from 1 to 65,535 for each stream, with which messages that are accepted get their first fragments in the list's order.
+-- A set of priorities that works by what the calls show: one from 1 to 65,535 for each stream, with which messages that are accepted get their first
+-- fragments in the list's order.
 pub record WorkingSet (a : Arguments) (s : State) (ids sizes qs : List ℕ) (ms : List Adding) : Type 0 where
   pub one-each : length qs ≡ length ids
   pub allowed : All IsPriority qs

@@ -30,7 +30,8 @@ dataOf id m n = record {
   length = n;
 }
 
--- "With it go message id, stream, unordered mark, the three counters, protocol id, first and last marks, retransmissions, expiry time or never, and lifecycle id": of
+-- "With it go message id, stream, unordered mark, the three counters, protocol id, first and last marks, retransmissions, expiry time or never, and
+-- lifecycle id": of
 -- a fragment of n bytes of a numbered message.
 unfoldable pub dataToSend : ℕ → Item → ℕ → DataToSend
 dataToSend id m n = record {

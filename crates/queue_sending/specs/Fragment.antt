@@ -40,7 +40,8 @@ unfoldable pub nextFirst : PauseState → ℕ → ℕ
 nextFirst state next = pick (isPaused state) 1024 next
 
 -- "When a pending stream's message ends or is discarded, it is paused".
--- "A last fragment ends its stream's waiting [..]; a message behind it, unless the stream is now paused, then makes the stream begin anew": after its n bytes the stream of the row `at`
+-- "A last fragment ends its stream's waiting [..]; a message behind it, unless the stream is now paused, then makes the stream begin anew": after its n
+-- bytes the stream of the row `at`
 -- waits with what is behind the message, or not. "A weight is read when the stream begins to wait".
 unfoldable pub waitingOn : List ℕ → ℕ → ℕ → OutgoingStream → ℕ → ℕ → List ℕ
 waitingOn ws at id s next n =

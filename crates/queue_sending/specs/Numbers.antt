@@ -28,7 +28,8 @@ nextFsn f = record { 0 = wrapping-add 32 (f .0) 1 }
 abbrev pub nextNumbers : OutgoingStream → Bool → Numbers
 nextNumbers s unordered = pick unordered (Given (s .«next_unordered_mid») (record { 0 = 0 })) (Given (s .«next_ordered_mid») (s .«next_ssn»))
 
--- "A message gets its MID when its first fragment is made, ordered and unordered counting separately in each stream; only ordered ones get an SSN, others show 0."
+-- "A message gets its MID when its first fragment is made, ordered and unordered counting separately in each stream; only ordered ones get an SSN,
+-- others show 0."
 unfoldable pub numberedItem : OutgoingStream → Item → Item
 numberedItem s m = pick (areGiven (m .numbers)) m (withNumbers m (nextNumbers s (m .unordered)))
 

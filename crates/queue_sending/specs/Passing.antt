@@ -7,7 +7,8 @@ use Rattle.queue_streams.specs.Events.{placeWords}
 use Rattle.undo_log.specs.Log.{header, undone}
 use Rattle.queue_sending.specs.Produce.{passed}
 
--- Where passing over ws and es with n messages and k events stands after `drops` drops, of at most `room`: the words are us, the events vs, and the log has what undoes them.
+-- Where passing over ws and es with n messages and k events stands after `drops` drops, of at most `room`: the words are us, the events vs, and the log
+-- has what undoes them.
 pub record Kept (room : ℕ) (ws es : List ℕ) (time n k : ℕ) (log us vs : List ℕ) (left count drops : ℕ) : Type 0 where
   pub few : drops ≤ room
   -- what is left to do leaves what all of it leaves

@@ -21,7 +21,8 @@ use Rattle.queue_sending.specs.declared.choice.Look.the-variants as look
 use Rattle.queue_sending.specs.declared.data.Produced.{Produced}
 use Rattle.queue_sending.specs.declared.data.Produced.the-variants as produced
 
--- The refusals that what is lent and asked for decides. 3: "the event list has fewer than 2,305 places." 4: "A time or lifetime is above 4,611,686,018,427,387,903."
+-- The refusals that what is lent and asked for decides. 3: "the event list has fewer than 2,305 places." 4: "A time or lifetime is above
+-- 4,611,686,018,427,387,903."
 -- 9: "The size asked for is outside 1 to 262,144." 10: "The fragment buffer is shorter than the size asked for."
 abbrev pub lentCode : ℕ → ℕ → ℕ → ℕ → ℕ
 lentCode places room time size =
@@ -35,7 +36,8 @@ lentCode places room time size =
 unfoldable pub produceCode : List ℕ → ℕ → ℕ → ℕ → ℕ → ℕ → ℕ
 produceCode ws len places room time size = pick (eqb (optionsAt ws .«store_length») len) (lentCode places room time size) 2
 
--- "An expired head of the chosen stream is dropped, half-sent or not"; "A stream stays as it was when its half-sent message expires", but document 02, 3/13: "When a pending
+-- "An expired head of the chosen stream is dropped, half-sent or not"; "A stream stays as it was when its half-sent message expires", but document 02,
+-- 3/13: "When a pending
 -- stream's half-sent head expires, the stream becomes paused". After k events.
 unfoldable pub expiredDropped : List ℕ → List ℕ → ℕ → ℕ → ℕ → CalledWith
 expiredDropped ws es k id row =
@@ -58,7 +60,8 @@ afterDrop again ws es bs (call.Refused code) = refusedWith code ws es bs
 abbrev pub afterCall : (List ℕ → List ℕ → ℕ → ProducedWith) → List ℕ → CalledWith → ProducedWith
 afterCall again bs c = afterDrop again (c .next) (c .events) bs (c .answer)
 
--- "An expired head of the chosen stream is dropped, half-sent or not, and the choice begins again; with no stream left the answer is that nothing waits, and the drops
+-- "An expired head of the chosen stream is dropped, half-sent or not, and the choice begins again; with no stream left the answer is that nothing waits,
+-- and the drops
 -- and their events stand." "Passing over expired heads is a function that calls itself with one waiting message fewer": the first number is how many wait.
 unfoldable pub passOver : ℕ → List ℕ → List ℕ → List ℕ → List ℕ → ℕ → ℕ → ℕ → ProducedWith
 passOver zero ws st es bs time size k = afterLook (λ (id row : ℕ). refusedWith 16 ws es bs) ws st es bs size k (lookAhead ws time)

@@ -1,4 +1,5 @@
--- ONE STEP of a call on the stream in position i: what a call has to show, and what follows for the whole state. Every call's link goes through this. Assumes nothing.
+-- ONE STEP of a call on the stream in position i: what a call has to show, and what follows for the whole state. Every call's link goes through this.
+-- Assumes nothing.
 use mathlib.Core.Path.{_≡_, refl, sym, ap, _∙_, subst}
 use mathlib.Core.List.{List, [], _∷_}
 use Prim.Native.Nat.{ℕ, _+_, _≤_, _<_}

@@ -44,7 +44,8 @@ pub record Reports (c : run.Call) (ws st es : List ℕ) (a : Call) (ws′ st′ 
   pub does : Does c ws st a ws′ st′
   pub events : es′ ≡ written es 0 (shown c ws st .events)
 
--- "If an answer is an enum, a definition states this paper's number and values for each case of the enum. The promises use that definition." Of a call: its number and how many events it tells are the model's.
+-- "If an answer is an enum, a definition states this paper's number and values for each case of the enum. The promises use that definition." Of a call:
+-- its number and how many events it tells are the model's.
 pub record Tells (o : Outcome) (a : Call) : Type 0 where
   pub number : callNumber a ≡ answer-number (o .answer)
   pub events : callEvents a ≡ event-count o

@@ -1,4 +1,5 @@
--- Commit, rollback and switching interleaving leave nothing undone, on any words (specs/Settled): where they are not refused, no step of their walk is. Assumes nothing.
+-- Commit, rollback and switching interleaving leave nothing undone, on any words (specs/Settled): where they are not refused, no step of their walk is.
+-- Assumes nothing.
 use mathlib.Core.Path.{_≡_, refl, sym, ap, subst}
 use mathlib.Core.Bool.{Bool, true, false, not}
 use mathlib.Core.List.{List}

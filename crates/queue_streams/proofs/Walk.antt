@@ -1,4 +1,5 @@
--- A walk over the known streams that lets them wait, one after another, once there is room (`roomFor`, specs/Waiting): on any words no step of it is refused. Commit, rollback, switching interleaving and the
+-- A walk over the known streams that lets them wait, one after another, once there is room (`roomFor`, specs/Waiting): on any words no step of it is
+-- refused. Commit, rollback, switching interleaving and the
 -- whole-queue reset are such walks. Assumes nothing.
 use mathlib.Core.Path.{_≡_, refl, sym, ap, _∙_, subst}
 use mathlib.Core.Bool.{Bool, true, false}
@@ -110,7 +111,8 @@ module _ (ws : List ℕ) (all : Bool) where
 
 -- ------------------------------------------------------------------ the walk
 
--- On the way from ws to us: the rows suffice, the known streams are as they were, and so is which message is first; a stream that is still to be let wait was to be at the start.
+-- On the way from ws to us: the rows suffice, the known streams are as they were, and so is which message is first; a stream that is still to be let
+-- wait was to be at the start.
 pub record Kept (ws : List ℕ) (all : Bool) (us : List ℕ) (r : ℕ) : Type 0 where
   pub reserved : Reserved ws us r
   pub same-known : (j : ℕ) → j < 256 → knownAt us j ≡ knownAt ws j

@@ -1,4 +1,5 @@
--- "If an answer is an enum, a definition states this paper's number and values for each case of the enum." The number: 0 where a call is accepted or a question answered, else the refusal's of document 01. Assumes nothing.
+-- "If an answer is an enum, a definition states this paper's number and values for each case of the enum." The number: 0 where a call is accepted or a
+-- question answered, else the refusal's of document 01. Assumes nothing.
 use Prim.Native.Nat.{ℕ}
 use mathlib.Core.Bool.{Bool, true, false}
 use Rattle.queue_streams.specs.declared.answers.Call.{Call}

@@ -5,7 +5,8 @@ use lib.ListN.{length, set}
 use Rattle.queue_model.specs.Refusals.{event-places}
 use Rattle.queue_model.specs.Types.{Event}
 
--- The words of a place: kind, number and, since document 02, 2/13, the amount: "Kinds 1 and 2 now carry it as a third number, the amount after the fall, stepped as in the
+-- The words of a place: kind, number and, since document 02, 2/13, the amount: "Kinds 1 and 2 now carry it as a third number, the amount after the fall,
+-- stepped as in the
 -- Rust, or the raise that fires it; kinds 3 and 4 carry 0."
 abbrev pub placeWords : ℕ
 placeWords = 3

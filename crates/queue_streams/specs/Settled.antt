@@ -1,5 +1,7 @@
--- What commit, rollback and switching interleaving must not leave undone, on the words. Each asks for room first (`roomFor`, specs/Waiting) and then lets stream after stream wait, dropping the scheduler's
--- answer (`rescheduled`). Here the dropped answers are written out, step by step; that all are `true` is proved in proofs/Settled, on any words. Assumes nothing.
+-- What commit, rollback and switching interleaving must not leave undone, on the words. Each asks for room first (`roomFor`, specs/Waiting) and then
+-- lets stream after stream wait, dropping the scheduler's
+-- answer (`rescheduled`). Here the dropped answers are written out, step by step; that all are `true` is proved in proofs/Settled, on any words. Assumes
+-- nothing.
 use Prim.Native.Nat.{ℕ, _<_}
 use mathlib.Core.Bool.{Bool, true, false}
 use mathlib.Core.List.{List}
@@ -19,7 +21,8 @@ use Rattle.queue_streams.specs.Restart.{opened, reopenedAll, withInterle
 unfoldable pub rescheduleDone : List ℕ → Bool → ℕ → ℕ → ℕ → Bool
 rescheduleDone ws il id first p = setBytesRemaining ws id (headSize ws first) (parametersFor il p) .done
 
--- A step of commit or rollback (`reopenedIn`, specs/Restart): "both let a stream with messages wait". A resetting stream that is not let wait has no message: its first place is 1,024, and none outside the table.
+-- A step of commit or rollback (`reopenedIn`, specs/Restart): "both let a stream with messages wait". A resetting stream that is not let wait has no
+-- message: its first place is 1,024, and none outside the table.
 unfoldable pub reopenDoneIn : Bool → Bool → List ℕ → ℕ → ℕ → OutgoingStream → Bool
 reopenDoneIn zeroed il ws id place s =
     pick (isResetting (s .«pause_state»))

@@ -13,7 +13,8 @@ const TOTALS: usize = 7;
 
 const SCHEDULER: usize = 18;
 
-// Document 02, 6/13: "Creation chooses the rule, as in the Rust or strict." How a whole-queue reset puts a half-sent message back: with its numbers, as dcSCTP does, or as one
+// Document 02, 6/13: "Creation chooses the rule, as in the Rust or strict." How a whole-queue reset puts a half-sent message back: with its numbers, as
+// dcSCTP does, or as one
 // that was never begun, as RFC 8260 has it.
 pub enum RestartRule {
     Dcsctp,

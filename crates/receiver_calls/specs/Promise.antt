@@ -1,4 +1,5 @@
--- What is promised of the receiving head's calls on any words, any store and any bytes: "nothing changes in the queue or in any lent buffer when a call is refused, and it gives back only the
+-- What is promised of the receiving head's calls on any words, any store and any bytes: "nothing changes in the queue or in any lent buffer when a call
+-- is refused, and it gives back only the
 -- number of document 01's list", to which document 02's numbers join. Assumes nothing.
 use Prim.Native.Nat.{ℕ, _<_}
 use mathlib.Core.Path.{_≡_}

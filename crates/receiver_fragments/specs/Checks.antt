@@ -52,10 +52,12 @@ isAhead ws last t = pick (is-far t last) false (aheadAt ws t)
 unfoldable pub holdsPlace : List ℕ → Bool → Fragment → Bool
 holdsPlace ws b f = pick b (ltb (findRow ws 1 f) 4096) false
 
--- "A TSN not after the last one received without a gap [..] is a repeat, as is one accepted [..] or an I-DATA fragment [..]": of a fragment whose TSN is not held
+-- "A TSN not after the last one received without a gap [..] is a repeat, as is one accepted [..] or an I-DATA fragment [..]": of a fragment whose TSN is
+-- not held
 unfoldable pub repeats : List ℕ → Bool → ℕ → Fragment → Bool
 repeats ws b last f = pick (is-after (f .tsn) last) (pick (isAhead ws last (f .tsn)) true (holdsPlace ws b f)) true
 
--- "23 when the payload is longer than the free store or it would be the 4,097th held fragment or from the 257th stream"; t is the stream's row, 256 for a 257th stream; 16 for a count of streams above 256
+-- "23 when the payload is longer than the free store or it would be the 4,097th held fragment or from the 257th stream"; t is the stream's row, 256 for
+-- a 257th stream; 16 for a count of streams above 256
 unfoldable pub admitCode : List ℕ → ℕ → ℕ → ℕ → ℕ
 admitCode ws len n t = pick (leb 4096 (wordAt Header ws 0 4)) 23 (pick (ltb 256 t) 16 (pick (eqb t 256) 23 (roomCode ws len n)))

@@ -19,7 +19,8 @@ use Rattle.receiver_fragments.specs.declared.freeing.Measure.{Measure}
 abbrev pub measure : Bool → ℕ → Measure
 measure ok left = record { ok = ok; left = left }
 
--- whether the rows of the message that begins with row i, at most n of them, are all there with their payloads in a store of len bytes, and how many of the used bytes are left without them
+-- whether the rows of the message that begins with row i, at most n of them, are all there with their payloads in a store of len bytes, and how many of
+-- the used bytes are left without them
 unfoldable pub measured : ℕ → List ℕ → Bool → ℕ → ℕ → ℕ → Measure
 measured zero ws b i len left = measure false left
 measured (suc n) ws b i len left =
@@ -49,7 +50,8 @@ pub record HandedOut : Type 0 where
 abbrev pub handedOut : List ℕ → List ℕ → HandedOut
 handedOut ws out = record { words = ws; buffer = out }
 
--- the payloads of a message's rows from row i on go to the buffer one after another, from `at` on, and the rows are free; at most n of them, and no further past a row of more than 2,000,000 bytes
+-- the payloads of a message's rows from row i on go to the buffer one after another, from `at` on, and the rows are free; at most n of them, and no
+-- further past a row of more than 2,000,000 bytes
 unfoldable pub handOut : ℕ → List ℕ → List ℕ → List ℕ → Bool → ℕ → ℕ → HandedOut
 handOut zero ws st out b i at = handedOut ws out
 handOut (suc n) ws st out b i at =

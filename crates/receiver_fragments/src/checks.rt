@@ -113,7 +113,8 @@ pub fn repeats(receiver: &[u64; RECEIVER_WORDS], interleaved: bool, last: u32, f
     true
 }
 
-// "23 when the payload is longer than the free store or it would be the 4,097th held fragment or from the 257th stream"; 0 where none holds. t is the stream's row.
+// "23 when the payload is longer than the free store or it would be the 4,097th held fragment or from the 257th stream"; 0 where none holds. t is the
+// stream's row.
 pub fn admit_code(receiver: &[u64; RECEIVER_WORDS], len: u64, n: u64, t: usize) -> u8
     ensures { λ r. ⌜ r ≡ admitCode (now (receiver .entry)) len n t ⌝ }
 {

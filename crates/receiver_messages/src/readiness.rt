@@ -49,7 +49,8 @@ fn promote(receiver: &mut [u64; RECEIVER_WORDS], interleaved: bool, stream: u16,
     number
 }
 
-// A message is whole: f is the fragment of its first row i, `next` the number that is next in its stream. "Unordered ones are ready when complete, ordered ones when also next in
+// A message is whole: f is the fragment of its first row i, `next` the number that is next in its stream. "Unordered ones are ready when complete,
+// ordered ones when also next in
 // their stream". Answers the number that is next then.
 pub fn queue_up(
     receiver: &mut [u64; RECEIVER_WORDS],

@@ -148,7 +148,8 @@ fn missing_before(receiver: &[u64; RECEIVER_WORDS], interleaved: bool, i: usize)
     j >= 4096
 }
 
-// The first row of the message that row i, which came last, makes whole; 4096 where it makes none whole. Its neighbours are looked for first: so fragments that come in order, or in reverse, cost no walk but
+// The first row of the message that row i, which came last, makes whole; 4096 where it makes none whole. Its neighbours are looked for first: so
+// fragments that come in order, or in reverse, cost no walk but
 // for the last one that was missing.
 pub fn completes(receiver: &[u64; RECEIVER_WORDS], interleaved: bool, i: usize) -> usize
     requires { ⌜ i < 4096 ⌝ }

@@ -33,7 +33,8 @@ message-of s u p = record { stream = s; unordered = u; ppid = 7; payload = p }
 
 -- ------------------------------------------------------------------ DATA
 
--- Store 100, starting TSN 4,294,967,295. Two ordered messages on stream 5: TSNs 4,294,967,295 and 0, then TSN 1. The later one arrives first and waits; the missing fragment makes both
+-- Store 100, starting TSN 4,294,967,295. Two ordered messages on stream 5: TSNs 4,294,967,295 and 0, then TSN 1. The later one arrives first and waits;
+-- the missing fragment makes both
 -- ready; a fragment that comes again is a repeat, held or fetched.
 abbrev two : List Call
 two =
@@ -86,7 +87,8 @@ interleaved = refl
 
 -- ------------------------------------------------------------------ refusals
 
--- 2 at another store length, 19 for bytes that are no chunk and for the other kind, 22 from 1,025 past on, 23 for a payload above the free store, 24 for another payload at a TSN held (also
+-- 2 at another store length, 19 for bytes that are no chunk and for the other kind, 22 from 1,025 past on, 23 for a payload above the free store, 24 for
+-- another payload at a TSN held (also
 -- where it would be a repeat), 10 for a short buffer; a refused call changes nothing.
 pub refusals : run (
     receive 3 (some (data-chunk 10 5 false true true 0 (1 ∷ [])))

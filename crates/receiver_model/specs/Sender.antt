@@ -1,4 +1,5 @@
--- The send queue as the receiver's sender (document 02, 7/13): "all fragments, fewer than 2^31, of a new queue that sent every message whole, had no drop, reset, close or restore and
+-- The send queue as the receiver's sender (document 02, 7/13): "all fragments, fewer than 2^31, of a new queue that sent every message whole, had no
+-- drop, reset, close or restore and
 -- numbered its TSNs consecutively from the starting TSN". Assumes nothing.
 use Prim.Native.Nat.{ℕ, suc, _+_, _%_, _^_, _≤_, _<_}
 use mathlib.Core.Path.{_≡_}
@@ -25,7 +26,8 @@ use Rattle.receiver_model.specs.Claim.{Move, arrivals, AllAccepted, as-c
 
 -- ------------------------------------------------------------------ fragments as chunks
 
--- A fragment as its chunk is read (1/13): "a written fragment returns the same but for those fields at 0". DATA carries the SSN; I-DATA the MID, "and the protocol id on a first fragment
+-- A fragment as its chunk is read (1/13): "a written fragment returns the same but for those fields at 0". DATA carries the SSN; I-DATA the MID, "and
+-- the protocol id on a first fragment
 -- or the FSN on others".
 unfoldable pub as-chunk : Kind → ℕ → Fragment → Chunk
 as-chunk DATA t f = record { kind = DATA; tsn = t; stream = f .stream-id; unordered = f .unordered; first = f .first; last = f .last; ssn = f .ssn; mid = 0; fsn = 0; ppid = f .ppid; bytes = f .bytes }
@@ -129,7 +131,8 @@ abbrev pub MaySwitch : Kind → Bool → Type 0
 MaySwitch DATA b = b ≡ false
 MaySwitch I-DATA b = Unit {0}
 
--- "no drop, reset, close or restore": no next fragment that passes over an expired message, no discard that takes a message out. (Where no stream was closed, asking for ready ids,
+-- "no drop, reset, close or restore": no next fragment that passes over an expired message, no discard that takes a message out. (Where no stream was
+-- closed, asking for ready ids,
 -- commit and rollback change nothing. A filling is the next fragments that it is made of, 5/13: they stand in its place.)
 abbrev pub Undisturbing : Kind → calls.Call → Queue → Type 0
 Undisturbing k (add store now m) q = Unit {0}
@@ -179,7 +182,8 @@ abbrev pub InOrder : List queue.Message → ℕ → List ℕ → ℕ → Type 0
 InOrder ms s [] low = Unit {0}
 InOrder ms s (m ∷ more) low = in-order-if (ordered-of ms s m) (InOrder ms s more) m low
 
--- "each message comes out exactly once and those ordered in a stream come in queueing order": `order` are the places of what comes out among the messages queued.
+-- "each message comes out exactly once and those ordered in a stream come in queueing order": `order` are the places of what comes out among the
+-- messages queued.
 pub record Arrived (ms : List queue.Message) (out : List Message) : Type 0 where
   pub order : List ℕ
   pub are : out ≡ map (λ (m : ℕ). as-received (getD ms m no-message)) order
@@ -199,7 +203,8 @@ Delivers =
     → (Fetch.fetch store 0 (after (map (as-call (chunk-of k start (sent-by cs (new-queue o))) store) moves) (new-receiver k store start))) .answer ≡ none-ready
     → Arrived (queued-by cs (new-queue o)) (came-out (run (map (as-call (chunk-of k start (sent-by cs (new-queue o))) store) moves) (new-receiver k store start)))
 
--- What holds at any time, before all has arrived: every message that came out was queued, none came out twice, and those ordered in a stream came in queueing order.
+-- What holds at any time, before all has arrived: every message that came out was queued, none came out twice, and those ordered in a stream came in
+-- queueing order.
 pub record ArrivedSoFar (ms : List queue.Message) (out : List Message) : Type 0 where
   pub order : List ℕ
   pub are : out ≡ map (λ (m : ℕ). as-received (getD ms m no-message)) order

@@ -118,7 +118,8 @@ cameOut os = came-out (answersOf os)
 
 -- ------------------------------------------------------------------ the promise
 
--- "Feed it as chunks all fragments [..] of a new queue [..] in any arrival order with repeats, and fetch until none is ready, with the store as left: unless one is refused, each message
+-- "Feed it as chunks all fragments [..] of a new queue [..] in any arrival order with repeats, and fetch until none is ready, with the store as left:
+-- unless one is refused, each message
 -- comes out exactly once and those ordered in a stream come in queueing order."
 abbrev pub Request7 : Type 0
 Request7 =

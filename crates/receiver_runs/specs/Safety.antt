@@ -1,4 +1,5 @@
--- Request 7/13 at any time, on the code: also when chunks are missing, come in any order and again, or are refused, what has come out was sent, is whole, came out once and in its turn.
+-- Request 7/13 at any time, on the code: also when chunks are missing, come in any order and again, or are refused, what has come out was sent, is
+-- whole, came out once and in its turn.
 -- Assumes nothing.
 use Prim.Native.Nat.{ℕ, _<_}
 use mathlib.Core.Path.{_≡_}
@@ -41,7 +42,8 @@ Safe =
     → Creates i-data start s → AllTyped (length (s .store)) cs → AllCarrySent (S .chunk) (S .total) cs
     → SoFar S (cameOut (run cs (newReceiver i-data start s)))
 
--- Of a send queue's own fragments, written as chunks by 1/13's writer: whichever of them have arrived, in whatever order and however often, and whatever was refused.
+-- Of a send queue's own fragments, written as chunks by 1/13's writer: whichever of them have arrived, in whatever order and however often, and whatever
+-- was refused.
 abbrev pub SafeSent : Type 0
 SafeSent =
     (i-data : Bool) (start : ℕ) (a : Arguments) (q : State) (cs : List queue.Call) (s : State) (fs : List Feed)

@@ -11,7 +11,8 @@ abbrev pub Below : List ℕ → ℕ → List ℕ → Type 0
 Below ws e [] = Unit {0}
 Below ws e (x ∷ xs) = (placeOf ws x + sizeOf ws x ≤ e) × Below ws (placeOf ws x) xs
 
--- the payloads of the held rows, newest first, lie apart in the store, in rising places from the oldest to the newest, below the end of the used part; the used bytes are theirs
+-- the payloads of the held rows, newest first, lie apart in the store, in rising places from the oldest to the newest, below the end of the used part;
+-- the used bytes are theirs
 pub record Laid (ws st held : List ℕ) : Type 0 where
   pub long : length ws ≡ 83472
   pub end-in : endOf ws ≤ length st

@@ -26,7 +26,8 @@ nowhere = start false 4096 0 0
 unfoldable pub goalOf : ℕ → ℕ → ℕ → ℕ
 goalOf used len n = used + (len - used - n) / 2
 
--- from row p down, the older ones, at most n of them: the first above which the rows, moved together, end at or below the goal. `row` is the one above p, its payload begins at `high`, and the rows from it on have `sum` bytes.
+-- from row p down, the older ones, at most n of them: the first above which the rows, moved together, end at or below the goal. `row` is the one above
+-- p, its payload begins at `high`, and the rows from it on have `sum` bytes.
 -- None where the chain ends or goes in a circle before, or a payload does not lie below the one above it
 unfoldable pub startFrom : ℕ → List ℕ → ℕ → ℕ → ℕ → ℕ → ℕ → Start
 startFrom zero ws goal p row high sum = nowhere

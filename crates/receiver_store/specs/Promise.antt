@@ -10,7 +10,8 @@ use Rattle.receiver_store.specs.Words.{sizeOf, usedOf, endOf, payloadOf}
 use Rattle.receiver_store.specs.Packing.{goalOf}
 use Rattle.receiver_store.specs.Good.{Laid}
 
--- moved together for a payload of n bytes: every held row has its payload; the n bytes have room at the end, and half of those that stay free have it behind them
+-- moved together for a payload of n bytes: every held row has its payload; the n bytes have room at the end, and half of those that stay free have it
+-- behind them
 pub record Packed (ws st held : List ℕ) (n : ℕ) (o : Outcome) : Type 0 where
   pub accepted : o .answer ≡ 0
   pub laid : Laid (o .words) (o .store) held

@@ -17,7 +17,8 @@ abbrev pub last-row : ℕ → List ℕ → ℕ
 last-row d [] = d
 last-row d (x ∷ xs) = last-row x xs
 
--- a chain both ways: p is the first of xs, each is followed by the next, and `back` leads from each to the one before it, from the first to q; `last` is the last one, q where there is none
+-- a chain both ways: p is the first of xs, each is followed by the next, and `back` leads from each to the one before it, from the first to q; `last` is
+-- the last one, q where there is none
 abbrev pub Both : (ℕ → ℕ) → (ℕ → ℕ) → ℕ → ℕ → ℕ → List ℕ → Type 0
 Both next back q p last [] = (p ≡ 4096) × (last ≡ q)
 Both next back q p last (x ∷ xs) = (p ≡ x) × (x < 4096) × (back x ≡ q) × Both next back x (next x) last xs

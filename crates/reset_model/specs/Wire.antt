@@ -36,7 +36,8 @@ unfolding number-bytes
 id-bytes [] = []
 id-bytes (k ∷ ks) = number-bytes 2 k ++ id-bytes ks
 
--- "flags 0 [..], one parameter"; type, flags and "a 16-bit length without padding" (1/13). The parameter: its type, then "length, request number, response number, last TSN
+-- "flags 0 [..], one parameter"; type, flags and "a 16-bit length without padding" (1/13). The parameter: its type, then "length, request number,
+-- response number, last TSN
 -- and the ready stream ids". The widths in bytes of all before the ids.
 abbrev pub request-widths : List ℕ
 request-widths = 1 ∷ 1 ∷ 2 ∷ 2 ∷ 2 ∷ 4 ∷ 4 ∷ 4 ∷ []

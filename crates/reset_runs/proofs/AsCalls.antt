@@ -1,4 +1,5 @@
--- The handler's calls as calls of the queue's (specs/AsCalls): a request takes the ready ids or nothing, a response is a commit, a rollback or nothing. Assumes nothing.
+-- The handler's calls as calls of the queue's (specs/AsCalls): a request takes the ready ids or nothing, a response is a commit, a rollback or nothing.
+-- Assumes nothing.
 use Prim.Native.Nat.{ℕ}
 use mathlib.Core.Path.{_≡_, refl, sym, ap, _∙_}
 use mathlib.Core.Bool.{Bool, true, false}

@@ -1,4 +1,5 @@
--- Refused calls of the handler (specs/Refusals): its own tests come before anything is written, and what it passes on is a refused call of the queue's. Assumes nothing.
+-- Refused calls of the handler (specs/Refusals): its own tests come before anything is written, and what it passes on is a refused call of the queue's.
+-- Assumes nothing.
 use Prim.Native.Nat.{ℕ}
 use mathlib.Core.Path.{_≡_, refl, sym, ap, _∙_, subst}
 use mathlib.Core.Bool.{Bool, true, false}

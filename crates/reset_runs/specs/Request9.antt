@@ -27,12 +27,14 @@ started n s = pair (handlerOf (model.start n)) s
 abbrev pub resettingIn : State → List ℕ
 resettingIn s = model.resetting-ids (queueOf s .streams)
 
--- "exactly the streams of the request underway are resetting, none without one": with one, its message is the last one written and names these streams, in ascending order.
+-- "exactly the streams of the request underway are resetting, none without one": with one, its message is the last one written and names these streams,
+-- in ascending order.
 abbrev pub Named : Underway → List ℕ → Option (List ℕ) → Type 0
 Named underway.Nothing ids last = ids ≡ []
 Named (underway.Number n) ids last = Message n ids last
 
--- "From its start on a new or restored queue, with ready ids, commit, rollback and that reset called only by it, exactly the streams of the request underway are resetting, none without
+-- "From its start on a new or restored queue, with ready ids, commit, rollback and that reset called only by it, exactly the streams of the request
+-- underway are resetting, none without
 -- one": after any list of the handler's calls, refused ones among them, and of other calls.
 unfoldable pub Request9 : Type 0
 unfolding after lastMessage

@@ -1,4 +1,5 @@
-// Restoring, last. Document 02, 10/13: "Restoring without interleaving shall remember the stream whose first message is half-sent, the smallest id if several are, and send its rest first."
+// Restoring, last. Document 02, 10/13: "Restoring without interleaving shall remember the stream whose first message is half-sent, the smallest id if
+// several are, and send its rest first."
 ghost use mathlib.Core.Path.{_≡_};
 ghost use Prim.Native.Nat.{_≤_};
 ghost use Rattle.restoring.specs.Recall.{halfSentAt, firstHalfSent, recalled};

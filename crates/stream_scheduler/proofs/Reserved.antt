@@ -1,4 +1,5 @@
--- Streams let wait one after another, on any words: one that had a row at the start, or for which one more row is counted, is never refused, though rows are taken out on the way. Assumes nothing.
+-- Streams let wait one after another, on any words: one that had a row at the start, or for which one more row is counted, is never refused, though rows
+-- are taken out on the way. Assumes nothing.
 use mathlib.Core.Path.{_≡_, refl, sym, ap, _∙_, subst}
 use mathlib.Core.Bool.{Bool, true, false}
 use mathlib.Core.List.{List, [], _∷_}

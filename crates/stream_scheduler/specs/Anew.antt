@@ -12,7 +12,8 @@ use Rattle.active_table.specs.Groups.{refreshed}
 use Rattle.stream_scheduler.specs.Rows.{advanced, scheduledRow}
 use Rattle.stream_scheduler.specs.Words.{Outcome, outcome, rested, stateOf, droppedRow}
 
--- "A last fragment ends its stream's waiting, which makes the system time 0 if no other stream waits; a message behind it [..] then makes the stream begin anew"; "A stream that
+-- "A last fragment ends its stream's waiting, which makes the system time 0 if no other stream waits; a message behind it [..] then makes the stream
+-- begin anew"; "A stream that
 -- begins waiting starts at the system time". Of n rows the row `at` is that of the stream, from that time on.
 unfoldable pub begunAnew : List ℕ → ℕ → ℕ → ℕ → ℕ → ℕ → ℕ → List ℕ
 begunAnew ws at id t bytes w n =

@@ -1,4 +1,5 @@
--- A drop put into the log: undone from there, the words behind the header are those that the log before it gives from the words before the drop. Assumes nothing.
+-- A drop put into the log: undone from there, the words behind the header are those that the log before it gives from the words before the drop. Assumes
+-- nothing.
 use mathlib.Core.Path.{_≡_, refl, sym, ap, subst, _∙_}
 use mathlib.Core.Bool.{Bool, true, false}
 use mathlib.Core.List.{List}

@@ -1,3 +1,4 @@
+-- Written by scripts/auto-proof; again, after `rt goals active_table`: scripts/auto-proof --again active_table four_behind
 -- `active_table::four_behind` meets its contract: each return is what its definition says, by what the calls ensure and the tests taken. Assumes nothing.
 use mathlib.Core.Path.{_∙_}
 use native.Mathlib.Omega.{arith}

@@ -216,7 +216,8 @@ module _ {M : Type 1} (𝓤 : URA M) (H : Heap 𝓤) (A : Atoms 𝓤) (W : Given
       begins =
           assigns ! (of-opd ! (lit ! tt)) (from ! (stop !)) (init ! 10 refl (tt, record { fits = lit< tt })) $
           move ! (19 ∷ []) $ fsplit ! $ fsplit ! $ move ! (1 ∷ []) $ fsplit ! $ move ! (22 ∷ []) $ split ! $
-          -- [the token; true; res; the borrow; what the slice says; the id's; _8 at 6; _7 at 8; _6 at 10; _5 at 12; _4 at 14; _3 at 16; _2 at 18; _1 at 20; _0 at 22]
+          -- [the token; true; res; the borrow; what the slice says; the id's; _8 at 6; _7 at 8; _6 at 10; _5 at 12; _4 at 14; _3 at 16; _2 at 18; _1 at
+          -- 20; _0 at 22]
           keep ! (0 ∷ 3 ∷ 16 ∷ 6 ∷ 7 ∷ 8 ∷ 9 ∷ 10 ∷ 11 ∷ 12 ∷ 13 ∷ 14 ∷ 15 ∷ 17 ∷ 18 ∷ 19 ∷ 20 ∷ 21 ∷ 22 ∷ 23 ∷ 4 ∷ 2 ∷ 5 ∷ []) $ first ! $ blocks ! $ loops ! 𝓣 Nearer Nearer-wf At turns start
 
     walk : ent 𝓤 (onEntry 𝓤 H A ids_behind.signature (κ, tt) (q, tt) (x, (id, tt)) at) (WpFn 𝓤 H (𝓣 .C) (𝓣 .Λ) code.function (v ∷ vint w16 id ∷ []) Post)

@@ -196,7 +196,8 @@ module _ {M : Type 1} (𝓤 : URA M) (H : Heap 𝓤) (A : Atoms 𝓤) (W : Given
       more t i e k =
           qed W (At i) ∵ exec ! C Λ En body.turn-1 (anyQ (afterTurn 𝓤 H (Below (suc t)) Left)) $
           move ! (3 ∷ 4 ∷ []) $
-          -- [the token; the borrow; i; best; what it owns; _10; …; _9; …; _8; …; _7; …; _6; …; …5; …4; _3; …; _2; …; _1; …; _0; …; what the slice says; res; the others']
+          -- [the token; the borrow; i; best; what it owns; _10; …; _9; …; _8; …; _7; …; _6; …; …5; …4; _3; …; _2; …; _1; …; _0; …; what the slice says;
+          -- res; the others']
           assigns ! (of-opd ! (load ! (from ! (fld ! refl (stop !))) (look-in ! 21 (sub ! 1 refl (whole !))))) (from ! (stop !)) (init ! 13 refl (tt, record { fits = room .0 })) $
           assigns ! (bin ! (load ! (from ! (stop !)) (look ! 2 refl)) (load ! (from ! (stop !)) (look ! 13 refl)) tt) (from ! (stop !)) (init ! 11 refl (tt, tt)) $
           rewrite ! 11 (λ (y : Bool). ‵ (fat fullShare tyBool l₇ 0 (vbool y))) (lt-ltb i n within) refl $
@@ -279,10 +280,12 @@ module _ {M : Type 1} (𝓤 : URA M) (H : Heap 𝓤) (A : Atoms 𝓤) (W : Given
       sets =
           qed W (Locals (fat fullShare (tyInt w64) l₅ 0 (vint w64 0)) (fat fullShare B′.mir l₄ 0 (fv start))) ∵
           move ! (23 ∷ []) $ fsplit ! $ fsplit ! $ move ! (1 ∷ []) $ fsplit ! $ move ! (26 ∷ []) $ split ! $
-          -- [the token; true; res; the borrow; what the slice says; the others'; _10 at 6; …; _9 at 8; _8 at 10; _7 at 12; _6 at 14; _5 at 16; _4 at 18; _3 at 20; _2 at 22; _1 at 24; _0 at 26]
+          -- [the token; true; res; the borrow; what the slice says; the others'; _10 at 6; …; _9 at 8; _8 at 10; _7 at 12; _6 at 14; _5 at 16; _4 at 18;
+          -- _3 at 20; _2 at 22; _1 at 24; _0 at 26]
           owned ! B.the-row (Is B.the-row) (LL.makes B.the-type B′.the-plain 𝓤 H A) start (fv start ∷ []) gs $
           move ! (19 ∷ 0 ∷ []) $ fjoin ! $ move ! (17 ∷ 0 ∷ []) $ fjoin ! $ feqI ! ℕ (0 + n) n (zero-add n) $ fjoin ! $ fpack ! ℕ (Turn n) 0 $
-          -- [the turn's; the token; true; res; the borrow; what the slice says; the others'; _10 at 7; …; _9 at 9; _8 at 11; _7 at 13; _6 at 15; …5 at 17; …4 at 18; _3 at 19; _2 at 21; _1 at 23; _0 at 25]
+          -- [the turn's; the token; true; res; the borrow; what the slice says; the others'; _10 at 7; …; _9 at 9; _8 at 11; _7 at 13; _6 at 15; …5 at
+          -- 17; …4 at 18; _3 at 19; _2 at 21; _1 at 23; _0 at 25]
           keep ! (0 ∷ 1 ∷ 4 ∷ 7 ∷ 8 ∷ 9 ∷ 10 ∷ 11 ∷ 12 ∷ 13 ∷ 14 ∷ 15 ∷ 16 ∷ 17 ∷ 18 ∷ 19 ∷ 20 ∷ 21 ∷ 22 ∷ 23 ∷ 24 ∷ 25 ∷ 26 ∷ 5 ∷ 3 ∷ 6 ∷ []) $ done !
 
       begins : Sq W (Locals (froom (tyInt w64) l₅ 0) (froom B′.mir l₄ 0)) (runs C Λ En body.t-1 (atRet En Post))

@@ -1,4 +1,5 @@
--- `active_table::least_among` meets its contract. Invariant of each loop: `best` is the best of what it had at the loop and the rows behind those before it, up to row i. Assumes nothing.
+-- `active_table::least_among` meets its contract. Invariant of each loop: `best` is the best of what it had at the loop and the rows behind those before
+-- it, up to row i. Assumes nothing.
 use mathlib.Core.Path.{_≡_}
 use Prim.Native.Nat.{_+_, _≤_, _-_}
 use native.Mathlib.Omega.{arith}

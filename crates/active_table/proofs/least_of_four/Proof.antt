@@ -1,4 +1,5 @@
--- `active_table::least_of_four` meets its contract: a walk of its MIR, by hand. `four_rows` makes the table, by value; it is stored in a local, and the local is lent, for a lifetime made for the call, as the `&[T]` that `least` takes.
+-- `active_table::least_of_four` meets its contract: a walk of its MIR, by hand. `four_rows` makes the table, by value; it is stored in a local, and the
+-- local is lent, for a lifetime made for the call, as the `&[T]` that `least` takes.
 -- Once the call is over the lifetime is ended, and the local is the function's again, to be freed.
 -- Assumes nothing.
 use mathlib.Core.Path.{_≡_, refl, sym, _∙_, subst}

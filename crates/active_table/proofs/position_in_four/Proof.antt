@@ -1,4 +1,5 @@
--- `active_table::position_in_four` meets its contract: a walk of its MIR, by hand. `four_rows` makes the table, by value; it is stored in a local, and the local is lent, for a lifetime made for the call, as the `&[T]` that `position` takes.
+-- `active_table::position_in_four` meets its contract: a walk of its MIR, by hand. `four_rows` makes the table, by value; it is stored in a local, and
+-- the local is lent, for a lifetime made for the call, as the `&[T]` that `position` takes.
 -- Once the call is over the lifetime is ended, and the local is the function's again, to be freed.
 -- Assumes nothing.
 use mathlib.Core.Path.{_≡_, refl, sym, _∙_, subst}

@@ -1,3 +1,4 @@
+-- Written by scripts/auto-proof; again, after `rt goals big_endian`: scripts/auto-proof --again big_endian read_u16
 -- `big_endian::read_u16` meets its contract: each return is what its definition says, by what the calls ensure and the tests taken. Assumes nothing.
 use borrow.Author.Needs.{needs}
 use Rattle.big_endian.proofs.Halves.{halves-read}

@@ -1,5 +1,7 @@
--- `image_reader::message_record` meets its contract: a walk of its MIR, by hand. The struct is taken apart, and `records::read_message` is called on the slice and the number. All that the proof knows of `read_message` is that it meets its contract.
--- The struct is Copy: what it owns is had twice, one copy is kept whole for the exit, and of the other what image owns goes to the callee, beside the lifetime's token, which comes back.
+-- `image_reader::message_record` meets its contract: a walk of its MIR, by hand. The struct is taken apart, and `records::read_message` is called on the
+-- slice and the number. All that the proof knows of `read_message` is that it meets its contract.
+-- The struct is Copy: what it owns is had twice, one copy is kept whole for the exit, and of the other what image owns goes to the callee, beside the
+-- lifetime's token, which comes back.
 -- Assumes nothing.
 use mathlib.Core.Path.{_≡_, refl}
 use Prim.Native.Nat.{_+_, _<_, _≤_, _^_}

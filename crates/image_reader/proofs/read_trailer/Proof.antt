@@ -1,5 +1,7 @@
--- `image_reader::read_trailer` meets its contract: a walk of its MIR, by hand. The `ImageReader` that one call returns is held in a local and passed to the next. All that the proof knows of `reader` and of `trailer_record` is that each meets its contract.
--- The machine value that `reader` returns is stored and passed on as it is. In a local of a body MIR erases the lifetime of the struct's type, so the value is shown to have the type at `erased`: what the struct owns does not say the lifetime's name.
+-- `image_reader::read_trailer` meets its contract: a walk of its MIR, by hand. The `ImageReader` that one call returns is held in a local and passed to
+-- the next. All that the proof knows of `reader` and of `trailer_record` is that each meets its contract.
+-- The machine value that `reader` returns is stored and passed on as it is. In a local of a body MIR erases the lifetime of the struct's type, so the
+-- value is shown to have the type at `erased`: what the struct owns does not say the lifetime's name.
 -- Assumes nothing.
 use mathlib.Core.Path.{_≡_, refl, ap, _∙_}
 use Prim.Native.Nat.{ℕ, _+_, _<_, _≤_, _^_}

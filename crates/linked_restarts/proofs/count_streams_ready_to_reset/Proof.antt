@@ -1,4 +1,5 @@
--- `linked_restarts::count_streams_ready_to_reset` meets its contract: what the call promises of the words implies the rest (proofs/Contracts.antt). Assumes nothing.
+-- `linked_restarts::count_streams_ready_to_reset` meets its contract: what the call promises of the words implies the rest (proofs/Contracts.antt).
+-- Assumes nothing.
 use borrow.Author.Needs.{needs}
 use Rattle.linked_restarts.proofs.Contracts.{count-meets}
 use Rattle.linked_restarts.proofs.count_streams_ready_to_reset.Statement.{statement}

@@ -1,4 +1,5 @@
--- `linked_restarts::enable_message_interleaving` meets its contract: what the call promises of the words implies the rest (proofs/Contracts.antt). Assumes nothing.
+-- `linked_restarts::enable_message_interleaving` meets its contract: what the call promises of the words implies the rest (proofs/Contracts.antt).
+-- Assumes nothing.
 use borrow.Author.Needs.{needs}
 use Rattle.linked_restarts.proofs.Contracts.{switch-meets}
 use Rattle.linked_restarts.proofs.enable_message_interleaving.Statement.{statement}

@@ -1,4 +1,5 @@
--- `payload_store::move_all` meets its contract: after k turns of the loop words, store and cursor are those of `turns` (`Going`), and what is kept of the groups holds (`Hints`). Assumes nothing.
+-- `payload_store::move_all` meets its contract: after k turns of the loop words, store and cursor are those of `turns` (`Going`), and what is kept of
+-- the groups holds (`Hints`). Assumes nothing.
 use borrow.Author.Needs.{needs}
 use mathlib.Core.Path.{_≡_, refl, sym, _∙_}
 use Prim.Native.Nat.{_-_}

@@ -1,4 +1,5 @@
--- Request 4/13 on the model: each stream holds exactly the messages that its ledger has, in order of arrival; and no head is passed over that has not expired. Assumes nothing.
+-- Request 4/13 on the model: each stream holds exactly the messages that its ledger has, in order of arrival; and no head is passed over that has not
+-- expired. Assumes nothing.
 use mathlib.Core.Path.{_≡_, refl, sym, ap, _∙_, subst}
 use mathlib.Core.Bool.{Bool, true, false}
 use mathlib.Core.List.{List, [], _∷_, _++_, map, append-assoc, append-nil}

@@ -1,4 +1,5 @@
--- A calm queue: all streams open, every stream with messages waiting from time 0, one remembered or none. A restored queue is calm, and discarding keeps it so. Assumes nothing.
+-- A calm queue: all streams open, every stream with messages waiting from time 0, one remembered or none. A restored queue is calm, and discarding keeps
+-- it so. Assumes nothing.
 use mathlib.Core.Path.{_≡_, refl, sym, ap, ap₂, _∙_, subst}
 use mathlib.Core.Bool.{Bool, true, false, _||_}
 use mathlib.Core.List.{List, [], _∷_, _++_}

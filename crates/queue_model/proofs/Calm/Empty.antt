@@ -1,4 +1,5 @@
--- Two calm queues without messages that cannot be told apart have the same counters and next message id: a tiny message added and sent shows them. Assumes nothing.
+-- Two calm queues without messages that cannot be told apart have the same counters and next message id: a tiny message added and sent shows them.
+-- Assumes nothing.
 use mathlib.Core.Path.{_≡_, refl, sym, ap, ap₂, _∙_, subst}
 use mathlib.Core.Bool.{Bool, true, false, not, _&&_, _||_}
 use mathlib.Core.List.{List, [], _∷_, _++_}

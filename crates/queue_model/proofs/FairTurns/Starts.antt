@@ -1,4 +1,5 @@
--- Where a stream's start moves: by its own fragments only, and then by their cost, also where a last fragment lets it begin anew while another stream waits. Assumes nothing.
+-- Where a stream's start moves: by its own fragments only, and then by their cost, also where a last fragment lets it begin anew while another stream
+-- waits. Assumes nothing.
 use mathlib.Core.Path.{_≡_, refl, sym, ap, _∙_}
 use mathlib.Core.Bool.{Bool, true, false}
 use mathlib.Core.List.{List, [], _∷_}

@@ -1,4 +1,5 @@
--- The bound of fair turns is reached: a run that meets every premise, in which the costs charged to two streams differ by exactly one full fragment of each. Assumes nothing.
+-- The bound of fair turns is reached: a run that meets every premise, in which the costs charged to two streams differ by exactly one full fragment of
+-- each. Assumes nothing.
 use mathlib.Core.Path.{_≡_, refl, ap, subst}
 use mathlib.Core.Bool.{true, false}
 use mathlib.Core.List.{List, [], _∷_, _++_}

@@ -1,4 +1,5 @@
--- What holds of every filling, by induction on its calls for the next fragment; and a filling on a well queue: the queue stays well, and no call answers 16. Assumes nothing.
+-- What holds of every filling, by induction on its calls for the next fragment; and a filling on a well queue: the queue stays well, and no call answers
+-- 16. Assumes nothing.
 use mathlib.Core.Path.{_≡_, refl, _∙_}
 use mathlib.Core.Bool.{Bool, true, false}
 use mathlib.Core.List.{List, [], _∷_}
@@ -38,7 +39,8 @@ module _ (idata : Bool) (store places now limit : ℕ) where
   abbrev pub with-chunk : ℕ → Fragment → ℕ
   with-chunk used f = used + chunk-length idata (length (f .bytes))
 
-  -- What holds where no size is left, of a last call, and of a call before others if of those, holds of all calls; on queues with a property that each call keeps. Each
+  -- What holds where no size is left, of a last call, and of a call before others if of those, holds of all calls; on queues with a property that each
+  -- call keeps. Each
   -- fragment uses bytes of the packet, so the turns suffice.
   module _ (Kind : Queue → Type 0) (keeps : (n : ℕ) (q : Queue) → Kind q → Kind ((call (suc n) q) .next)) (P : ℕ → Queue → Filling → Type 0)
       (on-none : (used : ℕ) (q : Queue) → Kind q → size-asked idata limit used q ≡ 0 → P used q (no-calls q))

@@ -1,4 +1,5 @@
--- Request 5/13 on the model: a filling is its separate calls for the next fragment, none of them refused; the 2,305 places hold their events, and the packet is within its limit. Assumes nothing.
+-- Request 5/13 on the model: a filling is its separate calls for the next fragment, none of them refused; the 2,305 places hold their events, and the
+-- packet is within its limit. Assumes nothing.
 use mathlib.Core.Path.{_≡_, refl, sym, ap, ap₂, _∙_, subst}
 use mathlib.Core.Bool.{Bool}
 use mathlib.Core.List.{List, [], _∷_, _++_, append-nil}

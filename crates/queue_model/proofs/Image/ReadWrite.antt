@@ -1,4 +1,5 @@
--- An image and its handover record determine each other: reading inverts writing (`read-image-bytes`), and writing inverts reading (`image-canonical`). Assumes nothing.
+-- An image and its handover record determine each other: reading inverts writing (`read-image-bytes`), and writing inverts reading (`image-canonical`).
+-- Assumes nothing.
 use mathlib.Core.Path.{_≡_, refl, sym, ap, ap₂, _∙_, subst}
 use mathlib.Core.Bool.{Bool, true, false, _&&_}
 use mathlib.Core.List.{List, [], _∷_, _++_, append-assoc, append-nil}

@@ -1,4 +1,5 @@
--- What holds of every stream by its state and its messages, `Keeps`: if it holds of a new stream and each way in which calls change a stream keeps it, then every call keeps it for all
+-- What holds of every stream by its state and its messages, `Keeps`: if it holds of a new stream and each way in which calls change a stream keeps it,
+-- then every call keeps it for all
 -- streams of a well queue. Assumes nothing.
 use mathlib.Core.Path.{_≡_, refl, sym, subst}
 use mathlib.Core.Bool.{Bool, true, false}

@@ -1,4 +1,5 @@
--- What becomes of a stream that closes, call by call: it goes on with its half-sent message until that is delivered, expires or is discarded; then it is paused, until the ready ids have told it.
+-- What becomes of a stream that closes, call by call: it goes on with its half-sent message until that is delivered, expires or is discarded; then it is
+-- paused, until the ready ids have told it.
 -- Assumes nothing.
 use mathlib.Core.Path.{_≡_, refl, sym, ap, ap₂, subst, _∙_}
 use mathlib.Core.Bool.{Bool, true, false}
@@ -315,7 +316,8 @@ module _ (r : Queue) (a : Active) (t : Stream) (x : Item) (is : List Item) (n : 
 
 -- ---- the next fragment
 
--- What it leaves of the pending stream: all as it was, and no fragment of this stream; a fragment of its message, or the last of it; or the message has expired.
+-- What it leaves of the pending stream: all as it was, and no fragment of this stream; a fragment of its message, or the last of it; or the message has
+-- expired.
 pub data Sends (k : ℕ) (i : Item) (now : ℕ) (s : Step) : Type 0 where
   send-stays : ((f : Fragment) → s .outcome .answer ≡ fragment f → f .stream-id ≡ k → ⊥) → Pending k i (s .next) → Sends k i now s
   send-further : (f : Fragment) (j : Item) → s .outcome .answer ≡ fragment f → f .stream-id ≡ k → f .message-id ≡ i .message-id → FurtherOn (f .bytes) i j → Pending k j (s .next) → Sends k i now s

@@ -1,4 +1,5 @@
--- What every call keeps, `Fine`: the next queue is well and has the same options, and the answer is not refusal 16. Proved here for all calls but next fragment, discard and restoring. Assumes nothing.
+-- What every call keeps, `Fine`: the next queue is well and has the same options, and the answer is not refusal 16. Proved here for all calls but next
+-- fragment, discard and restoring. Assumes nothing.
 use mathlib.Core.Path.{_≡_, refl, sym, ap, ap₂, _∙_, subst}
 use mathlib.Core.Bool.{Bool, true, false, not, _&&_, _||_}
 use mathlib.Core.List.{List, [], _∷_, _++_, map, map-id}

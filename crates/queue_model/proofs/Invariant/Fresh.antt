@@ -1,4 +1,5 @@
--- A stream that has begun no message since its counters were zeroed: every call but restoring leaves it so, or shows a fragment of it that starts afresh. Assumes nothing.
+-- A stream that has begun no message since its counters were zeroed: every call but restoring leaves it so, or shows a fragment of it that starts
+-- afresh. Assumes nothing.
 use mathlib.Core.Path.{_≡_, refl, sym, ap, ap₂, subst, _∙_}
 use mathlib.Core.Bool.{Bool, true, false}
 use mathlib.Core.List.{List, [], _∷_, map}

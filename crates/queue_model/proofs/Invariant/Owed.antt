@@ -1,4 +1,5 @@
--- The last fragment sent is of the half-sent message that waits, if one does: every call of a queue without interleaving keeps that, and shows only what goes on from there. For document 02's
+-- The last fragment sent is of the half-sent message that waits, if one does: every call of a queue without interleaving keeps that, and shows only what
+-- goes on from there. For document 02's
 -- 10/13. Assumes nothing.
 use mathlib.Core.Path.{_≡_, refl, sym, ap, _∙_, subst}
 use mathlib.Core.Bool.{Bool, true, false}

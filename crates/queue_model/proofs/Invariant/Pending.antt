@@ -1,4 +1,5 @@
--- A pending stream's head is half-sent: so a head of a pending stream that expires is a half-sent one, and document 02's 3/13 speaks of every such expiry. Assumes nothing.
+-- A pending stream's head is half-sent: so a head of a pending stream that expires is a half-sent one, and document 02's 3/13 speaks of every such
+-- expiry. Assumes nothing.
 use mathlib.Core.Path.{_≡_, refl, sym, subst}
 use mathlib.Core.Bool.{Bool, true, false}
 use mathlib.Core.List.{List, [], _∷_, _++_}
@@ -75,7 +76,8 @@ pending-keeps o = record {
 pub pending-half : {o : Options} {q : Queue} → Reachable o q → (k : ℕ) (s : Stream) → find-stream k (q .streams) ≡ some s → s .pause-state ≡ pending → HalfSent (s .items)
 pending-half {o} {q} r k s e p = subst (λ (x : PauseState). PendingHalf x (s .items)) p (every-find stream-key (λ (x : Stream). PendingHalf (x .pause-state) (x .items)) k s (q .streams) (held-reachable o PendingHalf (pending-keeps o) r) e)
 
--- What an expiry leaves of a pending stream ("A job that closes while its half-sent profile expires must not hang"): it is paused, so among the ready ids, with its later messages; and it
+-- What an expiry leaves of a pending stream ("A job that closes while its half-sent profile expires must not hang"): it is paused, so among the ready
+-- ids, with its later messages; and it
 -- does not wait, so the choice goes to the other streams.
 pub record Ended (k : ℕ) (s : Stream) (is : List Item) (r : Queue) : Type 0 where
   pub ended-stream : Stream

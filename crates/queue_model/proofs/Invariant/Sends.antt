@@ -1,4 +1,5 @@
--- Next fragment and discard are fine: a head that is dropped or sent leaves a well queue, every look at the scheduler finds a head, and the fuel of passing over suffices. Assumes nothing.
+-- Next fragment and discard are fine: a head that is dropped or sent leaves a well queue, every look at the scheduler finds a head, and the fuel of
+-- passing over suffices. Assumes nothing.
 use mathlib.Core.Path.{ap₂, _≡_, refl, sym, ap, _∙_, subst}
 use mathlib.Core.Bool.{Bool, true, false, _||_}
 use mathlib.Core.List.{List, [], _∷_, _++_}

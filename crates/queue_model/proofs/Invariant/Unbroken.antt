@@ -1,4 +1,5 @@
--- In a queue that never had interleaving every fragment that is not a first one stands directly behind one that it goes on with, over changeovers too: document 02's 10/13. Assumes nothing.
+-- In a queue that never had interleaving every fragment that is not a first one stands directly behind one that it goes on with, over changeovers too:
+-- document 02's 10/13. Assumes nothing.
 use mathlib.Core.Path.{_≡_, refl, sym, ap, _∙_, subst}
 use mathlib.Core.Bool.{Bool, true, false}
 use mathlib.Core.List.{List, [], _∷_, _++_, map}

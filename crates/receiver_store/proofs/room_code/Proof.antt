@@ -1,3 +1,4 @@
+-- Written by scripts/auto-proof; again, after `rt goals receiver_store`: scripts/auto-proof --again receiver_store room_code
 -- `receiver_store::room_code` meets its contract: each return is what its definition says, by what the calls ensure and the tests taken. Assumes nothing.
 use borrow.Author.Needs.{needs}
 use native.Mathlib.Omega.{arith}

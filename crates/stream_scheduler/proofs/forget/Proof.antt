@@ -1,3 +1,4 @@
+-- Written by scripts/auto-proof; again, after `rt goals stream_scheduler`: scripts/auto-proof --again stream_scheduler forget
 -- `stream_scheduler::forget` meets its contract: each return is what its definition says, by what the calls ensure and the tests taken. Assumes nothing.
 use borrow.Author.Needs.{needs}
 use Rattle.stream_scheduler.proofs.forget.Statement.{statement}

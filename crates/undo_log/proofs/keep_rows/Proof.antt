@@ -1,3 +1,4 @@
+-- Written by scripts/auto-proof; again, after `rt goals undo_log`: scripts/auto-proof --again undo_log keep_rows
 -- `undo_log::keep_rows` meets its contract: each return is what its definition says, by what the calls ensure and the tests taken. Assumes nothing.
 use borrow.Author.Needs.{needs}
 use Rattle.undo_log.proofs.Exits.{kept-by}

@@ -1,3 +1,4 @@
+-- Written by scripts/auto-proof; again, after `rt goals chunks`: scripts/auto-proof --again chunks reading/read_chunk
 -- `chunks::reading::read_chunk` meets its contract: each return is what its definition says, by what the calls ensure and the tests taken. Assumes nothing.
 use borrow.Author.Needs.{needs}
 use Rattle.big_endian.proofs.Typed.{bytes-fit}

@@ -1,4 +1,6 @@
--- `chunks::writing::put_i_data_header` meets its contract: each return is what its definition says, by what the calls ensure and the tests taken. Assumes nothing.
+-- Written by scripts/auto-proof; again, after `rt goals chunks`: scripts/auto-proof --again chunks writing/put_i_data_header
+-- `chunks::writing::put_i_data_header` meets its contract: each return is what its definition says, by what the calls ensure and the tests taken.
+-- Assumes nothing.
 use borrow.Author.Needs.{needs}
 use mathlib.Core.Path.{refl}
 use Rattle.big_endian.proofs.Rows.{row-wrote}

@@ -1,3 +1,4 @@
+-- Written by scripts/auto-proof; again, after `rt goals chunks`: scripts/auto-proof --again chunks writing/write_chunk
 -- `chunks::writing::write_chunk` meets its contract: each return is what its definition says, by what the calls ensure and the tests taken. Assumes nothing.
 use borrow.Author.Needs.{needs}
 use Prim.Native.Nat.{_<_}

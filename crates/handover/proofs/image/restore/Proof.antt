@@ -1,3 +1,4 @@
+-- Written by scripts/auto-proof; again, after `rt goals handover`: scripts/auto-proof --again handover image/restore
 -- `handover::image::restore` meets its contract: each return is what its definition says, by what the calls ensure and the tests taken. Assumes nothing.
 use borrow.Author.Needs.{needs}
 use borrow.Author.Tests.{le-ltb, lt-ltb}

@@ -1,3 +1,4 @@
+-- Written by scripts/auto-proof; again, after `rt goals handover`: scripts/auto-proof --again handover image/restore_code
 -- `handover::image::restore_code` meets its contract: each return is what its definition says, by what the calls ensure and the tests taken. Assumes nothing.
 use borrow.Author.Needs.{needs}
 use borrow.Author.Tests.{eq-eqb, le-ltb, lt-ltb, ne-eqb}

@@ -1,3 +1,4 @@
+-- Written by scripts/auto-proof; again, after `rt goals handover`: scripts/auto-proof --again handover image/restore_from
 -- `handover::image::restore_from` meets its contract: each return is what its definition says, by what the calls ensure and the tests taken. Assumes nothing.
 use borrow.Author.Needs.{needs}
 use Rattle.handover.specs.Restore.{restoredFrom}

@@ -1,4 +1,6 @@
--- `handover_records::records::put_message_start` meets its contract: each return is what its definition says, by what the calls ensure and the tests taken. Assumes nothing.
+-- Written by scripts/auto-proof; again, after `rt goals handover_records`: scripts/auto-proof --again handover_records records/put_message_start
+-- `handover_records::records::put_message_start` meets its contract: each return is what its definition says, by what the calls ensure and the tests
+-- taken. Assumes nothing.
 use borrow.Author.Needs.{needs}
 use mathlib.Core.Path.{refl}
 use Rattle.big_endian.proofs.Rows.{row-wrote}

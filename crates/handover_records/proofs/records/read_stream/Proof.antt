@@ -1,4 +1,6 @@
--- `handover_records::records::read_stream` meets its contract: each return is what its definition says, by what the calls ensure and the tests taken. Assumes nothing.
+-- Written by scripts/auto-proof; again, after `rt goals handover_records`: scripts/auto-proof --again handover_records records/read_stream
+-- `handover_records::records::read_stream` meets its contract: each return is what its definition says, by what the calls ensure and the tests taken.
+-- Assumes nothing.
 use borrow.Author.Needs.{needs}
 use mathlib.Core.Path.{sym}
 use Rattle.handover_records.proofs.RecordRows.{stream-read}

@@ -1,3 +1,4 @@
+-- Written by scripts/auto-proof; again, after `rt goals image_rules`: scripts/auto-proof --again image_rules code/amounts_fit
 -- `image_rules::code::amounts_fit` meets its contract: each return is what its definition says, by what the calls ensure and the tests taken. Assumes nothing.
 use borrow.Author.Needs.{needs}
 use borrow.Author.Tests.{le-ltb, lt-ltb}

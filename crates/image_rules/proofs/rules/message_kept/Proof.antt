@@ -1,4 +1,6 @@
--- `image_rules::rules::message_kept` meets its contract: each return is what its definition says, by what the calls ensure and the tests taken. Assumes nothing.
+-- Written by scripts/auto-proof; again, after `rt goals image_rules`: scripts/auto-proof --again image_rules rules/message_kept
+-- `image_rules::rules::message_kept` meets its contract: each return is what its definition says, by what the calls ensure and the tests taken. Assumes
+-- nothing.
 use borrow.Author.Needs.{needs}
 use Rattle.image_rules.specs.Messages.{messageKept}
 use Rattle.image_rules.proofs.rules.message_kept.Statement.{statement}

@@ -1,4 +1,5 @@
--- `image_rules::rules::messages_right` meets its contract: what is asked is whether the records from the i-th on keep the rules in what is left. Assumes nothing.
+-- `image_rules::rules::messages_right` meets its contract: what is asked is whether the records from the i-th on keep the rules in what is left. Assumes
+-- nothing.
 use mathlib.Core.Path.{_≡_}
 use Prim.Native.Nat.{_+_, _≤_, _-_}
 use native.Mathlib.Omega.{arith}

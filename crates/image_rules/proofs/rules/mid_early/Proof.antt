@@ -1,3 +1,4 @@
+-- Written by scripts/auto-proof; again, after `rt goals image_rules`: scripts/auto-proof --again image_rules rules/mid_early
 -- `image_rules::rules::mid_early` meets its contract: each return is what its definition says, by what the calls ensure and the tests taken. Assumes nothing.
 use borrow.Author.Tests.{eq-eqb, ne-eqb}
 use Rattle.image_rules.specs.Messages.{midEarly}

@@ -1,4 +1,6 @@
--- `image_rules::rules::numbers_right` meets its contract: each return is what its definition says, by what the calls ensure and the tests taken. Assumes nothing.
+-- Written by scripts/auto-proof; again, after `rt goals image_rules`: scripts/auto-proof --again image_rules rules/numbers_right
+-- `image_rules::rules::numbers_right` meets its contract: each return is what its definition says, by what the calls ensure and the tests taken. Assumes
+-- nothing.
 use borrow.Author.Tests.{eq-eqb, le-ltb, lt-ltb, ne-eqb}
 use Rattle.image_rules.specs.Messages.{numbersRight}
 use Rattle.image_rules.proofs.rules.numbers_right.Statement.{statement}

@@ -1,3 +1,4 @@
+-- Written by scripts/auto-proof; again, after `rt goals image_rules`: scripts/auto-proof --again image_rules rules/order_right
 -- `image_rules::rules::order_right` meets its contract: each return is what its definition says, by what the calls ensure and the tests taken. Assumes nothing.
 use borrow.Author.Tests.{eq-eqb, ne-eqb}
 use Rattle.image_rules.specs.Messages.{orderRight}

@@ -1,4 +1,5 @@
--- `linked_streams::questions::has_streams_ready_to_be_reset` meets its contract: what the call promises of the words implies the rest (proofs/Asks.antt). Assumes nothing.
+-- `linked_streams::questions::has_streams_ready_to_be_reset` meets its contract: what the call promises of the words implies the rest
+-- (proofs/Asks.antt). Assumes nothing.
 use borrow.Author.Needs.{needs}
 use Rattle.linked_streams.proofs.Asks.{ready-meets}
 use Rattle.linked_streams.proofs.questions.has_streams_ready_to_be_reset.Statement.{statement}

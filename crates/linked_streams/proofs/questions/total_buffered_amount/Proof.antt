@@ -1,4 +1,5 @@
--- `linked_streams::questions::total_buffered_amount` meets its contract: what the call promises of the words implies the rest (proofs/Asks.antt). Assumes nothing.
+-- `linked_streams::questions::total_buffered_amount` meets its contract: what the call promises of the words implies the rest (proofs/Asks.antt).
+-- Assumes nothing.
 use borrow.Author.Needs.{needs}
 use Rattle.linked_streams.proofs.Asks.{total-meets}
 use Rattle.linked_streams.proofs.questions.total_buffered_amount.Statement.{statement}

@@ -1,4 +1,5 @@
--- `linked_streams::settings::set_buffered_amount_low_threshold` meets its contract: what the call promises of the words implies the rest (proofs/Sets.antt). Assumes nothing.
+-- `linked_streams::settings::set_buffered_amount_low_threshold` meets its contract: what the call promises of the words implies the rest
+-- (proofs/Sets.antt). Assumes nothing.
 use borrow.Author.Needs.{needs}
 use Prim.Native.Nat.{_<_}
 use Rattle.linked_streams.proofs.Sets.{set-threshold-meets}

@@ -1,4 +1,6 @@
--- `message_chains::dropping::drop_behind` meets its contract: each return is what its definition says, by what the calls ensure and the tests taken. Assumes nothing.
+-- Written by scripts/auto-proof; again, after `rt goals message_chains`: scripts/auto-proof --again message_chains dropping/drop_behind
+-- `message_chains::dropping::drop_behind` meets its contract: each return is what its definition says, by what the calls ensure and the tests taken.
+-- Assumes nothing.
 use borrow.Author.Needs.{needs}
 use Rattle.message_chains.specs.Dropping.{behindDropped}
 use Rattle.message_chains.proofs.Lemmas.{behind-refused}

@@ -1,4 +1,5 @@
--- `message_chains::dropping::drop_own` meets its contract: what is loaded is the stream in the row and its head, and its drop is what follows the tests (proofs/Own.antt). Assumes nothing.
+-- `message_chains::dropping::drop_own` meets its contract: what is loaded is the stream in the row and its head, and its drop is what follows the tests
+-- (proofs/Own.antt). Assumes nothing.
 use borrow.Author.Needs.{needs}
 use Rattle.message_chains.proofs.Own.{own-first, own-drop}
 use Rattle.message_chains.proofs.dropping.drop_own.Statement.{statement}

@@ -1,4 +1,6 @@
--- `message_chains::dropping::end_pending` meets its contract: each return is what its definition says, by what the calls ensure and the tests taken. Assumes nothing.
+-- Written by scripts/auto-proof; again, after `rt goals message_chains`: scripts/auto-proof --again message_chains dropping/end_pending
+-- `message_chains::dropping::end_pending` meets its contract: each return is what its definition says, by what the calls ensure and the tests taken.
+-- Assumes nothing.
 use borrow.Author.Needs.{needs}
 use Rattle.message_chains.specs.Dropping.{endPending}
 use Rattle.message_chains.proofs.dropping.end_pending.Statement.{statement}

@@ -1,3 +1,4 @@
+-- Written by scripts/auto-proof; again, after `rt goals message_chains`: scripts/auto-proof --again message_chains heads/release
 -- `message_chains::heads::release` meets its contract: each return is what its definition says, by what the calls ensure and the tests taken. Assumes nothing.
 use borrow.Author.Needs.{needs}
 use Rattle.message_chains.specs.Heads.{released}

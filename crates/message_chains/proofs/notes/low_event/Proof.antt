@@ -1,4 +1,6 @@
--- `message_chains::notes::low_event` meets its contract: each return is what its definition says, by what the calls ensure and the tests taken. Assumes nothing.
+-- Written by scripts/auto-proof; again, after `rt goals message_chains`: scripts/auto-proof --again message_chains notes/low_event
+-- `message_chains::notes::low_event` meets its contract: each return is what its definition says, by what the calls ensure and the tests taken. Assumes
+-- nothing.
 use borrow.Author.Needs.{needs}
 use borrow.Author.Tests.{le-leb, le-ltb, lt-leb, lt-ltb}
 use Rattle.message_chains.specs.Notes.{lowNoted}

@@ -1,4 +1,6 @@
--- `payload_store::searching::free_at` meets its contract: each return is what its definition says, by what the calls ensure and the tests taken. Assumes nothing.
+-- Written by scripts/auto-proof; again, after `rt goals payload_store`: scripts/auto-proof --again payload_store searching/free_at
+-- `payload_store::searching::free_at` meets its contract: each return is what its definition says, by what the calls ensure and the tests taken. Assumes
+-- nothing.
 use borrow.Author.Needs.{needs}
 use borrow.Author.Tests.{eq-eqb, le-ltb, lt-ltb, ne-eqb}
 use Rattle.payload_store.specs.Searching.{freeAt}

@@ -1,4 +1,5 @@
--- `payload_store::searching::reach_all` meets its contract: after i turns the pieces have what the first i rows reach, and where nothing is left, all rows. Assumes nothing.
+-- `payload_store::searching::reach_all` meets its contract: after i turns the pieces have what the first i rows reach, and where nothing is left, all
+-- rows. Assumes nothing.
 use borrow.Author.Needs.{needs}
 use mathlib.Core.Path.{_≡_, refl, ap, _∙_}
 use Prim.Native.Nat.{_≤_, _-_}

@@ -1,4 +1,6 @@
--- `payload_store::searching::run_on` meets its contract: each return is what its definition says, by what the calls ensure and the tests taken. Assumes nothing.
+-- Written by scripts/auto-proof; again, after `rt goals payload_store`: scripts/auto-proof --again payload_store searching/run_on
+-- `payload_store::searching::run_on` meets its contract: each return is what its definition says, by what the calls ensure and the tests taken. Assumes
+-- nothing.
 use borrow.Author.Needs.{needs}
 use borrow.Author.Tests.{le-ltb, lt-ltb}
 use Rattle.payload_store.specs.Searching.{runOn}

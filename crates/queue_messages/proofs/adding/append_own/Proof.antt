@@ -1,4 +1,5 @@
--- `queue_messages::adding::append_own` meets its contract: what it writes is what the definition says, by what the calls ensure and what the tests say. Assumes nothing.
+-- `queue_messages::adding::append_own` meets its contract: what it writes is what the definition says, by what the calls ensure and what the tests say.
+-- Assumes nothing.
 use borrow.Author.Needs.{needs}
 use Rattle.queue_messages.proofs.Append.{own-place, own-put, own-append}
 use Rattle.queue_messages.proofs.adding.append_own.Statement.{statement}

@@ -1,4 +1,6 @@
--- `queue_messages::adding::arguments_code` meets its contract: each return is what its definition says, by what the calls ensure and the test taken. Assumes nothing.
+-- Written by scripts/auto-proof; again, after `rt goals queue_messages`: scripts/auto-proof --again queue_messages adding/arguments_code
+-- `queue_messages::adding::arguments_code` meets its contract: each return is what its definition says, by what the calls ensure and the test taken.
+-- Assumes nothing.
 use borrow.Author.Needs.{needs}
 use borrow.Author.Tests.{eq-eqb, ne-eqb}
 use Rattle.queue_messages.specs.Add.{argumentsCode}

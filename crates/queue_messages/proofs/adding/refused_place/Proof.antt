@@ -1,4 +1,6 @@
--- `queue_messages::adding::refused_place` meets its contract: each return is what its definition says, by what the calls ensure and the tests taken. Assumes nothing.
+-- Written by scripts/auto-proof; again, after `rt goals queue_messages`: scripts/auto-proof --again queue_messages adding/refused_place
+-- `queue_messages::adding::refused_place` meets its contract: each return is what its definition says, by what the calls ensure and the tests taken.
+-- Assumes nothing.
 use borrow.Author.Needs.{needs}
 use Rattle.queue_messages.proofs.adding.refused_place.Statement.{statement}
 use Rattle.queue_messages.proofs.adding.refused_place.Tie as tie

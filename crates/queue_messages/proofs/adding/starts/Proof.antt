@@ -1,3 +1,4 @@
+-- Written by scripts/auto-proof; again, after `rt goals queue_messages`: scripts/auto-proof --again queue_messages adding/starts
 -- `queue_messages::adding::starts` meets its contract: each return is what its definition says, by what the calls ensure and the tests taken. Assumes nothing.
 use borrow.Author.Needs.{needs}
 use Rattle.queue_messages.specs.Add.{starts}

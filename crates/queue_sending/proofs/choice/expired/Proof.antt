@@ -1,3 +1,4 @@
+-- Written by scripts/auto-proof; again, after `rt goals queue_sending`: scripts/auto-proof --again queue_sending choice/expired
 -- `queue_sending::choice::expired` meets its contract: each return is what its definition says, by what the calls ensure and the tests taken. Assumes nothing.
 use borrow.Author.Needs.{needs}
 use Rattle.queue_sending.specs.Choice.{expiredBy}

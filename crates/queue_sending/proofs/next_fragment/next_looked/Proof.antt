@@ -1,4 +1,6 @@
--- `queue_sending::next_fragment::next_looked` meets its contract: each return is what its definition says, by what the calls ensure and the tests taken. Assumes nothing.
+-- Written by scripts/auto-proof; again, after `rt goals queue_sending`: scripts/auto-proof --again queue_sending next_fragment/next_looked
+-- `queue_sending::next_fragment::next_looked` meets its contract: each return is what its definition says, by what the calls ensure and the tests taken.
+-- Assumes nothing.
 use borrow.Author.Needs.{needs}
 use borrow.Author.Tests.{le-ltb, lt-ltb}
 use mathlib.Core.Path.{sym, _∙_}

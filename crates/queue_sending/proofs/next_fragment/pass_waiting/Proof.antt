@@ -1,4 +1,6 @@
--- `queue_sending::next_fragment::pass_waiting` meets its contract: each return is what its definition says, by what the calls ensure and the tests taken. Assumes nothing.
+-- Written by scripts/auto-proof; again, after `rt goals queue_sending`: scripts/auto-proof --again queue_sending next_fragment/pass_waiting
+-- `queue_sending::next_fragment::pass_waiting` meets its contract: each return is what its definition says, by what the calls ensure and the tests
+-- taken. Assumes nothing.
 use mathlib.Core.Path.{ap}
 use borrow.Author.Needs.{needs}
 use Rattle.queue_sending.proofs.Nexts.{waiting-many, waiting-few}

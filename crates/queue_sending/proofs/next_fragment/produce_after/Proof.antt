@@ -1,4 +1,6 @@
--- `queue_sending::next_fragment::produce_after` meets its contract: each return is what its definition says, by what the calls ensure and the tests taken. Assumes nothing.
+-- Written by scripts/auto-proof; again, after `rt goals queue_sending`: scripts/auto-proof --again queue_sending next_fragment/produce_after
+-- `queue_sending::next_fragment::produce_after` meets its contract: each return is what its definition says, by what the calls ensure and the tests
+-- taken. Assumes nothing.
 use borrow.Author.Needs.{needs}
 use Rattle.queue_sending.specs.Produce.{producedAfter}
 use Rattle.queue_sending.proofs.next_fragment.produce_after.Statement.{statement}

@@ -1,4 +1,6 @@
--- `queue_sending::next_fragment::produce_code` meets its contract: each return is what its definition says, by what the calls ensure and the test taken. Assumes nothing.
+-- Written by scripts/auto-proof; again, after `rt goals queue_sending`: scripts/auto-proof --again queue_sending next_fragment/produce_code
+-- `queue_sending::next_fragment::produce_code` meets its contract: each return is what its definition says, by what the calls ensure and the test taken.
+-- Assumes nothing.
 use borrow.Author.Needs.{needs}
 use borrow.Author.Tests.{eq-eqb, ne-eqb}
 use Rattle.queue_sending.specs.Produce.{produceCode}

@@ -1,4 +1,6 @@
--- `queue_sending::numbers::moved_on` meets its contract: each return is what its definition says, by what the calls ensure and the tests taken. Assumes nothing.
+-- Written by scripts/auto-proof; again, after `rt goals queue_sending`: scripts/auto-proof --again queue_sending numbers/moved_on
+-- `queue_sending::numbers::moved_on` meets its contract: each return is what its definition says, by what the calls ensure and the tests taken. Assumes
+-- nothing.
 use borrow.Author.Needs.{needs}
 use Rattle.queue_sending.specs.Numbers.{movedOn}
 use Rattle.queue_sending.proofs.numbers.moved_on.Statement.{statement}

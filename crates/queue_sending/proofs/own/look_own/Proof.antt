@@ -1,3 +1,4 @@
+-- Written by scripts/auto-proof; again, after `rt goals queue_sending`: scripts/auto-proof --again queue_sending own/look_own
 -- `queue_sending::own::look_own` meets its contract: each return is what its definition says, by what the calls ensure (proofs/Ahead.antt). Assumes nothing.
 use borrow.Author.Needs.{needs}
 use Rattle.queue_sending.proofs.Ahead.{rows-few, at-row, row-unbroken, row-looked, none-looked}

@@ -1,4 +1,6 @@
--- `queue_sending::passing::drop_expired` meets its contract: each return is what its definition says, by what the calls ensure and the tests taken. Assumes nothing.
+-- Written by scripts/auto-proof; again, after `rt goals queue_sending`: scripts/auto-proof --again queue_sending passing/drop_expired
+-- `queue_sending::passing::drop_expired` meets its contract: each return is what its definition says, by what the calls ensure and the tests taken.
+-- Assumes nothing.
 use native.Mathlib.Omega.{arith}
 use borrow.Author.Needs.{needs}
 use borrow.Author.Tests.{le-ltb, lt-ltb}

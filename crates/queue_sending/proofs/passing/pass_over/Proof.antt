@@ -1,4 +1,5 @@
--- `queue_sending::passing::pass_over` meets its contract: what passing over leaves from here on is what it leaves from the start on. The measure is how many messages
+-- `queue_sending::passing::pass_over` meets its contract: what passing over leaves from here on is what it leaves from the start on. The measure is how
+-- many messages
 -- may still be dropped. Assumes nothing.
 use mathlib.Core.Path.{_≡_, refl, _∙_}
 use native.Mathlib.Omega.{arith}

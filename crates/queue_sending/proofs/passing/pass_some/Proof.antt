@@ -1,4 +1,5 @@
--- `queue_sending::passing::pass_some` meets its contract: the loop stands where passing over stands after so many drops in the log (proofs/Logged.antt), and the head that it drops next is what a look finds. The measure is how many messages may still be dropped. Assumes nothing.
+-- `queue_sending::passing::pass_some` meets its contract: the loop stands where passing over stands after so many drops in the log (proofs/Logged.antt),
+-- and the head that it drops next is what a look finds. The measure is how many messages may still be dropped. Assumes nothing.
 use mathlib.Core.Path.{_≡_, refl, sym, _∙_}
 use native.Mathlib.Omega.{arith}
 use borrow.Author.Needs.{needs}

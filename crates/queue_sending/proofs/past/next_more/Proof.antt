@@ -1,4 +1,5 @@
--- `queue_sending::past::next_more` meets its contract: an expired head is left to `pass_on`, any other find is all that is left (proofs/Nexts.antt). Assumes nothing.
+-- `queue_sending::past::next_more` meets its contract: an expired head is left to `pass_on`, any other find is all that is left (proofs/Nexts.antt).
+-- Assumes nothing.
 use mathlib.Core.Path.{ap, sym, _∙_}
 use borrow.Author.Needs.{needs}
 use Rattle.queue_sending.proofs.Passes.{expiredFound}

@@ -1,3 +1,4 @@
+-- Written by scripts/auto-proof; again, after `rt goals queue_streams`: scripts/auto-proof --again queue_streams commit/is_quiet
 -- `queue_streams::commit::is_quiet` meets its contract: each return is what its definition says, by what the calls ensure and the tests taken. Assumes nothing.
 use borrow.Author.Needs.{needs}
 use borrow.Author.Tests.{eq-eqb, ne-eqb}

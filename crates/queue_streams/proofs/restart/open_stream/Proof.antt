@@ -1,4 +1,6 @@
--- `queue_streams::restart::open_stream` meets its contract: each return is what its definition says, by what the calls ensure and the tests taken. Assumes nothing.
+-- Written by scripts/auto-proof; again, after `rt goals queue_streams`: scripts/auto-proof --again queue_streams restart/open_stream
+-- `queue_streams::restart::open_stream` meets its contract: each return is what its definition says, by what the calls ensure and the tests taken.
+-- Assumes nothing.
 use borrow.Author.Needs.{needs}
 use Rattle.queue_streams.proofs.restart.open_stream.Statement.{statement}
 use Rattle.queue_streams.proofs.restart.open_stream.Tie as tie

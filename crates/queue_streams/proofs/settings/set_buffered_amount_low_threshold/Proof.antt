@@ -1,4 +1,5 @@
--- `queue_streams::settings::set_buffered_amount_low_threshold` meets its contract: each return is a case of `setThreshold` (proofs/Exits.antt). Assumes nothing.
+-- `queue_streams::settings::set_buffered_amount_low_threshold` meets its contract: each return is a case of `setThreshold` (proofs/Exits.antt). Assumes
+-- nothing.
 use mathlib.Core.Path.{sym, refl, _∙_}
 use borrow.Author.Needs.{needs}
 use Rattle.queue_streams.proofs.Exits.{look-row, look-new, threshold-few, threshold-row, threshold-new, threshold-refused}

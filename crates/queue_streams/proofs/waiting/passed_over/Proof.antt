@@ -1,4 +1,6 @@
--- `queue_streams::waiting::passed_over` meets its contract: each return is what its definition says, by what the calls ensure and the tests taken. Assumes nothing.
+-- Written by scripts/auto-proof; again, after `rt goals queue_streams`: scripts/auto-proof --again queue_streams waiting/passed_over
+-- `queue_streams::waiting::passed_over` meets its contract: each return is what its definition says, by what the calls ensure and the tests taken.
+-- Assumes nothing.
 use borrow.Author.Needs.{needs}
 use Rattle.queue_streams.specs.Waiting.{passedOver}
 use Rattle.queue_streams.proofs.waiting.passed_over.Statement.{statement}

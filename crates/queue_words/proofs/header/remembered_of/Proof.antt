@@ -1,4 +1,6 @@
--- `queue_words::header::remembered_of` meets its contract: each return is what its definition says, by what the calls ensure and the tests taken. Assumes nothing.
+-- Written by scripts/auto-proof; again, after `rt goals queue_words`: scripts/auto-proof --again queue_words header/remembered_of
+-- `queue_words::header::remembered_of` meets its contract: each return is what its definition says, by what the calls ensure and the tests taken.
+-- Assumes nothing.
 use borrow.Author.Needs.{needs}
 use borrow.Author.Tests.{le-ltb, lt-ltb}
 use Rattle.queue_words.proofs.header.remembered_of.Statement.{statement}

@@ -1,4 +1,6 @@
--- `queue_words::header::scheduler_in` meets its contract: each return is what its definition says, by what the calls ensure and the tests taken. Assumes nothing.
+-- Written by scripts/auto-proof; again, after `rt goals queue_words`: scripts/auto-proof --again queue_words header/scheduler_in
+-- `queue_words::header::scheduler_in` meets its contract: each return is what its definition says, by what the calls ensure and the tests taken. Assumes
+-- nothing.
 use borrow.Author.Needs.{needs}
 use Rattle.queue_words.proofs.header.scheduler_in.Statement.{statement}
 use Rattle.queue_words.proofs.header.scheduler_in.Tie as tie

@@ -1,3 +1,4 @@
+-- Written by scripts/auto-proof; again, after `rt goals queue_words`: scripts/auto-proof --again queue_words items/item_out
 -- `queue_words::items::item_out` meets its contract: each return is what its definition says, by what the calls ensure and the tests taken. Assumes nothing.
 use borrow.Author.Needs.{needs}
 use Rattle.queue_words.proofs.items.item_out.Statement.{statement}

@@ -1,3 +1,4 @@
+-- Written by scripts/auto-proof; again, after `rt goals queue_words`: scripts/auto-proof --again queue_words streams/stream_in
 -- `queue_words::streams::stream_in` meets its contract: each return is what its definition says, by what the calls ensure and the tests taken. Assumes nothing.
 use borrow.Author.Needs.{needs}
 use Rattle.queue_words.proofs.streams.stream_in.Statement.{statement}

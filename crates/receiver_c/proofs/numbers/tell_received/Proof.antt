@@ -1,4 +1,6 @@
--- `receiver_c::numbers::tell_received` meets its contract: each return is what its definition says, by what the calls ensure and the tests taken. Assumes nothing.
+-- Written by scripts/auto-proof; again, after `rt goals receiver_c`: scripts/auto-proof --again receiver_c numbers/tell_received
+-- `receiver_c::numbers::tell_received` meets its contract: each return is what its definition says, by what the calls ensure and the tests taken.
+-- Assumes nothing.
 use borrow.Author.Needs.{needs}
 use mathlib.Core.Path.{refl}
 use Rattle.receiver_c.proofs.numbers.tell_received.Statement.{statement}

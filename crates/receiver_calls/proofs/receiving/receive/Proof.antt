@@ -1,4 +1,6 @@
--- `receiver_calls::receiving::receive` meets its contract: each return is what its definition says, by what the calls ensure and the tests taken. Assumes nothing.
+-- Written by scripts/auto-proof; again, after `rt goals receiver_calls`: scripts/auto-proof --again receiver_calls receiving/receive
+-- `receiver_calls::receiving::receive` meets its contract: each return is what its definition says, by what the calls ensure and the tests taken.
+-- Assumes nothing.
 use mathlib.Core.Path.{sym, _∙_}
 use borrow.Author.Needs.{needs}
 use borrow.Author.Tests.{eq-eqb, ne-eqb}

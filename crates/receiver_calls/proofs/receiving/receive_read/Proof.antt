@@ -1,4 +1,6 @@
--- `receiver_calls::receiving::receive_read` meets its contract: each return is what its definition says, by what the calls ensure and the tests taken. Assumes nothing.
+-- Written by scripts/auto-proof; again, after `rt goals receiver_calls`: scripts/auto-proof --again receiver_calls receiving/receive_read
+-- `receiver_calls::receiving::receive_read` meets its contract: each return is what its definition says, by what the calls ensure and the tests taken.
+-- Assumes nothing.
 use borrow.Author.Needs.{needs}
 use Rattle.receiver_calls.specs.Receiving.{receiveRead}
 use Rattle.receiver_calls.proofs.Exits.{read-received}

@@ -1,4 +1,6 @@
--- `receiver_fragments::checks::same_marks` meets its contract: each return is what its definition says, by what the calls ensure and the tests taken. Assumes nothing.
+-- Written by scripts/auto-proof; again, after `rt goals receiver_fragments`: scripts/auto-proof --again receiver_fragments checks/same_marks
+-- `receiver_fragments::checks::same_marks` meets its contract: each return is what its definition says, by what the calls ensure and the tests taken.
+-- Assumes nothing.
 use borrow.Author.Needs.{needs}
 use borrow.Author.Tests.{eq-eqb, ne-eqb}
 use Rattle.receiver_fragments.specs.Checks.{sameMarks}

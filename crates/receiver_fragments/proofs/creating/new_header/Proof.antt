@@ -1,4 +1,6 @@
--- `receiver_fragments::creating::new_header` meets its contract: each return is what its definition says, by what the calls ensure and the tests taken. Assumes nothing.
+-- Written by scripts/auto-proof; again, after `rt goals receiver_fragments`: scripts/auto-proof --again receiver_fragments creating/new_header
+-- `receiver_fragments::creating::new_header` meets its contract: each return is what its definition says, by what the calls ensure and the tests taken.
+-- Assumes nothing.
 use borrow.Author.Needs.{needs}
 use Rattle.receiver_fragments.specs.Creating.{newHeader}
 use Rattle.receiver_fragments.proofs.creating.new_header.Statement.{statement}

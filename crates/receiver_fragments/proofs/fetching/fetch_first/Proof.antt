@@ -1,4 +1,6 @@
--- `receiver_fragments::fetching::fetch_first` meets its contract: each return is what its definition says, by what the calls ensure and the tests taken. Assumes nothing.
+-- Written by scripts/auto-proof; again, after `rt goals receiver_fragments`: scripts/auto-proof --again receiver_fragments fetching/fetch_first
+-- `receiver_fragments::fetching::fetch_first` meets its contract: each return is what its definition says, by what the calls ensure and the tests taken.
+-- Assumes nothing.
 use borrow.Author.Needs.{needs}
 use borrow.Author.Tests.{le-ltb, lt-ltb}
 use Rattle.receiver_fragments.specs.Fetching.{fetchFirst}

@@ -1,4 +1,6 @@
--- `receiver_fragments::receiving::receive_new` meets its contract: each return is what its definition says, by what the calls ensure and the tests taken. Assumes nothing.
+-- Written by scripts/auto-proof; again, after `rt goals receiver_fragments`: scripts/auto-proof --again receiver_fragments receiving/receive_new
+-- `receiver_fragments::receiving::receive_new` meets its contract: each return is what its definition says, by what the calls ensure and the tests
+-- taken. Assumes nothing.
 use borrow.Author.Needs.{needs}
 use borrow.Author.Tests.{le-leb, le-ltb, lt-leb, lt-ltb}
 use Rattle.receiver_fragments.specs.Receiving.{receiveNew}

@@ -1,4 +1,6 @@
--- `receiver_messages::readiness::queue_up` meets its contract: each return is what its definition says, by what the calls ensure and the tests taken. Assumes nothing.
+-- Written by scripts/auto-proof; again, after `rt goals receiver_messages`: scripts/auto-proof --again receiver_messages readiness/queue_up
+-- `receiver_messages::readiness::queue_up` meets its contract: each return is what its definition says, by what the calls ensure and the tests taken.
+-- Assumes nothing.
 use borrow.Author.Needs.{needs}
 use Rattle.receiver_messages.specs.Readiness.{queueUp}
 use Rattle.receiver_messages.proofs.readiness.queue_up.Statement.{statement}

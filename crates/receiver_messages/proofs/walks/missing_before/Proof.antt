@@ -1,4 +1,6 @@
--- `receiver_messages::walks::missing_before` meets its contract: each return is what its definition says, by what the calls ensure and the tests taken. Assumes nothing.
+-- Written by scripts/auto-proof; again, after `rt goals receiver_messages`: scripts/auto-proof --again receiver_messages walks/missing_before
+-- `receiver_messages::walks::missing_before` meets its contract: each return is what its definition says, by what the calls ensure and the tests taken.
+-- Assumes nothing.
 use borrow.Author.Needs.{needs}
 use Rattle.receiver_messages.proofs.Beside.{before-first, before-next}
 use Rattle.receiver_messages.proofs.walks.missing_before.Statement.{statement}

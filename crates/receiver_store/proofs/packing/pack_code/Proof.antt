@@ -1,4 +1,6 @@
--- `receiver_store::packing::pack_code` meets its contract: each return is what its definition says, by what the calls ensure and the tests taken. Assumes nothing.
+-- Written by scripts/auto-proof; again, after `rt goals receiver_store`: scripts/auto-proof --again receiver_store packing/pack_code
+-- `receiver_store::packing::pack_code` meets its contract: each return is what its definition says, by what the calls ensure and the tests taken.
+-- Assumes nothing.
 use borrow.Author.Needs.{needs}
 use Rattle.receiver_store.specs.Packing.{packCode}
 use Rattle.receiver_store.proofs.packing.pack_code.Statement.{statement}

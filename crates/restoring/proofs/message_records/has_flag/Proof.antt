@@ -1,4 +1,6 @@
--- `restoring::message_records::has_flag` meets its contract: each return is what its definition says, by what the calls ensure and the tests taken. Assumes nothing.
+-- Written by scripts/auto-proof; again, after `rt goals restoring`: scripts/auto-proof --again restoring message_records/has_flag
+-- `restoring::message_records::has_flag` meets its contract: each return is what its definition says, by what the calls ensure and the tests taken.
+-- Assumes nothing.
 use borrow.Author.Needs.{needs}
 use mathlib.Core.Path.{refl}
 use Rattle.restoring.specs.Messages.{hasFlag}

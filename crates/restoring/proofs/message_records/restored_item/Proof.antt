@@ -1,4 +1,6 @@
--- `restoring::message_records::restored_item` meets its contract: each return is what its definition says, by what the calls ensure and the tests taken. Assumes nothing.
+-- Written by scripts/auto-proof; again, after `rt goals restoring`: scripts/auto-proof --again restoring message_records/restored_item
+-- `restoring::message_records::restored_item` meets its contract: each return is what its definition says, by what the calls ensure and the tests taken.
+-- Assumes nothing.
 use borrow.Author.Needs.{needs}
 use Rattle.restoring.specs.Messages.{restoredItem}
 use Rattle.restoring.proofs.message_records.restored_item.Statement.{statement}

@@ -1,3 +1,4 @@
+-- Written by scripts/auto-proof; again, after `rt goals restoring`: scripts/auto-proof --again restoring recall/remember_half_sent
 -- `restoring::recall::remember_half_sent` meets its contract: each return is what its definition says, by what the calls ensure. Assumes nothing.
 use borrow.Author.Needs.{needs}
 use Rattle.restoring.specs.Recall.{recalled}

@@ -1,4 +1,6 @@
--- `restoring::stream_records::restore_stream` meets its contract: each return is what its definition says, by what the calls ensure and the tests taken. Assumes nothing.
+-- Written by scripts/auto-proof; again, after `rt goals restoring`: scripts/auto-proof --again restoring stream_records/restore_stream
+-- `restoring::stream_records::restore_stream` meets its contract: each return is what its definition says, by what the calls ensure and the tests taken.
+-- Assumes nothing.
 use borrow.Author.Needs.{needs}
 use borrow.Author.Tests.{le-ltb, lt-ltb}
 use Rattle.restoring.specs.Streams.{streamRestored}
