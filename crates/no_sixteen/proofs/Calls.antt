@@ -1,5 +1,5 @@
--- One call on the words of a queue does not show 16, and those are the words that calls lead to. Assumes nothing.
-use mathlib.Core.Path.{_≡_, sym, subst}
+-- One call on the words of a queue does not show 16, and a new or restored queue has such words. Assumes nothing.
+use mathlib.Core.Path.{_≡_}
 use mathlib.Core.Bool.{Bool, true, false}
 use mathlib.Core.List.{[], _∷_}
 use Prim.Native.Nat.{ℕ}
@@ -9,13 +9,11 @@ use Rattle.queue_runs.specs.Run.{State, run}
 use Rattle.queue_runs.specs.Creation.{Arguments}
 use Rattle.queue_runs.specs.Meaning.{Good}
 use Rattle.queue_runs.proofs.Steps.{step-link}
-use Rattle.queue_runs.proofs.Runs.{run-link}
 use Rattle.queue_runs.proofs.Sixteen.{good-no-sixteen}
 use Rattle.queue_runs.proofs.News.{new-link}
 use Rattle.queue_runs.proofs.Demand3.{stands}
 use Rattle.reset_runs.specs.Request9.{Starts, new, restored-from}
 use Rattle.no_sixteen.specs.Shows.{callShows}
-use Rattle.no_sixteen.specs.NoSixteen.{Led, Broken}
 
 pub good-call : (c : Call) (s : State) → Good s → Typed c → callShows c s ≡ false
 unfolding run
@@ -25,12 +23,5 @@ pub good-start : (a : Arguments) (s : State) → Starts a s → Good s
 good-start a _ (new {s} c) = new-link a s c .good
 good-start a _ (restored-from {len} {s} {time} {image} r h) = step-link (restore time image) s (stands a len s r .good) (h .typed) .good
 
-pub led-good : (s : State) → Led s → Good s
-led-good s l = subst Good (sym (l .state-is)) (run-link (l .calls) (l .start) (good-start (l .arguments) (l .start) (l .starts)) (l .typed) .good)
-
 pub never : {b : Bool} → b ≡ true → b ≡ false → ⊥
 never e f = let z : _≡_ {A = ℕ} 0 1 = cc in omega arith
-
--- what no good state has is broken
-pub broken : (s : State) → (Good s → ⊥) → Broken s
-broken s f = record { not-good = f; not-led = λ l. f (led-good s l) }

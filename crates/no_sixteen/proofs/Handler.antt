@@ -126,7 +126,7 @@ other-good : (c : calls.Call) (p : Pair) → calls.Typed c → Good (p .queue) �
 unfolding used
 other-good c p t g = step-link c (p .queue) g t .good
 
-kept-good : (u : Use) (p : Pair) → Good (p .queue) → UseTyped u → Good (used u p .queue)
+pub kept-good : (u : Use) (p : Pair) → Good (p .queue) → UseTyped u → Good (used u p .queue)
 kept-good (uses.request out r t) p g h = own-good (uses.request out r t) p tt g
 kept-good (uses.response bs) p g h = own-good (uses.response bs) p tt g
 kept-good uses.reset p g h = own-good uses.reset p tt g

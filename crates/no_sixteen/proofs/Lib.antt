@@ -2,5 +2,6 @@
 pub mod Calls
 pub mod Saving
 pub mod Handler
+pub mod Leads
 pub mod Receiver
 pub mod NoSixteen

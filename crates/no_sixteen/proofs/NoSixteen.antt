@@ -20,9 +20,10 @@ use Rattle.queue_images.proofs.Listed.{create-refusals}
 use Rattle.receiver_runs.proofs.Runs.{linked}
 use Rattle.no_sixteen.specs.Shows.{createShows}
 use Rattle.no_sixteen.specs.NoSixteen.{NoCallsLead, SixteenMeans}
-use Rattle.no_sixteen.proofs.Calls.{good-call, good-start, led-good, never, broken}
+use Rattle.no_sixteen.proofs.Calls.{good-call, good-start, never}
 use Rattle.no_sixteen.proofs.Saving.{good-saving}
 use Rattle.no_sixteen.proofs.Handler.{good-use, good-uses}
+use Rattle.no_sixteen.proofs.Leads.{led-good, broken, calls-lead}
 use Rattle.no_sixteen.proofs.Receiver.{led-not, creation-not}
 
 -- ---- creation gives 1 or 2
@@ -46,6 +47,8 @@ create-not a s = go (creation a s .answer) refl
 pub no-calls-lead : NoCallsLead
 no-calls-lead = record {
   calls = λ a s cs h t. good-no-sixteen cs s (good-start a s h) t;
+  calls-lead = calls-lead;
+  later-calls = λ s cs l t. good-no-sixteen cs s (led-good s l) t;
   saving = λ s buffer time l. good-saving s buffer time (led-good s l);
   handler = λ s h us l t. good-uses us _ (led-good s l) t;
   receiver = λ i-data tsn s cs h t. linked i-data tsn s cs h t .no-sixteen;

@@ -12,6 +12,7 @@ use Rattle.queue_runs.specs.Creation.{Arguments, NoSixteen}
 use Rattle.queue_runs.specs.Meaning.{Good, AllTyped}
 use Rattle.stream_reset_handler.specs.declared.handler.StreamResetHandler.{StreamResetHandler}
 use Rattle.reset_runs.specs.Uses.{Use, Pair, pair}
+use Rattle.reset_runs.specs.Uses as mixed
 use Rattle.reset_runs.specs.Request9.{Starts}
 use Rattle.receiver_runs.specs.Calls as receiver
 use Rattle.receiver_runs.specs.Run as receiving
@@ -20,14 +21,15 @@ use Rattle.no_sixteen.specs.Shows.{callShows, saveShows, createShows, us
 
 -- ------------------------------------------------------------------ what calls lead to
 
--- "a new or restored queue", and then calls.
+-- "a new or restored queue", and then calls: those on the queue and those of its stream reset handler, mixed in any order.
 pub record Led (s : State) : Type 0 where
   pub arguments : Arguments
   pub start : State
-  pub calls : List Call
+  pub handler : StreamResetHandler
+  pub uses : List Use
   pub starts : Starts arguments start
-  pub typed : AllTyped calls
-  pub state-is : s ≡ after calls start
+  pub typed : UsesTyped uses
+  pub state-is : s ≡ mixed.after uses (pair handler start) .queue
 
 -- A new receiver, and then calls.
 pub record ReceiverLed (s : State) : Type 0 where
@@ -43,6 +45,9 @@ pub record ReceiverLed (s : State) : Type 0 where
 
 pub record NoCallsLead : Type 0 where
   pub calls : (a : Arguments) (s : State) (cs : List Call) → Starts a s → AllTyped cs → NoSixteen (run cs s)
+  -- what the queue's calls alone lead to, calls of both lead to; then no list of the queue's calls shows it, nor saving, nor a list of both
+  pub calls-lead : (a : Arguments) (s : State) (cs : List Call) → Starts a s → AllTyped cs → Led (after cs s)
+  pub later-calls : (s : State) (cs : List Call) → Led s → AllTyped cs → NoSixteen (run cs s)
   pub saving : (s : State) (buffer : List ℕ) (time : ℕ) → Led s → saveShows buffer time s ≡ false
   pub handler : (s : State) (h : StreamResetHandler) (us : List Use) → Led s → UsesTyped us → NoUseShows us (pair h s)
   pub receiver : (i-data : Bool) (tsn : ℕ) (s : State) (cs : List receiver.Call) → receiving.Creates i-data tsn s → receiver.AllTyped (length (s .store)) cs
