@@ -133,7 +133,7 @@ fn two_images_differ_field_by_field() {
     let (one, two) = (file("five", &image), file("many", &other));
     let (status, said) = run(&[&one, &two]);
     assert_eq!((status, said.as_str()), (1, "trailer: next message id 5 against 65,541\n"));
-    let wanted = "{\"same\":false,\"differences\":[{\"place\":\"trailer\",\"field\":\"next message id\",\"first\":5,\"second\":65541}]}\n";
+    let wanted = "{\"same\":false,\"differences\":[{\"place\":\"trailer\",\"field\":\"next message id\",\"first\":5,\"second\":65541}],\"first_broken\":null,\"second_broken\":null}\n";
     assert_eq!(run(&["--json", &one, &two]), (1, wanted.into()));
     assert_eq!(run(&[&one, &one]).0, 0);
     let mut less = queue();
@@ -167,7 +167,10 @@ fn the_changeover_check() {
         "{said}"
     );
     let (status, said) = run(&["--check", "--json", &file("none", &[])]);
-    assert!(status == 1 && said.contains("\"passed\":false"), "{said}");
+    assert!(
+        status == 1 && said.contains("\"passed\":false") && said.contains("\"broken\":{\"byte\":0,\"rule\":\""),
+        "{said}"
+    );
     let mut reset = queue();
     reset.reset();
     let by_dcsctp = file("by-dcsctp", &reset.save(NOW).unwrap());

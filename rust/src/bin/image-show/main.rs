@@ -112,7 +112,12 @@ fn compare(one: &Judged, other: &Judged, json: bool) -> u8 {
     let same = one.bytes == other.bytes;
     let differences = differing::differences(&one.image, &other.image);
     if json {
-        println!("{{\"same\":{same},\"differences\":{}}}", shown::differences_as_json(&differences));
+        println!(
+            "{{\"same\":{same},\"differences\":{},\"first_broken\":{},\"second_broken\":{}}}",
+            shown::differences_as_json(&differences),
+            shown::broken_as_json(&one.image),
+            shown::broken_as_json(&other.image)
+        );
     } else if same {
         println!("the same {} bytes", shown::number(one.bytes.len() as u64));
     } else {
@@ -141,8 +146,9 @@ fn check(one: &Judged, other: Option<Judged>, wanted: &Wanted) -> u8 {
     let differences = again.as_ref().map_or_else(Vec::new, |again| differing::differences(&one.image, &again.image));
     if wanted.json {
         println!(
-            "{{\"passed\":{passed},{},\"same\":{same},\"differences\":{}}}",
+            "{{\"passed\":{passed},{},\"broken\":{},\"same\":{same},\"differences\":{}}}",
             shown::answer_as_json(one.judgement()),
+            shown::broken_as_json(&one.image),
             shown::differences_as_json(&differences)
         );
     } else {

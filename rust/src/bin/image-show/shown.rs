@@ -117,10 +117,14 @@ pub fn answer_as_json(answer: Result<(), Refusal>) -> String {
     }
 }
 
+/// The rule that the image breaks and its byte, or null.
+pub fn broken_as_json(image: &Image) -> String {
+    image.broken.as_ref().map_or("null".into(), |b| format!("{{\"byte\":{},\"rule\":{}}}", b.byte, text(&b.rule)))
+}
+
 pub fn image_as_json(bytes: &[u8], image: &Image, answer: Result<(), Refusal>) -> String {
     let list = |records: &[Record]| records.iter().map(object).collect::<Vec<_>>().join(",");
-    let broken =
-        image.broken.as_ref().map_or("null".into(), |b| format!("{{\"byte\":{},\"rule\":{}}}", b.byte, text(&b.rule)));
+    let broken = broken_as_json(image);
     let [to_send, occupied] = sums(image);
     format!(
         "{{\"bytes\":{},\"crc32\":{},{},\"broken\":{broken},\"trailer\":{},\"streams\":[{}],\"messages\":[{}],\"to_send\":{to_send},\"occupied\":{occupied}}}\n",
