@@ -21,6 +21,7 @@ use Rattle.queue_words.specs.declared.header.SchedulerState.{SchedulerState}
 use Rattle.active_table.specs.Groups.{leastKnown, refreshed}
 use Rattle.active_table.specs.Rows.{seek}
 use Rattle.active_table.specs.declared.Best.{Best}
+use Rattle.stream_scheduler.specs.Own.{HasRow}
 use Rattle.stream_scheduler.specs.Rows.{advanced, scheduledRow}
 use Rattle.stream_scheduler.specs.Words.{outcome, currentRow, peekAmong, peekWords, waitsIn, forgotten, rested, stateOf, droppedRow, takenOut, removeStream, setIn, setBytesRemaining, beginWaiting, rememberedBy, acceptRow, acceptAt}
 use Rattle.stream_scheduler.specs.declared.Peeked.the-variants.{At, Nothing, Broken}
@@ -59,6 +60,9 @@ chunk-row limit id w start bytes chunk finish ec ef = rw (ef, ec)
 
 -- ------------------------------------------------------------------ the choice
 
+pub row-fits : (ws : List ℕ) (at : ℕ) → HasRow ws at → at < 256
+row-fits ws at h = omega (arith, h .0, h .1)
+
 module _ (ws : List ℕ) (s : SchedulerState) (es : s ≡ schedulerAt ws) where
   pub peek-broken : 256 < s .active → Broken ≡ peekWords ws
   unfolding peekWords
@@ -70,6 +74,16 @@ module _ (ws : List ℕ) (s : SchedulerState) (es : s ≡ schedulerAt ws) where
 
   pub few-rows : schedulerAt ws .active ≤ 256 → s .active ≤ 256
   few-rows h = rw es h
+
+  pub has-row : (at : ℕ) → at < schedulerAt ws .active → at < s .active
+  has-row at h = rw es h
+
+  -- and back
+  pub rows-few : s .active ≤ 256 → schedulerAt ws .active ≤ 256
+  rows-few h = rw (← es) h
+
+  pub row-there : (at : ℕ) → s .active ≤ 256 → at < s .active → HasRow ws at
+  row-there at h f = (rw (← es) h, rw (← es) f)
 
   pub peek-front : s .active ≤ 256 → (s .active ≡ 0 → ⊥) → (r : ℕ) → At r ≡ peekAmong ws (s .active) (currentRow ws (s .active) (s .current)) → At r ≡ peekWords ws
   unfolding peekWords peekAmong

@@ -3,6 +3,7 @@ pub mod Exits
 pub mod Ends
 pub mod Index
 pub mod Search
+pub mod Peeks
 pub mod Link
 pub mod Begins
 pub mod Handing

@@ -1,8 +1,10 @@
 // The last fragment of a message, and the message behind it. The stream's row is not taken out and put back: it stays where it is.
 ghost use mathlib.Core.Path.{_≡_};
+ghost use mathlib.Core.Bool.{true};
 ghost use Prim.Native.Nat.{_<_, _≤_};
 ghost use Rattle.stream_scheduler.specs.Words.{outcome};
 ghost use Rattle.stream_scheduler.specs.Anew.{begunAnew, acceptLast};
+ghost use Rattle.stream_scheduler.specs.Own.{HasRow};
 use crate::calculate_vt;
 use crate::drop_row;
 use crate::rest_time;
@@ -49,7 +51,33 @@ fn begin_anew(
 }
 
 // Hands out the last `sent` bytes of the row `at`, a stream's: it begins anew with the bytes of the message behind them, or waits no
-// more where these are 0.
+// more where these are 0. That there is such a row is known: nothing is tested.
+pub fn accept_last_own(
+    queue: &mut [u64; QUEUE_WORDS],
+    at: usize,
+    stream_id: u16,
+    sent: u64,
+    bytes: u64,
+    priority: SchedulingParameters,
+)
+    requires { ⌜ HasRow (now queue) at ⌝ }
+    ensures { λ _. ⌜ outcome true (now (queue .exit)) ≡ acceptLast (now (queue .entry)) at «stream_id» sent bytes priority ⌝ }
+{
+    let s = load_scheduler_state(&*queue);
+    let n = s.active as usize;
+    let a = load_active(&*queue, at);
+    let time = calculate_vt(a.parameters, a.virtual_start_time, sent);
+    if bytes == 0 {
+        drop_row(queue, at, Remembered::NoStream, time, n);
+        refresh(queue, at);
+        return;
+    }
+    let parameters = parameters_word(priority);
+    begin_anew(queue, at, stream_id, time, bytes, parameters, n);
+    refresh(queue, at);
+}
+
+// The same where there may be no such row.
 pub fn accept_last(
     queue: &mut [u64; QUEUE_WORDS],
     at: usize,
@@ -68,15 +96,6 @@ pub fn accept_last(
     if at >= n {
         return false;
     }
-    let a = load_active(&*queue, at);
-    let time = calculate_vt(a.parameters, a.virtual_start_time, sent);
-    if bytes == 0 {
-        drop_row(queue, at, Remembered::NoStream, time, n);
-        refresh(queue, at);
-        return true;
-    }
-    let parameters = parameters_word(priority);
-    begin_anew(queue, at, stream_id, time, bytes, parameters, n);
-    refresh(queue, at);
+    accept_last_own(queue, at, stream_id, sent, bytes, priority);
     true
 }

@@ -4,7 +4,7 @@
 // A stream that waits has a row. Rows stand in no order: a new one at the end, the last one in the place of one that is removed, and a
 // stream that begins anew keeps its row. Every public function is total: where the number of rows is above 256, a row asked for is not among
 // them, or a 257th would be needed, it answers `false` or `Broken`, and nothing has changed. The caller then answers 16. (src/own: the
-// choice where the number of rows is known to be right.)
+// same where the number of rows is known to be right.)
 pub mod anew;
 pub mod own;
 
@@ -15,8 +15,9 @@ ghost use Rattle.queue_model.specs.Types.{weighted};
 ghost use Rattle.stream_scheduler.specs.Rows.{advanced, scheduledRow};
 ghost use Rattle.stream_scheduler.specs.declared.Peeked.the-variants.{At};
 ghost use Rattle.stream_scheduler.specs.Words.{outcome, forgotten, rested, rememberedBy, keptUnless, currentRow, peekAmong, peekWords, waitsIn, droppedRow, takenOut, removeStream, setIn, setBytesRemaining, beginWaiting, acceptAt};
+use crate::own::accept_own;
+use crate::own::remove_own;
 use active_table::groups::least_known;
-use active_table::groups::refresh;
 use active_table::seek;
 use queue_words::QUEUE_WORDS;
 use queue_words::active::ActiveStreamInfo;
@@ -250,9 +251,7 @@ pub fn remove_stream(queue: &mut [u64; QUEUE_WORDS], stream_id: u16) -> bool
     if s.active > STREAMS {
         return false;
     }
-    let n = s.active as usize;
-    let at = seek(&*queue, stream_id, n);
-    take_out(queue, stream_id, at, n);
+    remove_own(queue, stream_id);
     true
 }
 
@@ -359,32 +358,6 @@ pub fn accept(queue: &mut [u64; QUEUE_WORDS], at: usize, bytes: u64) -> bool
     if at >= n {
         return false;
     }
-    let a = load_active(&*queue, at);
-    let time = calculate_vt(a.parameters, a.virtual_start_time, bytes);
-    if a.bytes_remaining <= bytes {
-        drop_row(queue, at, Remembered::NoStream, time, n);
-        refresh(queue, at);
-        return true;
-    }
-    let o = load_options(&*queue);
-    let left = a.bytes_remaining - bytes;
-    let row = schedule_next_chunk(
-        o.payload_limit as u64,
-        a.stream_id.0,
-        a.parameters,
-        time,
-        left,
-    );
-    store_active(queue, at, row);
-    let current = remember(a.stream_id.0, a.parameters);
-    store_scheduler_state(
-        queue,
-        SchedulerState {
-            current,
-            system_virtual_time: time,
-            active: n as u64,
-        },
-    );
-    refresh(queue, at);
+    accept_own(queue, at, bytes);
     true
 }

@@ -1,12 +1,26 @@
-// The choice in words of which it is known that the scheduler has at most 256 rows: nothing is tested.
+// The choice, and what follows it, in words of which it is known that the scheduler has at most 256 rows: nothing is tested.
 ghost use mathlib.Core.Path.{_≡_};
+ghost use mathlib.Core.Bool.{true};
 ghost use Prim.Native.Nat.{_≤_};
 ghost use Rattle.queue_words.specs.Header.{schedulerAt};
-ghost use Rattle.stream_scheduler.specs.Own.{peekedOf};
-ghost use Rattle.stream_scheduler.specs.Words.{peekWords};
+ghost use Rattle.stream_scheduler.specs.Own.{peekedOf, HasRow};
+ghost use Rattle.stream_scheduler.specs.Words.{outcome, peekWords, removeStream, acceptAt};
+use crate::calculate_vt;
+use crate::drop_row;
 use crate::front_row;
+use crate::remember;
+use crate::schedule_next_chunk;
+use crate::take_out;
+use active_table::groups::refresh;
+use active_table::seek;
 use queue_words::QUEUE_WORDS;
+use queue_words::active::load_active;
+use queue_words::active::store_active;
+use queue_words::header::Remembered;
+use queue_words::header::SchedulerState;
+use queue_words::header::load_options;
 use queue_words::header::load_scheduler_state;
+use queue_words::header::store_scheduler_state;
 
 // What the scheduler would hand out from.
 pub enum Front {
@@ -26,4 +40,51 @@ pub fn peek_own(queue: &[u64; QUEUE_WORDS]) -> Front
     let current = s.current;
     let at = front_row(queue, n, current);
     Front::Row(at)
+}
+
+// Ends a stream's waiting.
+pub fn remove_own(queue: &mut [u64; QUEUE_WORDS], stream_id: u16)
+    requires { ⌜ schedulerAt (now queue) .active ≤ 256 ⌝ }
+    ensures { λ _. ⌜ outcome true (now (queue .exit)) ≡ removeStream (now (queue .entry)) «stream_id» ⌝ }
+{
+    let s = load_scheduler_state(&*queue);
+    let n = s.active as usize;
+    let at = seek(&*queue, stream_id, n);
+    take_out(queue, stream_id, at, n);
+}
+
+// Hands out bytes of the row `at`: its start moves by their cost, and the system time becomes that start.
+pub fn accept_own(queue: &mut [u64; QUEUE_WORDS], at: usize, bytes: u64)
+    requires { ⌜ HasRow (now queue) at ⌝ }
+    ensures { λ _. ⌜ outcome true (now (queue .exit)) ≡ acceptAt (now (queue .entry)) at bytes ⌝ }
+{
+    let s = load_scheduler_state(&*queue);
+    let n = s.active as usize;
+    let a = load_active(&*queue, at);
+    let time = calculate_vt(a.parameters, a.virtual_start_time, bytes);
+    if a.bytes_remaining <= bytes {
+        drop_row(queue, at, Remembered::NoStream, time, n);
+        refresh(queue, at);
+        return;
+    }
+    let o = load_options(&*queue);
+    let left = a.bytes_remaining - bytes;
+    let row = schedule_next_chunk(
+        o.payload_limit as u64,
+        a.stream_id.0,
+        a.parameters,
+        time,
+        left,
+    );
+    store_active(queue, at, row);
+    let current = remember(a.stream_id.0, a.parameters);
+    store_scheduler_state(
+        queue,
+        SchedulerState {
+            current,
+            system_virtual_time: time,
+            active: n as u64,
+        },
+    );
+    refresh(queue, at);
 }
