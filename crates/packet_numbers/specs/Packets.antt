@@ -13,8 +13,11 @@ abbrev pub packetWith : ℕ → ℕ → ℕ → ℕ → ℕ → Packet
 packetWith limit source destination tag tsn = record { limit = limit; «source_port» = source; «destination_port» = destination; «verification_tag» = tag; tsn = tsn }
 
 -- the chunks as the value, the events, the bytes as the length
+abbrev pub toldPacket : List ℕ → ℕ → ℕ → ℕ → List ℕ
+toldPacket out k bytes chunks = set (set (set out 0 chunks) 1 k) 2 bytes
+
 abbrev pub filledOut : List ℕ → PacketFilled → List ℕ
-filledOut out (packet.Filled k bytes chunks) = set (set (set out 0 chunks) 1 k) 2 bytes
+filledOut out (packet.Filled k bytes chunks) = toldPacket out k bytes chunks
 filledOut out (packet.Refused n) = out
 
 -- What filling a packet gives: the number r, and what is left in each array, by the definition on the words. `out` is the array before the call.
