@@ -1,4 +1,4 @@
-/* The receiving head for a host in C99 or C++: link it with libreceiver_c.a, which `scripts/libraries` makes for x86-64. DATA or
+/* The receiving head for a host in C99 or C++: link it with libreceiver_c.a, or with libdesqariy.so (see send_queue.h). DATA or
  * I-DATA chunks go in, in any order and with repeats; the messages that they carry come out. Of the C library it uses memcpy, memmove and
  * memset. It allocates nothing and keeps nothing: all of a receiver is in the words and the store that the host lends to each call.
  *

@@ -1,7 +1,7 @@
 /* The send queue for a host in C99 or C++: link it with libsend_queue_c.a and, where dsq_fill_packet is called, with libpackets_c.a beside
- * it; that one function is in the second, all others are in the first. `scripts/libraries` makes both for x86-64. Of the C library they use
- * memcpy, memmove and memset. They allocate nothing and keep nothing: all of a queue is in the words and the store that the host lends to
- * each call.
+ * it; that one function is in the second, all others are in the first. Or with libdesqariy.so, which scripts/install makes of them and of the
+ * receiver's library. They are for x86-64 Linux: the toolchain compiles for nothing else (no ARM64). Of the C library they use memcpy,
+ * memmove and memset. They allocate nothing and keep nothing: all of a queue is in the words and the store that the host lends to each call.
  *
  * The functions are proved: on any words, any store and any buffers they return, they read and write inside what is lent to them
  * only, and a refused call changes nothing, in no array. What a host must keep, since no proof of theirs can see it:
