@@ -10,7 +10,7 @@ use lib.Pow.{pow-add, areBytes}
 use lib.ListN.{length, take, drop, getD, set, length-append, length-drop}
 use lib.Seq.{length-take-le, drop-drop, take-add, take-at, drop-cons, set-split, drop-append-add}
 use Rattle.queue_model.specs.Bytes.{number-bytes, bytes-number}
-use Rattle.queue_model.proofs.Image.ByteRows.{length-number-bytes, read-written, written-read, and-l, and-r, and-intro}
+use Rattle.queue_model.proofs.Image.ByteRows.{length-number-bytes, read-written, written-read, and-l, and-r, and-intro, pow-pos}
 use Rattle.big_endian.specs.Numbers.{numberAt, wrote}
 use Rattle.queue_model.proofs.Demand2.Bytes.{number-are-bytes, append-bytes}
 
@@ -68,9 +68,6 @@ byte-wrote b at n h k =
     let e : n / 1 % 256 ≡ n = rw (div-one, mod-eq-of-lt k) in
     let f : suc at ≡ at + 1 = omega arith in
     rw (set-split b at n (omega arith), e, f)
-
-pow-pos : (w : ℕ) → zero < 256 ^ w
-pow-pos w = one-le-pow w 256 (zero-lt-suc 255)
 
 -- the bytes of a number: those of its high part, then those of its low part
 pub bytes-halves : (v w n : ℕ) → n < 256 ^ (v + w) → number-bytes (v + w) n ≡ number-bytes v (n / 256 ^ w) ++ number-bytes w (n % 256 ^ w)

@@ -19,7 +19,7 @@ use Rattle.receiver_words.specs.Index.{samePlace, sameKey}
 use Rattle.receiver_words.specs.Chunks.{chunkOf}
 use Rattle.receiver_words.specs.declared.fragments.Fragment.{Fragment}
 use Rattle.receiver_fragments.specs.Checks.{sameMarks, sameFields}
-use Rattle.linked_receiver.proofs.Found.{both}
+use Rattle.payload_store.proofs.Cases.{pick-both}
 
 -- ------------------------------------------------------------------ what is the same as itself
 
@@ -77,13 +77,13 @@ module _ (k : Kind) (f h : Fragment) (p q : List ℕ) (tsn : f .tsn ≡ h .tsn) 
   fields-same : sameFields f h ≡ true → p ≡ q → c ≡ d
   unfolding sameFields sameMarks
   fields-same e pq =
-      let a₁ = both _ _ e in
-      let a₂ = both _ _ (a₁ .1) in
-      let a₃ = both _ _ (a₂ .1) in
-      let a₄ = both _ _ (a₃ .1) in
-      let a₅ = both _ _ (a₄ .1) in
-      let a₆ = both _ _ (a₅ .1) in
-      let a₇ = both _ _ (a₆ .1) in
+      let a₁ = pick-both _ _ e in
+      let a₂ = pick-both _ _ (a₁ .1) in
+      let a₃ = pick-both _ _ (a₂ .1) in
+      let a₄ = pick-both _ _ (a₃ .1) in
+      let a₅ = pick-both _ _ (a₄ .1) in
+      let a₆ = pick-both _ _ (a₅ .1) in
+      let a₇ = pick-both _ _ (a₆ .1) in
       let s : f .stream .0 ≡ h .stream .0 = eqb-true _ _ (a₁ .0) in
       let n : f .ssn .0 ≡ h .ssn .0 = eqb-true _ _ (a₂ .0) in
       let m : f .mid .0 ≡ h .mid .0 = eqb-true _ _ (a₃ .0) in
@@ -134,8 +134,8 @@ module _ (k : Kind) (f h : Fragment) (p q : List ℕ) where
   pub key-place : sameKey 1 h f ≡ true → same-place I-DATA (chunkOf k f p) (chunkOf k h q) ≡ true
   unfolding same-place sameKey samePlace number
   key-place e =
-      let a₁ = both _ _ e in
-      let a₂ = both _ _ (a₁ .1) in
-      let a₃ = both _ _ (a₂ .1) in
+      let a₁ = pick-both _ _ e in
+      let a₂ = pick-both _ _ (a₁ .1) in
+      let a₃ = pick-both _ _ (a₂ .1) in
       rw (is-alike I-DATA (chunkOf k f p) (chunkOf k h q) (sym (eqb-true _ _ (a₁ .0))) (sym (bit-is _ _ (eqb-true _ _ (a₂ .0)))) (sym (eqb-true _ _ (a₃ .0))))
       (eq-eqb (f .fsn .0) (h .fsn .0) (sym (eqb-true _ _ (a₃ .1))))

@@ -17,13 +17,9 @@ use Rattle.receiver_words.specs.Link.{Linked, firstKey}
 use Rattle.receiver_words.specs.declared.fragments.Fragment.{Fragment}
 use Rattle.receiver_words.proofs.Finds.{find-linked}
 use Rattle.linked_receiver.specs.Rows.{hits, Indexed}
+use Rattle.payload_store.proofs.Cases.{pick-both}
 
 -- ------------------------------------------------------------------ one key, one bucket
-
--- a test that holds, behind another
-pub both : (a b : Bool) → pick a b false ≡ true → (a ≡ true) × (b ≡ true)
-both true b e = (refl, e)
-both false b e = absurd (true≢false e refl)
 
 module _ (f g : Fragment) where
   place-alike : samePlace f g ≡ true → (f .stream .0 ≡ g .stream .0) × ((f .mid .0 ≡ g .mid .0) × (f .fsn .0 ≡ g .fsn .0))
@@ -32,16 +28,16 @@ module _ (f g : Fragment) where
       let u = eqb (bit (f .unordered)) (bit (g .unordered)) in
       let m = eqb (f .mid .0) (g .mid .0) in
       let n = eqb (f .fsn .0) (g .fsn .0) in
-      let p = both (eqb (f .stream .0) (g .stream .0)) (pick u (pick m n false) false) e in
-      let q = both u (pick m n false) (p .1) in
-      let r = both m n (q .1) in
+      let p = pick-both (eqb (f .stream .0) (g .stream .0)) (pick u (pick m n false) false) e in
+      let q = pick-both u (pick m n false) (p .1) in
+      let r = pick-both m n (q .1) in
       (eqb-true _ _ (p .0), (eqb-true _ _ (r .0), eqb-true _ _ (r .1)))
 
   number-alike : sameNumber f g ≡ true → (f .stream .0 ≡ g .stream .0) × ((f .ssn .0 ≡ g .ssn .0) × (f .mid .0 ≡ g .mid .0))
   unfolding sameNumber
   number-alike e =
-      let p = both _ _ e in
-      let q = both _ _ (p .1) in
+      let p = pick-both _ _ e in
+      let q = pick-both _ _ (p .1) in
       (eqb-true _ _ (p .0), (eqb-true _ _ (q .0), eqb-true _ _ (q .1)))
 
   pub one-bucket : (k : ℕ) → sameKey k f g ≡ true → bucketOf k f ≡ bucketOf k g

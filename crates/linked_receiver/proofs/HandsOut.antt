@@ -48,10 +48,10 @@ module _ (ws : List ℕ) (k : ℕ) (f : Fragment) (x : ℕ) (xs : List ℕ) wher
   unfolding firstKey
   first-there e = rw e
 
-key-same : (ws ws′ : List ℕ) (k : ℕ) (f : Fragment) (xs : List ℕ) → ((x : ℕ) → 0 < count x xs → fragmentAt ws′ x ≡ fragmentAt ws x) → firstKey ws′ k f xs ≡ firstKey ws k f xs
+pub first-same : (ws ws′ : List ℕ) (k : ℕ) (f : Fragment) (xs : List ℕ) → ((x : ℕ) → 0 < count x xs → fragmentAt ws′ x ≡ fragmentAt ws x) → firstKey ws′ k f xs ≡ firstKey ws k f xs
 unfolding firstKey
-key-same ws ws′ k f [] h = refl
-key-same ws ws′ k f (x ∷ xs) h = rw (h x (stands-here x xs), key-same ws ws′ k f xs (λ y c. h y (let m = count-cons y x xs in omega arith)))
+first-same ws ws′ k f [] h = refl
+first-same ws ws′ k f (x ∷ xs) h = rw (h x (stands-here x xs), first-same ws ws′ k f xs (λ y c. h y (let m = count-cons y x xs in omega arith)))
 
 -- a row that is found is found among the others too
 key-without : (ws : List ℕ) (k : ℕ) (f : Fragment) (i z : ℕ) (xs : List ℕ) → firstKey ws k f xs ≡ z → (z ≡ i → ⊥) → firstKey ws k f (without i xs) ≡ z
@@ -79,7 +79,7 @@ module _ (ws ws′ st : List ℕ) (b : Bool) (held free free′ : List ℕ) (i :
   find-freed : (g : Fragment) (z : ℕ) → findRow ws (bit b) g ≡ z → (z ≡ i → ⊥) → findRow ws′ (bit b) g ≡ z
   find-freed g z e n =
       find-indexed ws′ (bit b) g (without i held) (parts-indexed ws′ st b (without i held) free′ o′) (held-few ws′ st b (without i held) free′ o′)
-      ∙ key-same ws ws′ (bit b) g (without i held) (λ x c. freed-fragment ws ws′ f x (held-rows ws′ st b (without i held) free′ o′ x c))
+      ∙ first-same ws ws′ (bit b) g (without i held) (λ x c. freed-fragment ws ws′ f x (held-rows ws′ st b (without i held) free′ o′ x c))
       ∙ key-without ws (bit b) g i z held (sym (find-indexed ws (bit b) g held (parts-indexed ws st b held free o) (held-few ws st b held free o)) ∙ e) n
 
   part-freed : (x z : ℕ) → x < 4096 → partAfter ws b x ≡ z → (z ≡ i → ⊥) → partAfter ws′ b x ≡ z

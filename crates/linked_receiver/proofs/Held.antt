@@ -27,14 +27,15 @@ use Rattle.receiver_fragments.specs.Holding.{Kept, hold}
 use Rattle.linked_receiver.specs.Rows.{Indexed, Unique, looseRows}
 use Rattle.linked_receiver.specs.Good.{Ghost, wholeRows, Walk, Carried, Good, chunkIn, messageIn, stands}
 use Rattle.linked_receiver.proofs.Lists.{keep-same, count-kept}
-use Rattle.linked_receiver.proofs.Found.{both, find-indexed, first-there}
+use Rattle.linked_receiver.proofs.Found.{find-indexed, first-there}
 use Rattle.linked_receiver.proofs.Indexes.{indexed-frame}
 use Rattle.linked_receiver.proofs.Promotes.{lined-frame}
 use Rattle.linked_receiver.proofs.Walks.{KeyAmong, absent, present, key-among}
 use Rattle.linked_receiver.proofs.Frees.{Holds, held-rows, held-few}
-use Rattle.linked_receiver.proofs.HandsOut.{parts-indexed}
+use Rattle.linked_receiver.proofs.HandsOut.{parts-indexed, first-same}
 use Rattle.linked_receiver.proofs.Taken.{rows-one, map-same, turn-rows-same, good-holds}
 use Rattle.linked_receiver.proofs.Holds.{Grown, w8, put, puts, grown, its-fragment, not-whole, its-payload, payload, holds8, hold-is}
+use Rattle.payload_store.proofs.Cases.{pick-both}
 
 -- ------------------------------------------------------------------ keys
 
@@ -46,12 +47,12 @@ join-tsn a c q e h = eq-eqb (a .tsn) (c .tsn) (eqb-true (a .tsn) (q .tsn) e ∙ 
 join-place : (a c q : Fragment) → sameKey 1 a q ≡ true → sameKey 1 c q ≡ true → sameKey 1 a c ≡ true
 unfolding sameKey samePlace
 join-place a c q e h =
-    let e₁ = both _ _ e in
-    let e₂ = both _ _ (e₁ .1) in
-    let e₃ = both _ _ (e₂ .1) in
-    let h₁ = both _ _ h in
-    let h₂ = both _ _ (h₁ .1) in
-    let h₃ = both _ _ (h₂ .1) in
+    let e₁ = pick-both _ _ e in
+    let e₂ = pick-both _ _ (e₁ .1) in
+    let e₃ = pick-both _ _ (e₂ .1) in
+    let h₁ = pick-both _ _ h in
+    let h₂ = pick-both _ _ (h₁ .1) in
+    let h₃ = pick-both _ _ (h₂ .1) in
     rw (
       eq-eqb (a .stream .0) (c .stream .0) (eqb-true _ _ (e₁ .0) ∙ sym (eqb-true _ _ (h₁ .0))),
       eq-eqb (bit (a .unordered)) (bit (c .unordered)) (eqb-true _ _ (e₂ .0) ∙ sym (eqb-true _ _ (h₂ .0))),
@@ -71,12 +72,6 @@ at-part b ws h x e = e
 part-at : (b : Bool) (ws : List ℕ) (h x : ℕ) → partAfter ws b h ≡ x → findRow ws (bit b) (following (fragmentAt ws h)) ≡ x
 unfolding partAfter
 part-at b ws h x e = e
-
-pub first-same : (ws ws′ : List ℕ) (k : ℕ) (f : Fragment) (xs : List ℕ) → ((x : ℕ) → 0 < count x xs → fragmentAt ws′ x ≡ fragmentAt ws x) → firstKey ws′ k f xs ≡ firstKey ws k f xs
-unfolding firstKey
-first-same ws ws′ k f [] h = refl
-first-same ws ws′ k f (x ∷ xs) h =
-    ap₂ (λ (v : Fragment) (n : ℕ). pick (sameKey k v f) x n) (h x (stands-here x xs)) (first-same ws ws′ k f xs (λ y c. h y (let m = count-cons y x xs in omega arith)))
 
 -- a message's rows follow each other as before where what was found is found
 pub walk-by : (ws ws′ : List ℕ) (b : Bool) (held : List ℕ) → ((x : ℕ) → 0 < count x held → fragmentAt ws′ x ≡ fragmentAt ws x) → ((x : ℕ) → 0 < count x held → x < 4096)

@@ -2,7 +2,7 @@
 use mathlib.Core.Path.{_≡_, refl, sym, ap, _∙_, subst}
 use mathlib.Core.Logic.{_⊎_, inl, inr, ⊎-elim}
 use mathlib.Core.Bool.{Bool, not}
-use mathlib.Core.List.{List, [], _∷_, _++_}
+use mathlib.Core.List.{List, [], _∷_, _++_, append-nil}
 use Prim.Native.Nat.{ℕ, zero, suc, _+_, _≤_, _<_}
 use native.Mathlib.Omega.{arith}
 use borrow.Author.Tests.{le-leb, lt-leb, eq-eqb, ne-eqb}
@@ -24,7 +24,7 @@ use Rattle.receiver_words.proofs.Unindex.{follow-other, follow-head-other, unin
 use Rattle.linked_receiver.specs.Rows.{hits, Indexed}
 use Rattle.linked_receiver.specs.Kept.{Kept}
 use Rattle.linked_receiver.proofs.Found.{bucket-in}
-use Rattle.linked_receiver.proofs.Lists.{keep-same, keep-append, append-nil, keep-without, count-kept}
+use Rattle.linked_receiver.proofs.Lists.{keep-same, keep-append, keep-without, count-kept}
 use Rattle.linked_receiver.proofs.Keeps.{kept-fragment, index-kept, unindex-kept, last-kept}
 
 -- ------------------------------------------------------------------ the rows of an index

@@ -32,6 +32,7 @@ use Rattle.linked_receiver.proofs.Found.{find-indexed}
 use Rattle.linked_receiver.proofs.Walks.{KeyAmong, absent, present, key-among}
 use Rattle.linked_receiver.proofs.HeldRows.{held-row, held-few, AnyHeld, one-held, none-held, any-held}
 use Rattle.linked_receiver.proofs.Compares.{code, same-code, place-key, key-place}
+use Rattle.receiver_words.proofs.Passes.{member-counts}
 
 -- ------------------------------------------------------------------ tests
 
@@ -50,13 +51,6 @@ or-no false c e f = e
 or-yes : (a c : Bool) → a || c ≡ false → c ≡ true → ⊥
 or-yes true c e f = true≢false refl e
 or-yes false c e f = true≢false f e
-
-pub member-count : (n : ℕ) (xs : List ℕ) → member n xs ≡ true → 0 < count n xs
-member-count n [] e = absurd (true≢false e (member-nil n))
-member-count n (x ∷ xs) e = elim (compare-same x n) [
-  | equal s ↦ (let a = count-here n x xs s in omega arith)
-  | other d ↦ (let a = member-count n xs (sym (member-there n x xs d) ∙ e) in let c = count-cons n x xs in omega arith)
-]
 
 pub turns-length : (ws : List ℕ) (n i : ℕ) → length (turnRows ws i n) ≡ n
 unfolding turnRows
@@ -189,7 +183,7 @@ module _ (g : Ghost) (ws st : List ℕ) (good : Good g ws st) (f : Fragment) (bs
         some-past = ltb-true 0 d (and-left (ltb 0 d) (ltb d (2 ^ 31)) after)
 
         go : Value (ltb 1024 d) → Value (member (f .tsn) (g .ahead)) → pick (ltb 1024 d) false (aheadAt ws (f .tsn)) ≡ member (f .tsn) (g .ahead)
-        go (yes-is e) (yes-is m) = absurd (let a = w .ahead .near (f .tsn) (member-count (f .tsn) (g .ahead) m) in let l = ltb-true 1024 d e in omega arith)
+        go (yes-is e) (yes-is m) = absurd (let a = w .ahead .near (f .tsn) (member-counts (f .tsn) (g .ahead) m) in let l = ltb-true 1024 d e in omega arith)
         go (yes-is e) (no-is m) = ap (λ (v : Bool). pick v false (aheadAt ws (f .tsn))) e ∙ sym m
         go (no-is e) m = ap (λ (v : Bool). pick v false (aheadAt ws (f .tsn))) e ∙ good .flags .flags (f .tsn) fits some-past (ltb-false 1024 d e)
 

@@ -35,10 +35,6 @@ keep-append f (x ∷ xs) ys = go (value (f x)) (keep-append f xs ys)
     go (yes-is e) ih = keep-yes f x (xs ++ ys) e ∙ ap (_∷_ x) ih ∙ sym (ap (λ (zs : List ℕ). zs ++ keep f ys) (keep-yes f x xs e))
     go (no-is e) ih = keep-no f x (xs ++ ys) e ∙ ih ∙ sym (ap (λ (zs : List ℕ). zs ++ keep f ys) (keep-no f x xs e))
 
-pub append-nil : (xs : List ℕ) → xs ++ [] ≡ xs
-append-nil [] = refl
-append-nil (x ∷ xs) = ap (_∷_ x) (append-nil xs)
-
 -- the row taken out before or after
 pub keep-without : (f : ℕ → Bool) (i : ℕ) (xs : List ℕ) → keep f (without i xs) ≡ without i (keep f xs)
 unfolding keep

@@ -31,9 +31,9 @@ use Rattle.linked_receiver.proofs.Found.{find-indexed}
 use Rattle.linked_receiver.proofs.Indexes.{indexed-frame}
 use Rattle.linked_receiver.proofs.Promotes.{lined-frame}
 use Rattle.linked_receiver.proofs.Frees.{Holds, held-rows, held-few, aged-same, free-same}
-use Rattle.linked_receiver.proofs.HandsOut.{parts-indexed}
+use Rattle.linked_receiver.proofs.HandsOut.{parts-indexed, first-same}
 use Rattle.linked_receiver.proofs.Taken.{rows-one, map-same, good-holds}
-use Rattle.linked_receiver.proofs.Held.{first-same, walk-by}
+use Rattle.linked_receiver.proofs.Held.{walk-by}
 
 -- nothing is changed but the window, the known streams, and words 2 and 3 of the header
 pub record Others (ws ws′ : List ℕ) : Type 0 where

@@ -8,13 +8,13 @@ use Prim.Native.Nat.{ℕ, zero, suc, _+_, _%_, _^_, _≤_, _<_}
 use native.Mathlib.Omega.{arith}
 use lib.Dec.{eqb}
 use lib.ListN.{length}
-use borrow.Author.Tests.{eq-eqb, ne-eqb, le-leb, lt-leb}
+use borrow.Author.Tests.{eq-eqb, ne-eqb, le-leb, lt-leb, not-true}
 use Rattle.types.specs.Wrap.{wrap-suc}
 use Rattle.queue_words.specs.Flags.{bit}
 use Rattle.receiver_model.specs.Lists.{count, first-with}
 use Rattle.receiver_model.specs.Types.{DATA, I-DATA, Chunk}
 use Rattle.receiver_model.specs.Assembly.{begins, same-message, goes-on}
-use Rattle.receiver_model.proofs.Lists.{true≢false, and-left, and-right, not-true, eqb-is, Value, yes-is, no-is, value, count-nil, count-here, count-there, equal, other, compare-same, first-yes, first-no, first-nil, hit, miss, Search, search-in, length-keep, at-least, none≢some, some-is}
+use Rattle.receiver_model.proofs.Lists.{true≢false, and-left, and-right, eqb-is, Value, yes-is, no-is, value, count-nil, count-here, count-there, equal, other, compare-same, first-yes, first-no, first-nil, hit, miss, Search, search-in, length-keep, at-least, none≢some, some-is}
 use Rattle.receiver_words.specs.Fragments.{fragmentAt, FitsFragment}
 use Rattle.receiver_words.specs.Chunks.{kindOf, chunkOf}
 use Rattle.receiver_words.specs.declared.fragments.Fragment.{Fragment}

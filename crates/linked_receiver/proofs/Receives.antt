@@ -7,6 +7,7 @@ use Prim.Native.Nat.{ℕ, suc, _^_, _<_}
 use native.Mathlib.Omega.{arith}
 use lib.Dec.{eqb}
 use lib.ListN.{length}
+use borrow.Author.Tests.{not-false}
 use Rattle.queue_model.specs.Logic.{any}
 use Rattle.receiver_model.specs.Lists.{count, member}
 use Rattle.receiver_model.specs.Tsn.{is-after}
@@ -14,7 +15,7 @@ use Rattle.receiver_model.specs.Types.{Chunk, Assembled, Receiver, Step, reply,
 use Rattle.receiver_model.specs.Assembly.{whole-among, without-message}
 use Rattle.receiver_model.specs.Receive.{pass, makes-repeat, same-place, next-in, set-next}
 use Rattle.receiver_model.specs.Receive as model
-use Rattle.receiver_model.proofs.Lists.{true≢false, or-left, or-right, not-false, Value, yes-is, no-is, value}
+use Rattle.receiver_model.proofs.Lists.{true≢false, or-left, or-right, Value, yes-is, no-is, value}
 use Rattle.receiver_model.proofs.Settled.{Distinct}
 use Rattle.receiver_model.proofs.AnyCalls.{older, Settled, grown-distinct, fewer-distinct}
 use Rattle.receiver_model.proofs.Window.{Ahead, Window}

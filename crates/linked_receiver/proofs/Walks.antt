@@ -7,14 +7,14 @@ use Prim.Native.Nat.{ℕ, zero, suc, _≤_, _<_}
 use native.Mathlib.Omega.{arith}
 use lib.Dec.{eqb}
 use lib.ListN.{length}
-use borrow.Author.Tests.{eq-eqb, le-leb, lt-leb}
+use borrow.Author.Tests.{eq-eqb, le-leb, lt-leb, not-true}
 use Rattle.types.specs.Wrap.{wrap-suc}
 use Rattle.queue_words.specs.Flags.{pick, bit}
 use Rattle.queue_model.specs.Logic.{same-bool}
 use Rattle.receiver_model.specs.Lists.{count, keep, first-with}
 use Rattle.receiver_model.specs.Types.{Kind, DATA, I-DATA, Chunk}
 use Rattle.receiver_model.specs.Assembly.{number, same-message, goes-on, with-piece, gather-on, gather}
-use Rattle.receiver_model.proofs.Lists.{true≢false, and-left, and-right, not-true, eqb-is, Value, yes-is, no-is, value, count-nil, count-here, count-there, count-cons, equal, other, compare-same, count-keep-yes, count-keep-no, Search, hit, miss, search-in}
+use Rattle.receiver_model.proofs.Lists.{true≢false, and-left, and-right, eqb-is, Value, yes-is, no-is, value, count-nil, count-here, count-there, count-cons, equal, other, compare-same, count-keep-yes, count-keep-no, Search, hit, miss, search-in}
 use Rattle.receiver_model.proofs.Ranks.{same-bool-is}
 use Rattle.receiver_model.proofs.Gather.{gather-zero, gather-last, gather-next, gather-on-none, gather-on-some}
 use Rattle.receiver_words.specs.Fragments.{fragmentAt}

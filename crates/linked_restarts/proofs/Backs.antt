@@ -30,12 +30,9 @@ use Rattle.queue_state.proofs.Singles.{model-streams}
 use Rattle.queue_state.proofs.Tabs.{tab-sum, tab-each}
 use Rattle.queue_state.proofs.Facts.{offset-is}
 use Rattle.payload_store.proofs.Cases.{by-index}
+use Rattle.queue_model.proofs.Account.Ledger.{no-put-back}
 
 -- ---- one stream
-
-back-nil : put-back [] ≡ 0
-unfolding put-back
-back-nil = refl
 
 back-cons : (i : plain.Item) (is : List plain.Item) → put-back (i ∷ is) ≡ length (i .payload) - plain.remaining i
 unfolding put-back
@@ -43,7 +40,7 @@ back-cons i is = refl
 
 pub back-is : (ws st : List ℕ) (g : Shape ws st) (first : ℕ) (ps : List ℕ) → Linked (nextOf ws) first ps → putBack ws first ≡ put-back (each (itemIn ws st) ps)
 unfolding putBack rest
-back-is ws st g first [] l = rw (lt-ltb 1023 first (omega arith)) (sym back-nil)
+back-is ws st g first [] l = rw (lt-ltb 1023 first (omega arith)) (sym no-put-back)
 back-is ws st g first (x ∷ xs) l =
     let e : first ≡ x = l .0 in
     let b : first ≤ 1023 = omega (arith, l .1) in

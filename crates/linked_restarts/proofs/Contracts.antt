@@ -5,6 +5,7 @@ use mathlib.Core.List.{List, [], _∷_, _++_}
 use Prim.Native.Nat.{ℕ}
 use native.Mathlib.Omega.{arith}
 use lib.ListN.{length, take}
+use lib.Seq.{take-append-seam}
 use Rattle.queue_model.specs.Types.{Answer, refused, done, number, flag, ids, fragment, nothing-waits, filled}
 use Rattle.queue_model.specs.Answers.{answer-number, answer-ids}
 use Rattle.queue_model.specs.Run as run
@@ -55,17 +56,12 @@ ready-number (fragment f) = refl
 ready-number nothing-waits = refl
 ready-number (filled bs n) = refl
 
--- As many as the list has, of a list with others behind it.
-take-front : (l m : List ℕ) → take (length l) (l ++ m) ≡ l
-take-front [] m = refl
-take-front (x ∷ l) m = ap (λ (r : List ℕ). x ∷ r) (take-front l m)
-
 ready-list : (a : Answer) → readyList (readyOf a) ≡ answer-ids a
 ready-list (refused n) = refl
 ready-list done = refl
 ready-list (number m) = refl
 ready-list (flag b) = refl
-ready-list (ids l) = take-front l _
+ready-list (ids l) = take-append-seam l _
 ready-list (fragment f) = refl
 ready-list nothing-waits = refl
 ready-list (filled bs n) = refl

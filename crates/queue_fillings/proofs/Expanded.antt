@@ -31,6 +31,7 @@ use Rattle.queue_fillings.proofs.Same.{Same, same-self, run-same, after
 use Rattle.queue_fillings.proofs.Separate.{calls-next, AllWithin, sizes-within, accepted-next, refused-next, accepted-past, accepted-within}
 use Rattle.queue_fillings.proofs.Calls.{all-asked}
 use Rattle.queue_runs.proofs.Closing.{after-append}
+use Rattle.queue_runs.proofs.Account.{filled-refusal}
 
 -- ------------------------------------------------------------------ lists
 
@@ -72,16 +73,6 @@ pub record Stands (c : Call) (s : State) : Type 0 where
   pub no-fillings : NoFillings (instead c s)
   pub leads : Same (runs.after (instead c s) s) (step c s .next)
 
-refusal-is : (a : plain.Answer) (k : ℕ) → refusal (filled (filledOf a k)) ≡ is-refused a
-refusal-is (plain.refused n) k = refl
-refusal-is plain.done k = refl
-refusal-is (plain.number m) k = refl
-refusal-is (plain.flag b) k = refl
-refusal-is (plain.ids l) k = refl
-refusal-is (plain.fragment f) k = refl
-refusal-is plain.nothing-waits k = refl
-refusal-is (plain.filled bs n) k = refl
-
 module _ (es bs : List ℕ) (time : ℕ) (p : Packet) (s : State) (g : Good s) (t : Typed (fill es bs time p)) where
   abbrev c : Call
   c = fill es bs time p
@@ -90,7 +81,7 @@ module _ (es bs : List ℕ) (time : ℕ) (p : Packet) (s : State) (g : Good s) (
   len = length (s .store)
 
   pub told : refusal (step (fill es bs time p) s .shows .answer) ≡ is-refused (meant (fill es bs time p) s .outcome .answer)
-  told = ap (λ (x : Shown). refusal (x .answer)) (step-link (fill es bs time p) s g t .shows-are) ∙ refusal-is (meant (fill es bs time p) s .outcome .answer) (length (meant (fill es bs time p) s .outcome .events))
+  told = ap (λ (x : Shown). refusal (x .answer)) (step-link (fill es bs time p) s g t .shows-are) ∙ filled-refusal (meant (fill es bs time p) s .outcome .answer) (length (meant (fill es bs time p) s .outcome .events))
 
   pub within : is-refused (meant (fill es bs time p) s .outcome .answer) ≡ false → AllWithin (length bs) (sizesAsked es time p s)
   within e = all-within (p .limit) (length bs) (sizesAsked es time p s) (accepted-within (length (s .store)) (placesIn es) (length bs) time (packetOf p) (queueOf s) e) (sizes-within (length (s .store)) (placesIn es) time (p .limit) (queueOf s))

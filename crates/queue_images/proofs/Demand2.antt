@@ -8,6 +8,7 @@ use native.Mathlib.Omega.{arith}
 use lib.Dec.{T}
 use lib.ListN.{length, take, drop}
 use lib.Pow.{areBytes}
+use lib.Seq.{take-append-seam}
 use Rattle.queue_model.specs.Types as plain
 use Rattle.queue_model.specs.Types.{Queue, done, reply, Step}
 use Rattle.queue_model.specs.Demands as demands
@@ -37,11 +38,6 @@ use Rattle.queue_images.specs.Demand2.{Saves, freshState, Restores, Dema
 use Rattle.queue_runs.proofs.Demand3.{restore-is}
 
 -- ---- the saved image
-
--- The first bytes of a list are those put before it.
-take-front : (xs ys : List ℕ) → take (length xs) (xs ++ ys) ≡ xs
-take-front [] ys = refl
-take-front (x ∷ xs) ys = ap (λ l. x ∷ l) (take-front xs ys)
 
 saved-bytes : (store room now : ℕ) (q : Queue) (bs : List ℕ) → save store room now q ≡ saved-as bs → bs ≡ write-image now q
 unfolding save saving-or
@@ -76,7 +72,7 @@ the-image s at size buffer after g h =
     let e : savedAs (saved.Image size) after ≡ savedOf buffer x = sym (h .accepted) ∙ save-is (s .words) (s .store) buffer at g in
     let k = image-in buffer after size x (write-image at (queueOf s)) (saved-bytes (length (s .store)) (length buffer) at (queueOf s)) (image-fits (length (s .store)) (length buffer) at (queueOf s)) e in
     let img : List ℕ = write-image at (queueOf s) in
-    (ap (λ n. take n after) (k .0) ∙ ap (take (length img)) (k .1) ∙ take-front img (drop (length img) buffer), k .2)
+    (ap (λ n. take n after) (k .0) ∙ ap (take (length img)) (k .1) ∙ take-append-seam img (drop (length img) buffer), k .2)
 
 -- ---- the theorem
 

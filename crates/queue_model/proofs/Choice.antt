@@ -104,9 +104,3 @@ least-is x (a ∷ as′) r f h = one (least a as′) (least-in (λ (b : Active).
         let yx : AtMost y x = every-find active-key (AtMost y) (x .stream-id) x (a ∷ as′) below f in
         let i : y .stream-id ≡ x .stream-id = at-most-same y x yx (h (y .stream-id) y g) in
         sym g ∙ ap (λ (k : ℕ). find-active k (a ∷ as′)) i ∙ f
-
--- No entry, no choice.
-pub least-none : (as′ : List Active) → ((k : ℕ) → find-active k as′ ≡ none) → least-of as′ ≡ none
-unfolding least-of
-least-none [] f = refl
-least-none (a ∷ as′) f = let z : _≡_ {A = ℕ} 0 1 = cc (f (a .stream-id), find-here active-key (a .stream-id) a as′ refl) in absurd (omega arith)

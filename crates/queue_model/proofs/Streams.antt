@@ -77,9 +77,13 @@ pub size-there : (k : ℕ) (s : Stream) (ss : List Stream) → (s .id ≡ k → 
 unfolding size-at
 size-there k s ss n = ap size-of (find-there stream-key k s ss n)
 
-head-size-nil : head-size [] ≡ 0
+pub head-size-nil : head-size [] ≡ 0
 unfolding head-size
 head-size-nil = refl
+
+pub head-size-cons : (i : Item) (is : List Item) → head-size (i ∷ is) ≡ remaining i
+unfolding head-size
+head-size-cons i is = refl
 
 pub size-at-at : (o : Options) (k : ℕ) (ss : List Stream) → size-at k ss ≡ head-size ((at o ss k) .items)
 size-at-at o k ss = elim (look-up stream-key k ss) [

@@ -21,7 +21,7 @@ use Rattle.queue_model.specs.Streams.{find-stream, put-stream, stream-key, head
 use Rattle.queue_model.proofs.Tests.{less, same, more, tri}
 use Rattle.queue_model.proofs.Table.{find-here, find-there, find-put-same, find-put-other, find-after, found-above, Rising, rising-put, after-down, Every, every-put, every-weaken, sum-put-new, length-sum, without-nil, without-here, without-there, own, other, is-own, not-in-nil, found, missing, look-up}
 use Rattle.queue_model.proofs.Scheduler.{set-none, set-some, reschedule-of}
-use Rattle.queue_model.proofs.Streams.{size-unknown}
+use Rattle.queue_model.proofs.Streams.{size-unknown, head-size-nil}
 use Rattle.queue_model.proofs.Invariant.Waits.{Listed, scheduled-id}
 use Rattle.queue_model.proofs.Invariant.Well.{Well}
 use Rattle.stream_scheduler.specs.Link.{GoodScheduler, Room, listed, free, Unlike, Untouched, FitsParameters, entryAt, tableOf, modelScheduler, Steps}
@@ -289,17 +289,13 @@ module _ (ws st : List ℕ) (g : Shape ws st) (a : AllKnown ws st) where
 
 -- ---- the bytes of a first message
 
-size-nil : head-size [] ≡ 0
-unfolding head-size
-size-nil = refl
-
 size-cons : (i : plain.Item) (is : List plain.Item) → head-size (i ∷ is) ≡ plain.remaining i
 unfolding head-size
 size-cons i is = refl
 
 pub head-is : (ws st : List ℕ) (g : Shape ws st) (first : ℕ) (ps : List ℕ) → Linked (nextOf ws) first ps → headSize ws first ≡ head-size (each (itemIn ws st) ps)
 unfolding headSize
-head-is ws st g first [] l = rw (le-ltb first 1024 (omega arith)) (sym size-nil)
+head-is ws st g first [] l = rw (le-ltb first 1024 (omega arith)) (sym head-size-nil)
 head-is ws st g first (x ∷ xs) l =
     let e : first ≡ x = l .0 in
     let b : first < 1024 = omega (arith, l .1) in

@@ -31,6 +31,7 @@ use Rattle.queue_model.proofs.Invariant.Sends.{Chosen, FineLook, head-well, fin
 use Rattle.receiver_model.specs.Types.{Kind, DATA, I-DATA}
 use Rattle.receiver_model.specs.Sender.{shown, taken-in, if-done, NoDrop, Undisturbing}
 use Rattle.receiver_model.proofs.Lists.{Value, yes-is, no-is, value, equal, other, compare-same}
+use Rattle.queue_model.proofs.FairTurns.Seen.{IsOpen}
 
 -- ---- what stays
 
@@ -246,9 +247,6 @@ happens-interleaving I-DATA q b m o = quiet refl refl (go (same-bool b (q .inter
 -- No stream was closed.
 abbrev pub AllOpen : Queue → Type 0
 AllOpen q = (j : ℕ) → (stream-at q j) .pause-state ≡ not-paused
-
-abbrev IsOpen : Stream → Type 0
-IsOpen s = s .pause-state ≡ not-paused
 
 every-open : (q : Queue) → Well q → AllOpen q → Every IsOpen (q .streams)
 every-open q w o =

@@ -8,6 +8,7 @@ use Prim.Native.Nat.{ℕ, zero, suc, _+_, _-_, _%_, _^_, _≤_, _<_}
 use native.Mathlib.Omega.{arith}
 use lib.Dec.{eqb, ltb, ltb→lt}
 use lib.ListN.{length}
+use borrow.Author.Tests.{not-false}
 use Rattle.types.specs.Wrap.{wrap-suc}
 use Rattle.queue_model.specs.Logic.{if_then_else_, any}
 use Rattle.queue_model.specs.Refusals.{_when_, first-refusal}
@@ -22,7 +23,7 @@ use Rattle.receiver_model.specs.Receive as Receive
 use Rattle.receiver_model.specs.Fetch.{as-message, with-ready, fetch-from}
 use Rattle.receiver_model.specs.Fetch as Fetch
 use Rattle.receiver_model.specs.Run.{Call, receive, fetch, step, after}
-use Rattle.receiver_model.proofs.Lists.{true≢false, and-left, or-left, or-right, not-false, Value, yes-is, no-is, value, count-nil, count-here, count-there, equal, other, compare-same, count-keep-yes, count-keep-no, member-nil, member-to}
+use Rattle.receiver_model.proofs.Lists.{true≢false, and-left, or-left, or-right, Value, yes-is, no-is, value, count-nil, count-here, count-there, equal, other, compare-same, count-keep-yes, count-keep-no, member-nil, member-to}
 use Rattle.receiver_model.proofs.Pass.{pass-stops, pass-zero, pass-yes, pass-no}
 use Rattle.receiver_model.proofs.Theorem.{first-passes}
 

@@ -6,6 +6,7 @@ use mathlib.Core.Option.{Option, none, some, Option·getD}
 use Prim.Native.Nat.{ℕ, zero, suc, _-_, min}
 use native.Mathlib.Omega.{arith}
 use lib.Dec.{eqb}
+use borrow.Author.Tests.{not-false}
 use Rattle.queue_model.specs.Logic.{if_then_else_, is-nil, same-bool}
 use Rattle.queue_model.specs.Table.{find}
 use Rattle.queue_model.specs.Types.{Item, Packet, PauseState, not-paused, pending, paused, resetting, Stream, Active, Options, Queue, Event, Message, done, Step, remaining, expired, with-items, with-pause, with-threshold, with-priority, refuse, reply}
@@ -24,7 +25,7 @@ use Rattle.queue_model.specs.Reader.{read-image}
 use Rattle.queue_model.specs.Restore.{restored-stream, restored-item, restore-streams, restore-message, restore-messages, restored, record-checks, restore-checks, restore-read}
 use Rattle.queue_model.specs.Run.{Call, add, produce, fill, discard, close, ready-ids, commit, rollback, reset, set-threshold, set-priority, set-interleaving, restore, ask-priority, ask-amount, ask-threshold, ask-total, ask-empty, ask-has-data, ask-streams-ready, ask-ready-count, ask-readiness, ask-room, step}
 use Rattle.queue_model.proofs.Table.{Rising, Every, every-put, find-key}
-use Rattle.queue_model.proofs.Checks.{or-left, not-false, nil-of, Passed, all-passed, restore-of}
+use Rattle.queue_model.proofs.Checks.{or-left, nil-of, Passed, all-passed, restore-of}
 use Rattle.queue_model.proofs.Streams.{at-found, at-id, every-at}
 use Rattle.queue_model.proofs.Invariant.Well.{Well}
 use Rattle.queue_model.proofs.Invariant.Sends.{head-of-at, headless, headed, heads, FineLook, fine-look, fine-produce}

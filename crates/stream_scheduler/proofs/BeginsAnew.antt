@@ -23,9 +23,10 @@ use Rattle.stream_scheduler.specs.Words.{outcome, rested, stateOf, dropp
 use Rattle.stream_scheduler.specs.Anew.{begunAnew, lastRow, acceptLast}
 use Rattle.stream_scheduler.specs.Link.{entryAt, tableOf, modelScheduler, GoodScheduler, Steps, FitsParameters, Untouched}
 use Rattle.stream_scheduler.proofs.Index.{rising-table, put-without, without-twice}
-use Rattle.stream_scheduler.proofs.Link.{make, id-fits, current-none, forget-own, forget-none, start-none, dropped-rest, count, none-there, some-there, row-link, refreshed-steps, row-fits, row-entry}
+use Rattle.stream_scheduler.proofs.Link.{make, id-fits, current-none, forget-none, start-none, dropped-rest, count, none-there, some-there, row-link, refreshed-steps, row-fits, row-entry}
 use Rattle.stream_scheduler.proofs.Handing.{moved-is, last-is, accept-last-link}
 use Rattle.stream_scheduler.proofs.Frames.{Kept, kept-done, kept-if, kept-refused, untouched-same, untouched-both, untouched-if, untouched-refreshed, outcome-if, untouched-dropped}
+use Rattle.queue_model.proofs.FairTurns.Entries.{forget-own}
 
 -- ---- the model's scheduler without the stream
 
@@ -120,10 +121,6 @@ module _ (ws : List ℕ) (g : GoodScheduler ws) (at sent : ℕ) (h : at < (sched
     last-link le = rw (accepted, leb-true le) (refreshed-steps ws (lastRow ws at id sent bytes (parametersWord p) ((schedulerAt ws) .active)) at _ row-ended)
 
 -- ---- what it leaves alone, for any words
-
-pub kept-last : (ws : List ℕ) (at id sent bytes : ℕ) (p : SchedulingParameters) → Kept ws (acceptLast ws at id sent bytes p)
-unfolding acceptLast
-kept-last ws at id sent bytes p = kept-if ws (ltb 256 ((schedulerAt ws) .active)) _ _ (kept-refused ws) (kept-if ws (leb ((schedulerAt ws) .active) at) _ _ (kept-refused ws) (kept-done ws _))
 
 untouched-ended : (ws : List ℕ) (at id sent bytes w n : ℕ) → Untouched ws (lastRow ws at id sent bytes w n)
 unfolding lastRow begunAnew

@@ -55,10 +55,6 @@ pub kept-set : (ws : List ℕ) (id bytes : ℕ) (p : SchedulingParameters) → K
 unfolding setBytesRemaining
 kept-set ws id bytes p = kept-if ws (ltb 256 ((schedulerAt ws) .active)) _ _ (kept-refused ws) (kept-if ws (eqb bytes 0) _ _ (kept-done ws _) (kept-in ws id bytes _ _ _))
 
-pub kept-accept : (ws : List ℕ) (at bytes : ℕ) → Kept ws (acceptAt ws at bytes)
-unfolding acceptAt
-kept-accept ws at bytes = kept-if ws (ltb 256 ((schedulerAt ws) .active)) _ _ (kept-refused ws) (kept-if ws (leb ((schedulerAt ws) .active) at) _ _ (kept-refused ws) (kept-done ws _))
-
 -- ---- the rest of the queue
 
 pub untouched-same : (ws : List ℕ) → Untouched ws ws

@@ -28,7 +28,8 @@ use Rattle.stream_scheduler.specs.Words.{Outcome, outcome, currentRow, p
 use Rattle.stream_scheduler.specs.Link.{entryOf, entryAt, tableOf, currentOf, modelScheduler, GoodScheduler, Steps, Chooses, row-chosen, none-chosen}
 use Rattle.stream_scheduler.proofs.Index.{table-nil, table-at, table-none, table-least}
 use Rattle.stream_scheduler.proofs.Search.{Sought, hit, miss, sought, known-in, known-least}
-use Rattle.stream_scheduler.proofs.Link.{make, current-some, current-none, forget-own, dropped-good, dropped-count, dropped-model, none-there, some-there, count, row-link, refreshed-steps, scheduled-row}
+use Rattle.stream_scheduler.proofs.Link.{make, current-some, current-none, dropped-good, dropped-count, dropped-model, none-there, some-there, count, row-link, refreshed-steps, scheduled-row}
+use Rattle.queue_model.proofs.FairTurns.Entries.{forget-own}
 
 -- ---- accept
 

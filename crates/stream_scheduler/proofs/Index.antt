@@ -9,7 +9,7 @@ use Rattle.queue_model.specs.Types.{Active}
 use Rattle.queue_model.specs.Scheduler.{active-key, find-active, put-active, without-active, least-of}
 use Rattle.queue_model.proofs.Tests.{Tri, less, same, more, tri}
 use Rattle.queue_model.proofs.Table.{find-nil, find-put-same, find-put-other, find-without-same, find-without-other, Rising, rising-put, rising-without, same-table, Own, own, other, is-own}
-use Rattle.queue_model.proofs.Choice.{AtMost, least-is, least-none}
+use Rattle.queue_model.proofs.Choice.{AtMost, least-is}
 use Rattle.stream_scheduler.specs.Link.{tableOf, Unlike}
 
 -- ---- the table by index

@@ -141,10 +141,6 @@ pub current-none : currentOf NoStream ≡ none
 unfolding currentOf
 current-none = refl
 
-pub forget-own : (id : ℕ) → forget id (some id) ≡ none
-unfolding forget
-forget-own id = ap (λ (b : Bool). if b then none else some id) (eqb-true {a = id} refl)
-
 pub forget-none : (id : ℕ) → forget id none ≡ none
 unfolding forget
 forget-none id = refl

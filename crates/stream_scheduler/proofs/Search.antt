@@ -11,7 +11,7 @@ use Rattle.queue_model.proofs.Tests.{Tri, eqb-true, eqb-false, less, same, more
 use Rattle.queue_model.proofs.Choice.{AtMost, sooner, level}
 use Rattle.queue_words.specs.Active.{activeAt}
 use Rattle.active_table.specs.Groups as groups
-use Rattle.active_table.specs.Groups.{leastKnown, Leasts}
+use Rattle.active_table.specs.Groups.{leastKnown, Leasts, bestAt}
 use Rattle.active_table.specs.Rows.{seekFrom, seek, bestOf}
 use Rattle.active_table.specs.declared.Best.{Best}
 use Rattle.active_table.proofs.Choice.{known-is}
@@ -53,11 +53,8 @@ sought ws id n = seek-from ws id 0 n n (omega arith) (λ j l f. omega arith)
 
 -- ---- the least row
 
-abbrev rowAt : List ℕ → ℕ → Best
-rowAt ws i = bestOf (activeAt ws i) i
-
 -- The least of n rows is one of them, whatever the words; where the groups' words are right it is at most each.
-entry-at-most : (ws : List ℕ) (i j : ℕ) → groups.AtMost (rowAt ws i) (rowAt ws j) → AtMost (entryAt ws i) (entryAt ws j)
+entry-at-most : (ws : List ℕ) (i j : ℕ) → groups.AtMost (bestAt ws i) (bestAt ws j) → AtMost (entryAt ws i) (entryAt ws j)
 unfolding entryAt
 entry-at-most ws i j (groups.sooner h) = sooner h
 entry-at-most ws i j (groups.level e h) = level e h
@@ -68,4 +65,4 @@ known-in ws n pos = (known-is ws n pos) .least-in
 pub known-least : (ws : List ℕ) (n : ℕ) → 0 < n → Leasts ws n → (j : ℕ) → j < n → AtMost (entryAt ws ((leastKnown ws n) .at)) (entryAt ws j)
 known-least ws n pos w j h =
     let l = known-is ws n pos in
-    entry-at-most ws ((leastKnown ws n) .at) j (subst (λ (b : Best). groups.AtMost b (rowAt ws j)) (l .least-row) (l .least-first w j h h))
+    entry-at-most ws ((leastKnown ws n) .at) j (subst (λ (b : Best). groups.AtMost b (bestAt ws j)) (l .least-row) (l .least-first w j h h))

@@ -10,7 +10,7 @@ use native.Mathlib.Decide.{ℕ-discrete}
 use borrow.Author.Tests.{le-ltb, ltb-true, ltb-false}
 use lib.Dec.{ltb}
 use lib.ListN.{length, getD, set, drop, length-set}
-use lib.Seq.{getD-set-same, getD-set-other}
+use lib.Seq.{getD-set-same, getD-set-other, drop-set-lt, drop-set-add}
 use Rattle.queue_words.specs.Flags.{pick}
 use Rattle.queue_words.specs.Rows.{rowFrom, putFrom, row, putRow}
 use Rattle.queue_words.proofs.Rows.{row-put-length, row-put-same, out-getD}
@@ -111,26 +111,15 @@ undone-under xs ys at n b us u h = rw (u at (omega arith), row-under n 0 xs ys (
 abbrev pub Behind : ℕ → List ℕ → List ℕ → Type 0
 Behind h xs ys = drop h xs ≡ drop h ys
 
-set-below : (h : ℕ) (xs : List ℕ) (i v : ℕ) → i < h → drop h (set xs i v) ≡ drop h xs
-set-below zero xs i v l = absurd (omega arith)
-set-below (suc h) [] i v l = refl
-set-below (suc h) (x ∷ xs) zero v l = refl
-set-below (suc h) (x ∷ xs) (suc i) v l = set-below h xs i v (omega arith)
-
-set-above : (h : ℕ) (xs : List ℕ) (j v : ℕ) → drop h (set xs (h + j) v) ≡ set (drop h xs) j v
-set-above zero xs j v = ap (λ (k : ℕ). set xs k v) (zero-add j)
-set-above (suc h) [] j v = refl
-set-above (suc h) (x ∷ xs) j v = ap (λ (k : ℕ). drop (suc h) (set (x ∷ xs) k v)) (suc-add h j) ∙ set-above h xs j v
-
 set-behind : (h : ℕ) (xs ys : List ℕ) (i v : ℕ) → Behind h xs ys → Behind h (set xs i v) (set ys i v)
 set-behind h xs ys i v e = by (ltb i h) refl
   where
     by : (b : Bool) → ltb i h ≡ b → Behind h (set xs i v) (set ys i v)
-    by true g = set-below h xs i v (ltb-true i h g) ∙ e ∙ sym (set-below h ys i v (ltb-true i h g))
+    by true g = drop-set-lt h xs i v (ltb-true i h g) ∙ e ∙ sym (drop-set-lt h ys i v (ltb-true i h g))
     by false g =
         let s : h + (i - h) ≡ i = omega (arith, ltb-false i h g) in
         subst (λ (k : ℕ). Behind h (set xs k v) (set ys k v)) s
-        (set-above h xs (i - h) v ∙ ap (λ (l : List ℕ). set l (i - h) v) e ∙ sym (set-above h ys (i - h) v))
+        (drop-set-add h xs (i - h) v ∙ ap (λ (l : List ℕ). set l (i - h) v) e ∙ sym (drop-set-add h ys (i - h) v))
 
 put-behind : (vs : List ℕ) (h : ℕ) (xs ys : List ℕ) (at k : ℕ) → Behind h xs ys → Behind h (putFrom xs at k vs) (putFrom ys at k vs)
 put-behind [] h xs ys at k e = e

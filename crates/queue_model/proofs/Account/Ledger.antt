@@ -7,6 +7,7 @@ use Prim.Native.Nat.{ℕ, zero, suc, _+_, _-_, _≤_, min}
 use native.Mathlib.Omega.{arith}
 use lib.Dec.{ltb, eqb}
 use lib.ListN.{length, take, drop, length-take, length-drop}
+use borrow.Author.Tests.{not-false}
 use Rattle.types.specs.Wrap.{wrap-suc}
 use Rattle.queue_model.specs.Logic.{same-bool, is-nil, if_then_else_}
 use Rattle.queue_model.specs.Table.{find}
@@ -32,8 +33,8 @@ use Rattle.queue_model.specs.Account.{Account, no-bytes, for-stream, unl
 use Rattle.queue_model.specs.Passing.{passing-after, passing}
 use Rattle.queue_model.proofs.Tests.{eqb-true, eqb-false, less, same, more, tri}
 use Rattle.queue_model.proofs.Table.{find-here, find-there, find-put-same, find-put-other, find-key, Every}
-use Rattle.queue_model.proofs.Checks.{or-left, or-right, not-false, nil-of, Passed, not-less, all-passed, restore-of}
-use Rattle.queue_model.proofs.Streams.{at-found, at-new, at-id, every-at}
+use Rattle.queue_model.proofs.Checks.{or-left, or-right, nil-of, Passed, not-less, all-passed, restore-of}
+use Rattle.queue_model.proofs.Streams.{at-found, at-new, at-id, every-at, head-size-cons}
 use Rattle.queue_model.proofs.Invariant.Well.{Well, well-new}
 use Rattle.queue_model.proofs.Invariant.Fine.{reopened-alike, paused-alike, Alike}
 use Rattle.queue_model.proofs.Invariant.Sends.{head-of-at, head-kept, head-well, numbers-well, headless, headed, heads, FineLook, fine-look, fine-produce}
@@ -230,10 +231,6 @@ LookBalances k q broken = Unit {0}
 LookBalances k q (dropped r ds) = amount-of r k + choice-bytes k q (peek (q .scheduler)) ≡ amount-of q k
 LookBalances k q (chosen a s i is) = Unit {0}
 
-head-size-first : (i : Item) (is : List Item) → head-size (i ∷ is) ≡ remaining i
-unfolding head-size
-head-size-first i is = refl
-
 choice-some : (k : ℕ) (q : Queue) (a : Active) → choice-bytes k q (some a) ≡ for-stream k (a .stream-id) (head-size ((at (q .options) (q .streams) (a .stream-id)) .items))
 unfolding choice-bytes
 choice-some k q a = refl
@@ -247,7 +244,7 @@ look-balances k now q = go (peek (q .scheduler)) refl
     drops a e true true s i is h f = tt
     drops a e true false s i is h f =
         let c : choice-bytes k q (peek (q .scheduler)) ≡ for-stream k (a .stream-id) (remaining i) = ap (choice-bytes k q) e ∙ choice-some k q a
-        ∙ ap (λ (x : Stream). for-stream k (a .stream-id) (head-size (x .items))) (at-found (q .options) (q .streams) (a .stream-id) s (h .found)) ∙ ap (λ (l : List Item). for-stream k (a .stream-id) (head-size l)) (h .items) ∙ ap (for-stream k (a .stream-id)) (head-size-first i is) in
+        ∙ ap (λ (x : Stream). for-stream k (a .stream-id) (head-size (x .items))) (at-found (q .options) (q .streams) (a .stream-id) s (h .found)) ∙ ap (λ (l : List Item). for-stream k (a .stream-id) (head-size l)) (h .items) ∙ ap (for-stream k (a .stream-id)) (head-size-cons i is) in
         let d = drop-in-amount q (a .stream-id) k s i is h (s .pause-state) (not-short-amount q s (remaining i) f) in omega arith
     drops a e false y s i is h f = tt
 
@@ -400,7 +397,7 @@ reopen-amount : (k : ℕ) (z : Bool) (q : Queue) → amount-of ((reopen z q) .ne
 unfolding reopen amount-of
 reopen-amount k z q = amount-alike (reopened z) (q .options) k (q .streams) (reopened-alike z)
 
-no-put-back : put-back [] ≡ 0
+pub no-put-back : put-back [] ≡ 0
 unfolding put-back
 no-put-back = refl
 

@@ -18,6 +18,7 @@ use Rattle.queue_model.proofs.Scheduler.{reschedule-of}
 use Rattle.queue_model.proofs.Calm.Entries.{entry, entries, actives, actives-none}
 use Rattle.queue_model.proofs.Calm.Calm.{Good, calm-scheduler, calm, reschedule-put, HeadAt, head-good, head-items, head-amount, head-total, same-active, still-none}
 use Rattle.queue_model.proofs.Calm.Produce.{choice}
+use Rattle.queue_model.proofs.Streams.{head-size-cons}
 
 -- Only the stream k has messages.
 abbrev pub Solo : ℕ → List Stream → Type 0
@@ -60,7 +61,7 @@ remove-last limit k t x e =
     ap f (without-here active-key k x [] e ∙ without-nil active-key k)
     ∙ ap c (ap (λ (b : Bool). (if b then none else some k)) (eqb-true {a = k} refl))
 
-accept-whole : (a : Active) (m : ℕ) (sc : Scheduler) → a .bytes-remaining ≤ m → accept a m sc ≡ accept-last a m sc
+pub accept-whole : (a : Active) (m : ℕ) (sc : Scheduler) → a .bytes-remaining ≤ m → accept a m sc ≡ accept-last a m sc
 unfolding accept
 accept-whole a m sc h = ap (λ (b : Bool). (if b then accept-last a m sc else accept-part a m sc)) (leb-true h)
 
@@ -87,10 +88,6 @@ last-in p q a s i is n =
 end-open : end-pending not-paused ≡ not-paused
 unfolding end-pending
 end-open = refl
-
-head-size-cons : (i : Item) (is : List Item) → head-size (i ∷ is) ≡ remaining i
-unfolding head-size
-head-size-cons i is = refl
 
 handed-out-last-of : (q : Queue) (a : Active) (s : Stream) (i : Item) (is : List Item) (n : ℕ) → handed-out-last q a s i is n ≡ last-in (end-pending (s .pause-state)) q a s i is n
 unfolding handed-out-last last-in

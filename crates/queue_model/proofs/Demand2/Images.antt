@@ -31,7 +31,7 @@ use Rattle.queue_model.proofs.Invariant.Well.{Kept, Well, well-queue}
 use Rattle.queue_model.proofs.Invariant.Sixteen.{reachable-well, reachable-options}
 use Rattle.queue_model.proofs.Invariant.Strict.{strict-image}
 use Rattle.queue_model.proofs.Calm.Calm.{calm-scheduler}
-use Rattle.queue_model.proofs.Demand3.Restored.{blank, message-records-cons, message-records-nil, with-restored, restore-message-of, restore-messages-cons, restore-messages-nil, record-back, no-restored-items}
+use Rattle.queue_model.proofs.Demand3.Restored.{blank, message-records-cons, message-records-nil, with-restored, restore-message-of, restore-messages-cons, restore-messages-nil, record-back, no-restored-items, blank-options}
 use Rattle.queue_model.proofs.Demand2.Rust.{whole-handover, rust-restores}
 use Rattle.queue_model.specs.Calls
 use Rattle.queue_model.specs.Restore
@@ -396,10 +396,6 @@ none-amount o now saved (s ∷ ss) = (
   ]),
   none-amount o now saved ss,
 )
-
-blank-options : (o : Options) (b : Bool) → (blank o b) .options ≡ o
-unfolding blank
-blank-options o b = refl
 
 module _ (q : Queue) (saved now : ℕ) (b : Bool) (w : Well q) (early : now ≤ max-time) (strict : any (mid-too-early (q .options .strict-restart)) (message-records saved (q .streams)) ≡ false) where
   xs : List Stream

@@ -25,7 +25,7 @@ use Rattle.queue_model.proofs.Calm.Empty.{at-good}
 
 -- ---- one message: what its rules say, and that it comes back
 
-abbrev Each : List Bool → Type 0
+abbrev pub Each : List Bool → Type 0
 Each [] = Unit {0}
 Each (b ∷ bs) = T b × Each bs
 
@@ -418,6 +418,10 @@ bases o now (r ∷ rs) t f = base-cons rs (bases o now rs (tail-right (o .defaul
 unfoldable pub blank : Options → Bool → Queue
 unfolding calm-scheduler
 blank o il = record { options = o; interleaving = il; total = 0; next-message-id = 0; streams = []; scheduler = calm-scheduler o il none [] }
+
+pub blank-options : (o : Options) (il : Bool) → (blank o il) .options ≡ o
+unfolding blank
+blank-options o il = refl
 
 -- The streams that a handover record restores.
 unfoldable pub restored-streams : Options → ℕ → Handover → List Stream

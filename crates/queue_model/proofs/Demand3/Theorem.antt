@@ -8,6 +8,7 @@ use Prim.Native.Nat.{ℕ, _^_, _≤_, _<_}
 use native.Mathlib.Omega.{arith}
 use lib.Dec.{ltb, eqb, eqb→eq}
 use lib.ListN.{length}
+use borrow.Author.Tests.{not-false}
 use Rattle.queue_model.specs.Logic.{is-nil}
 use Rattle.queue_model.specs.Types.{Stream, Options, Queue, refused, done, number, Outcome, Step, reply}
 use Rattle.queue_model.specs.Streams.{max-streams, max-messages, waiting, occupied, at}
@@ -18,12 +19,12 @@ use Rattle.queue_model.specs.Restore.{restored, restore-checks, restore-
 use Rattle.queue_model.specs.Run.{ask-priority, step, run}
 use Rattle.queue_model.specs.Demands.{Created, Reachable, created, called, Indistinguishable, Restores, Demand3}
 use Rattle.queue_model.proofs.Tests.{holds}
-use Rattle.queue_model.proofs.Checks.{past, or-left, or-right, not-false, nil-of, restore-of, Passed, not-less, read-none, read-some}
+use Rattle.queue_model.proofs.Checks.{past, or-left, or-right, nil-of, restore-of, Passed, not-less, read-none, read-some}
 use Rattle.queue_model.proofs.Image.ReadWrite.{image-canonical, Sound, image-sound}
 use Rattle.queue_model.proofs.Invariant.Well.{room}
 use Rattle.queue_model.proofs.Calm.Calm.{calm}
 use Rattle.queue_model.proofs.Calm.Empty.{shown}
-use Rattle.queue_model.proofs.Demand3.Restored.{blank, recalled, restored-streams, restored-good, restored-calm, handover-back}
+use Rattle.queue_model.proofs.Demand3.Restored.{blank, recalled, restored-streams, restored-good, restored-calm, handover-back, blank-options}
 use Rattle.queue_model.proofs.Demand3.Records.{same-stream-records, same-message-records}
 use Rattle.queue_model.proofs.Demand3.Peel.{Alike, State, peel}
 use Rattle.queue_model.proofs.Demand3.New.{reachable-new, new-blank}
@@ -103,10 +104,6 @@ calm-handovers now o il room store c₁ c₂ n₁ n₂ ss₁ ss₂ t₁ t₂ ind
     handover-of now o il c₁ n₁ ss₁ ∙ ap₂ (λ (b : List StreamRecord) (c : List MessageRecord). f n₁ b c) x y ∙ ap (λ (n : ℕ). f n (stream-records (o .default-priority) ss₂) (message-records now ss₂)) (a .next-same) ∙ sym (handover-of now o il c₂ n₂ ss₂)
 
 -- ---- the theorem, on new queues
-
-blank-options : (o : Options) (il : Bool) → (blank o il) .options ≡ o
-unfolding blank
-blank-options o il = refl
 
 calm-streams : (o : Options) (il : Bool) (c : Option ℕ) (n : ℕ) (ss : List Stream) → (calm o il c n ss) .streams ≡ ss
 unfolding calm

@@ -80,7 +80,7 @@ forget-none : (k : ℕ) (c : Option ℕ) → c ≡ none → forget k c ≡ none
 unfolding forget
 forget-none k c e = ap (forget k) e
 
-forget-own : (k : ℕ) → forget k (some k) ≡ none
+pub forget-own : (k : ℕ) → forget k (some k) ≡ none
 unfolding forget
 forget-own k = ap (λ (b : Bool). if b then none else some k) (eqb-true {a = k} {b = k} refl)
 

@@ -30,7 +30,7 @@ use Rattle.queue_model.specs.Calls
 
 -- ---- an open stream stays open
 
-abbrev IsOpen : Stream → Type 0
+abbrev pub IsOpen : Stream → Type 0
 IsOpen s = s .pause-state ≡ not-paused
 
 -- A stream put in its place leaves an open stream open if it is open itself.

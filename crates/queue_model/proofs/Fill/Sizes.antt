@@ -6,13 +6,14 @@ use Prim.Native.Nat.{ℕ, suc, _+_, _≤_}
 use native.Mathlib.Omega.{arith}
 use mathlib.Core.Option.{none}
 use lib.Dec.{eqb, eqb→eq}
+use borrow.Author.Tests.{not-false}
 use Rattle.queue_model.specs.Types.{Queue}
 use Rattle.queue_model.specs.Refusals.{first-refusal, max-payload, size-wrong, buffer-short}
 use Rattle.queue_model.specs.Produce.{produce-checks}
 use Rattle.queue_model.specs.Chunks.{chunk-header}
 use Rattle.queue_model.specs.Fill.{size-asked, fill-checks}
 use Rattle.queue_model.proofs.Tests.{holds, ltb-false, eqb-true}
-use Rattle.queue_model.proofs.Checks.{Passed, all-passed, not-false}
+use Rattle.queue_model.proofs.Checks.{Passed, all-passed}
 use Rattle.queue_model.proofs.Invariant.Well.{inside}
 
 -- A size asked for is within the packet limit.

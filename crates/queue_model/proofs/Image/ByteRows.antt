@@ -24,7 +24,7 @@ pub and-intro : (x y : Bool) → T x → T y → T (x && y)
 and-intro true y h k = k
 and-intro false y h k = h
 
-pow-pos : (w : ℕ) → zero < 256 ^ w
+pub pow-pos : (w : ℕ) → zero < 256 ^ w
 pow-pos w = one-le-pow w 256 (zero-lt-suc 255)
 
 pub length-number-bytes : (w n : ℕ) → length (number-bytes w n) ≡ w

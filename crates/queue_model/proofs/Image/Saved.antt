@@ -18,7 +18,7 @@ use Rattle.queue_model.proofs.Table.{After, Rising}
 use Rattle.queue_model.proofs.Image.ByteRows.{and-intro, length-row-bytes}
 use Rattle.queue_model.proofs.Image.ReadWrite.{read-image-bytes, length-streams-bytes, messages-bytes-cons, message-bytes-of, messages-bytes-nil}
 use Rattle.queue_model.proofs.Invariant.Messages.{WellItem, WellRest, WellItems, WellStream, AllWell, WellQueue}
-use Rattle.queue_model.proofs.Demand3.Restored.{message-records-cons, message-records-nil}
+use Rattle.queue_model.proofs.Demand3.Restored.{message-records-cons, message-records-nil, Each}
 use Rattle.queue_model.proofs.Tests.{holds}
 
 -- ---- the flags
@@ -45,10 +45,6 @@ flags-read false false true = record { reads-unordered = refl; reads-mid = refl;
 flags-read false false false = record { reads-unordered = refl; reads-mid = refl; reads-lifetime = refl; small = omega arith }
 
 -- ---- one message
-
-abbrev Each : List Bool → Type 0
-Each [] = Unit {0}
-Each (b ∷ bs) = T b × Each bs
 
 all-of : (bs : List Bool) → Each bs → T (all-true bs)
 all-of [] e = tt

@@ -8,6 +8,7 @@ use native.Mathlib.Omega.{arith}
 use lib.Dec.{T, ltb, leb, eqb, eqb→eq, leb→le}
 use lib.ListN.{length}
 use lib.Pow.{areBytes}
+use borrow.Author.Tests.{not-false}
 use Rattle.queue_model.specs.Logic.{is-nil}
 use Rattle.queue_model.specs.Types.{Item, Stream, Options, Queue, done, reply}
 use Rattle.queue_model.specs.Streams.{max-streams, max-messages, at, with-message, waiting, occupied, has-items, stream-key}
@@ -19,7 +20,7 @@ use Rattle.queue_model.specs.Restore.{restored-stream, give, restored-it
 use Rattle.queue_model.specs.Demands.{Created}
 use Rattle.queue_model.proofs.Tests.{is-true, is-false, holds, ltb-false, less, same, more, tri}
 use Rattle.queue_model.proofs.Table.{find-nil, Rising, rising-put, Every, every-put}
-use Rattle.queue_model.proofs.Checks.{or-left, or-right, not-false, not-less, nil-of}
+use Rattle.queue_model.proofs.Checks.{or-left, or-right, not-less, nil-of}
 use Rattle.queue_model.proofs.Streams.{at-id, every-at, unsent-snoc, size-at, size-unknown}
 use Rattle.queue_model.proofs.Image.ByteRows.{and-l, and-r, and-intro}
 use Rattle.queue_model.proofs.Image.ReadWrite.{Sound, image-sound, image-canonical, messages-bytes-cons, message-bytes-of}

@@ -180,7 +180,7 @@ past-total : (now : ℕ) (r q : Queue) → Past now r q → r .total ≤ q .tota
 past-total now r q here = omega arith
 past-total now r q (over k s i is h e p) = let a = past-total now r (drop-in (s .pause-state) q s i is) p in let b = drop-total (s .pause-state) q s i is in omega arith
 
-handed-total : (r : Queue) (a : Active) (t : Stream) (i : Item) (is : List Item) (n : ℕ) → (handed-out r a t i is n) .total ≡ r .total - n
+pub handed-total : (r : Queue) (a : Active) (t : Stream) (i : Item) (is : List Item) (n : ℕ) → (handed-out r a t i is n) .total ≡ r .total - n
 unfolding handed-out handed-out-last handed-out-part
 handed-total r a t i is n = go (eqb n (remaining i))
   where

@@ -9,6 +9,7 @@ use native.Mathlib.Omega.{arith}
 use lib.Dec.{T, ltb, eqb, eqb→eq}
 use lib.ListN.{length}
 use lib.Pow.{areBytes}
+use borrow.Author.Tests.{not-false}
 use Rattle.types.specs.Wrap.{wrap-suc}
 use Rattle.queue_model.specs.Logic.{if_then_else_, same-bool}
 use Rattle.queue_model.specs.Table.{sum-by}
@@ -32,7 +33,7 @@ use Rattle.queue_model.specs.MidMessage.{half-sent-record, half-sent-rec
 use Rattle.queue_model.proofs.Tests.{holds, ltb-false, leb-false, eqb-true, eqb-false, less, same, more, tri}
 use Rattle.queue_model.proofs.Table.{Rising, rising-put, After, Every, every-put, every-map, every-weaken, every-find, find-key, put-end, put-here, put-later, put-before, after-down}
 use Rattle.queue_model.proofs.Scheduler.{set-none, set-some, reschedule-of, each-nil, each-cons}
-use Rattle.queue_model.proofs.Checks.{Passed, all-passed, checked-past, not-false, restore-of, read-none, read-some}
+use Rattle.queue_model.proofs.Checks.{Passed, all-passed, checked-past, restore-of, read-none, read-some}
 use Rattle.queue_model.proofs.Streams.{at-id, every-at, sum-put-at}
 use Rattle.queue_model.proofs.Image.ByteRows.{and-l}
 use Rattle.queue_model.proofs.Image.ReadWrite.{Sound, image-sound}
@@ -114,7 +115,7 @@ remove-current k sc = refl
 removed-current : (k j : ℕ) (sc : Scheduler) → (j ≡ k → ⊥) → sc .current ≡ some j → (remove-stream k sc) .current ≡ some j
 removed-current k j sc n e = remove-current k sc ∙ ap (forget k) e ∙ forget-other k j n
 
-set-current : (k n : ℕ) (w : Weight) (sc : Scheduler) → 0 < n → (set-bytes-remaining k n w sc) .current ≡ sc .current
+pub set-current : (k n : ℕ) (w : Weight) (sc : Scheduler) → 0 < n → (set-bytes-remaining k n w sc) .current ≡ sc .current
 set-current k n w sc h = ap (λ (x : Scheduler). x .current) (set-some k n w sc h)
 
 set-other-current : (k n j : ℕ) (w : Weight) (sc : Scheduler) → (j ≡ k → ⊥) → sc .current ≡ some j → (set-bytes-remaining k n w sc) .current ≡ some j

@@ -7,6 +7,7 @@ use mathlib.Core.Option.{Option, none, some}
 use Prim.Native.Nat.{ℕ}
 use native.Mathlib.Omega.{arith}
 use lib.Dec.{eqb}
+use borrow.Author.Tests.{not-false}
 use Rattle.queue_model.specs.Logic.{if_then_else_, same-bool, is-nil}
 use Rattle.queue_model.specs.Types.{Item, PauseState, not-paused, pending, paused, resetting, Stream, Queue, done, Step, with-threshold, with-priority, reply, Message}
 use Rattle.queue_model.specs.Streams.{find-stream, put-stream, stream-at, know, stream-key, with-message}
@@ -19,7 +20,7 @@ use Rattle.queue_model.specs.Reader.{read-image}
 use Rattle.queue_model.specs.Restore.{restore-read, restore-checks}
 use Rattle.queue_model.specs.Run.{Call, add, produce, fill, discard, close, ready-ids, commit, rollback, reset, set-threshold, set-priority, set-interleaving, restore, ask-priority, ask-amount, ask-threshold, ask-total, ask-empty, ask-has-data, ask-streams-ready, ask-ready-count, ask-readiness, ask-room, step}
 use Rattle.queue_model.proofs.Table.{find-put-same, find-put-other, own, other, is-own, not-in-nil}
-use Rattle.queue_model.proofs.Checks.{Passed, all-passed, or-left, not-false, nil-of}
+use Rattle.queue_model.proofs.Checks.{Passed, all-passed, or-left, nil-of}
 use Rattle.queue_model.proofs.Streams.{at-found, at-id}
 use Rattle.queue_model.proofs.Invariant.Fine.{Alike, reopened-alike}
 use Rattle.queue_model.proofs.Invariant.Serving.{found-map}
