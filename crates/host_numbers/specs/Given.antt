@@ -6,7 +6,8 @@ use Rattle.queue_streams.specs.Settings.{Called, CalledWith}
 use Rattle.queue_streams.specs.Answers.{callNumber}
 use Rattle.queue_messages.specs.Add.{Added}
 use Rattle.queue_sending.specs.Data.{ProducedWith, producedNumber}
-use Rattle.host_numbers.specs.Numbers.{callOut, producedOut}
+use Rattle.saving.specs.Save.{SavedAs, savedNumber}
+use Rattle.host_numbers.specs.Numbers.{callOut, producedOut, savedOut}
 
 -- A call that changes the words alone.
 pub record Gives (d : Called) (r : ℕ) (ws′ : List ℕ) : Type 0 where
@@ -33,3 +34,9 @@ pub record GivesFragment (d : ProducedWith) (out : List ℕ) (r : ℕ) (ws′ es
   pub events : es′ ≡ d .events
   pub buffer : bs′ ≡ d .buffer
   pub places : out′ ≡ producedOut out (d .answer)
+
+-- Saving.
+pub record GivesImage (d : SavedAs) (out : List ℕ) (r : ℕ) (b′ out′ : List ℕ) : Type 0 where
+  pub number : r ≡ savedNumber (d .answer)
+  pub image : b′ ≡ d .image
+  pub places : out′ ≡ savedOut out (d .answer)

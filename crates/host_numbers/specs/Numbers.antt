@@ -1,9 +1,9 @@
 -- A message by its numbers, and what a call tells in an array of 16 places: 0 the value, 1 the number of events, the others what goes with a fragment. Assumes nothing.
 use Prim.Native.Nat.{ℕ}
 use mathlib.Core.Bool.{Bool, true, false, not}
-use mathlib.Core.List.{List}
+use mathlib.Core.List.{List, _++_}
 use lib.Dec.{eqb}
-use lib.ListN.{set}
+use lib.ListN.{set, take, drop}
 use Rattle.queue_words.specs.Flags.{bit}
 use Rattle.queue_words.specs.declared.items.Expiry.{Expiry}
 use Rattle.queue_words.specs.declared.items.Expiry.the-variants as expiry
@@ -18,6 +18,8 @@ use Rattle.queue_messages.specs.declared.message.Message.{Message}
 use Rattle.queue_sending.specs.declared.data.DataToSend.{DataToSend}
 use Rattle.queue_sending.specs.declared.data.Produced.{Produced}
 use Rattle.queue_sending.specs.declared.data.Produced.the-variants as produced
+use Rattle.saving.specs.declared.image.Saved.{Saved}
+use Rattle.saving.specs.declared.image.Saved.the-variants as saved
 
 -- ------------------------------------------------------------------ what is given
 
@@ -50,6 +52,12 @@ abbrev pub callOut : List ℕ → Call → List ℕ
 callOut out (Accepted k) = set out 1 k
 callOut out (Refused n) = out
 
+-- ------------------------------------------------------------------ a list in its places
+
+-- the first `count` places; the others stay
+abbrev pub withFirst : List ℕ → ℕ → List ℕ → List ℕ
+withFirst to count from = take count from ++ drop count to
+
 -- ------------------------------------------------------------------ the next fragment
 
 -- "expiry time or never": whether it expires, and when
@@ -73,3 +81,9 @@ abbrev pub producedOut : List ℕ → Produced → List ℕ
 producedOut out (produced.Nothing k) = set (set out 0 0) 1 k
 producedOut out (produced.Fragment k d) = shown out k d
 producedOut out (produced.Refused n) = out
+
+-- ------------------------------------------------------------------ the image
+
+abbrev pub savedOut : List ℕ → Saved → List ℕ
+savedOut out (saved.Image n) = set out 0 n
+savedOut out (saved.Refused n) = out

@@ -7,18 +7,16 @@ use Rattle.queue_streams.specs.declared.answers.Number.{Number}
 use Rattle.priority_plan.specs.declared.plan.PlannedPriorities.{PlannedPriorities}
 use Rattle.queue_restarts.specs.Ready.{Readied, readied}
 use Rattle.queue_restarts.specs.declared.ready.ReadyStreams.{ReadyStreams}
-use Rattle.saving.specs.Save.{SavedAs, savedAs}
-use Rattle.saving.specs.declared.image.Saved.{Saved}
 use Rattle.chunks.specs.Writing.{outcome, writeChunk}
 use Rattle.chunks.specs.declared.chunk.ChunkKind.{ChunkKind}
 use Rattle.queue_sending.specs.declared.data.DataToSend.{DataToSend}
 use Rattle.chunks.specs.declared.chunk.ChunkRead.{ChunkRead}
 use Rattle.chunks.specs.declared.chunk.ChunkWritten.{ChunkWritten}
 use Rattle.queue_streams.specs.Answers.{callNumber, numberNumber, flagNumber}
-pub use Rattle.host_numbers.proofs.Gives.{gives, gives-events, gives-store, gives-fragment}
-use Rattle.send_queue_c.specs.Numbers.{numberOut, flagOut, readyNumber, readyIds, readyOut, plannedPlaces, savedNumber, savedOut}
+pub use Rattle.host_numbers.proofs.Gives.{gives, gives-events, gives-store, gives-fragment, gives-image}
+use Rattle.send_queue_c.specs.Numbers.{numberOut, flagOut, readyNumber, readyIds, readyOut, plannedPlaces}
 use Rattle.send_queue_c.specs.Chunks.{writtenNumber, writtenOut, readNumber, readOut, readPlaces}
-use Rattle.send_queue_c.specs.Given.{GivesIds, GivesPriorities, GivesWritten, GivesRead, GivesNumber, GivesFlag, GivesImage}
+use Rattle.send_queue_c.specs.Given.{GivesIds, GivesPriorities, GivesWritten, GivesRead, GivesNumber, GivesFlag}
 
 pub gives-ids : (d : Readied) (a : ReadyStreams) (ids out : List ℕ) (r : ℕ) (ws′ ids′ out′ : List ℕ) → readied a ws′ ≡ d → (r ≡ readyNumber a) × (ids′ ≡ readyIds ids a) × (out′ ≡ readyOut out a) → GivesIds d ids out r ws′ ids′ out′
 gives-ids d a ids out r ws′ ids′ out′ e t = rw (← e) (record { number = t .0; queue = refl; ready = t .1; places = t .2 })
@@ -28,9 +26,6 @@ gives-number d a out r out′ e t = rw (← e) (record { number = t .0; places =
 
 pub gives-flag : (d a : Flag) (out : List ℕ) (r : ℕ) (out′ : List ℕ) → a ≡ d → (r ≡ flagNumber a) × (out′ ≡ flagOut out a) → GivesFlag d out r out′
 gives-flag d a out r out′ e t = rw (← e) (record { number = t .0; places = t .1 })
-
-pub gives-image : (d : SavedAs) (s : Saved) (out : List ℕ) (r : ℕ) (b′ out′ : List ℕ) → savedAs s b′ ≡ d → (r ≡ savedNumber s) × (out′ ≡ savedOut out s) → GivesImage d out r b′ out′
-gives-image d s out r b′ out′ e t = rw (← e) (record { number = t .0; image = refl; places = t .1 })
 
 pub gives-priorities : (d a : PlannedPriorities) (places : List ℕ) (r : ℕ) (places′ : List ℕ) → a ≡ d → (r ≡ callNumber (a .answer)) × (places′ ≡ plannedPlaces places a) → GivesPriorities d places r places′
 gives-priorities d a places r places′ e t = rw (← e) (record { number = t .0; priorities = t .1 })

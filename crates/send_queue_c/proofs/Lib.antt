@@ -1,4 +1,2 @@
 -- What the proofs of several functions use. Assumes nothing.
 pub mod Gives
-pub mod Ids
-pub mod Handler

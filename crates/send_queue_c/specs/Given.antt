@@ -6,12 +6,11 @@ use Rattle.queue_streams.specs.declared.answers.Flag.{Flag}
 use Rattle.queue_streams.specs.declared.answers.Number.{Number}
 use Rattle.priority_plan.specs.declared.plan.PlannedPriorities.{PlannedPriorities}
 use Rattle.queue_restarts.specs.Ready.{Readied}
-use Rattle.saving.specs.Save.{SavedAs}
 use Rattle.chunks.specs.Writing.{Outcome}
 use Rattle.chunks.specs.declared.chunk.ChunkRead.{ChunkRead}
 use Rattle.queue_streams.specs.Answers.{callNumber, numberNumber, flagNumber}
-pub use Rattle.host_numbers.specs.Given.{Gives, GivesEvents, GivesStore, GivesFragment}
-use Rattle.send_queue_c.specs.Numbers.{numberOut, flagOut, readyNumber, readyIds, readyOut, plannedPlaces, savedNumber, savedOut}
+pub use Rattle.host_numbers.specs.Given.{Gives, GivesEvents, GivesStore, GivesFragment, GivesImage}
+use Rattle.send_queue_c.specs.Numbers.{numberOut, flagOut, readyNumber, readyIds, readyOut, plannedPlaces}
 use Rattle.send_queue_c.specs.Chunks.{writtenNumber, writtenOut, readNumber, readOut, readPlaces}
 
 -- Ready ids.
@@ -45,9 +44,3 @@ pub record GivesNumber (d : Number) (out : List ℕ) (r : ℕ) (out′ : List �
 pub record GivesFlag (d : Flag) (out : List ℕ) (r : ℕ) (out′ : List ℕ) : Type 0 where
   pub number : r ≡ flagNumber d
   pub places : out′ ≡ flagOut out d
-
--- Saving.
-pub record GivesImage (d : SavedAs) (out : List ℕ) (r : ℕ) (b′ out′ : List ℕ) : Type 0 where
-  pub number : r ≡ savedNumber (d .answer)
-  pub image : b′ ≡ d .image
-  pub places : out′ ≡ savedOut out (d .answer)

@@ -2,5 +2,3 @@
 pub mod Numbers
 pub mod Chunks
 pub mod Given
-pub mod Handler
-pub mod Layout

@@ -2,8 +2,8 @@
 -- refusal's (queue_streams: specs/Answers, queue_sending: specs/Data, queue_restarts: specs/Ready, saving: specs/Save). For C the values stand in an array of 16 places: 0 the value, 1 the number of events, the others what goes with a fragment. Assumes nothing.
 use Prim.Native.Nat.{ℕ}
 use mathlib.Core.Bool.{Bool, true, false}
-use mathlib.Core.List.{List, _++_}
-use lib.ListN.{set, take, drop}
+use mathlib.Core.List.{List}
+use lib.ListN.{set}
 use Rattle.queue_words.specs.Flags.{bit}
 use Rattle.queue_words.specs.declared.header.RestartRule.{RestartRule}
 use Rattle.queue_words.specs.declared.header.RestartRule.the-variants.{Dcsctp, Strict}
@@ -15,11 +15,8 @@ use Rattle.queue_streams.specs.declared.answers.Number.{Number}
 use Rattle.queue_streams.specs.declared.answers.Number.the-variants as number
 use Rattle.priority_plan.specs.declared.plan.PlannedPriorities.{PlannedPriorities}
 use Rattle.queue_restarts.specs.declared.ready.ReadyStreams.{ReadyStreams}
-use Rattle.saving.specs.declared.image.Saved.{Saved}
-use Rattle.saving.specs.declared.image.Saved.the-variants as saved
-pub use Rattle.host_numbers.specs.Numbers.{isYes, messageOf, callOut, shown, producedOut}
+pub use Rattle.host_numbers.specs.Numbers.{isYes, messageOf, callOut, withFirst, shown, producedOut}
 pub use Rattle.queue_restarts.specs.Ready.{readyNumber}
-pub use Rattle.saving.specs.Save.{savedNumber}
 
 -- ------------------------------------------------------------------ what is given
 
@@ -44,10 +41,6 @@ abbrev pub accepted : {A : Type 0} → Call → A → A → A
 accepted (Accepted k) a b = a
 accepted (Refused n) a b = b
 
--- the first `count` places; the others stay
-abbrev pub withFirst : List ℕ → ℕ → List ℕ → List ℕ
-withFirst to count from = take count from ++ drop count to
-
 abbrev pub readyIds : List ℕ → ReadyStreams → List ℕ
 readyIds ids a = accepted (a .answer) (withFirst ids (a .count) (a .ids)) ids
 
@@ -59,9 +52,3 @@ readyOut out a = accepted (a .answer) (set out 0 (a .count)) out
 -- as many as the list has ids; the other places stay, and all of them where the call is refused
 abbrev pub plannedPlaces : List ℕ → PlannedPriorities → List ℕ
 plannedPlaces places a = accepted (a .answer) (withFirst places (a .count) (a .values)) places
-
--- ------------------------------------------------------------------ the image
-
-abbrev pub savedOut : List ℕ → Saved → List ℕ
-savedOut out (saved.Image n) = set out 0 n
-savedOut out (saved.Refused n) = out

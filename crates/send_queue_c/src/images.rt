@@ -1,28 +1,13 @@
 // The changeover image.
-ghost use mathlib.Core.Path.{_≡_};
 ghost use Rattle.handover.specs.Restore.{restore};
 ghost use Rattle.saving.specs.Save.{saveImage};
-ghost use Rattle.send_queue_c.specs.Numbers.{savedNumber, savedOut};
 ghost use Rattle.send_queue_c.specs.Given.{GivesStore, GivesImage};
-use crate::numbers::call_number;
+use host_numbers::call_number;
+use host_numbers::tell_saved;
 use out_array::OUT_WORDS;
-use out_array::VALUE;
 use send_queue::QUEUE_WORDS;
-use send_queue::Saved;
 use send_queue::restore;
 use send_queue::save;
-
-fn tell_saved(out: &mut [u64; OUT_WORDS], s: Saved) -> u32
-    ensures { λ r. ⌜ (r ≡ savedNumber s) × (now (out .exit) ≡ savedOut (now (out .entry)) s) ⌝ }
-{
-    match s {
-        Saved::Image(length) => {
-            out[VALUE] = length as u64;
-            0
-        }
-        Saved::Refused(n) => n as u32,
-    }
-}
 
 #[no_mangle]
 pub extern "C" fn dsq_save(

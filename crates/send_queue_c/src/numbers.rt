@@ -1,36 +1,11 @@
-// Answers as numbers, with what goes with them in named places of an array.
+// The questions' answers as numbers, with what goes with them in named places of an array.
 ghost use mathlib.Core.Path.{_≡_};
-ghost use Rattle.queue_streams.specs.Answers.{callNumber, numberNumber, flagNumber};
-ghost use Rattle.send_queue_c.specs.Numbers.{callOut, numberOut, flagOut};
-use out_array::EVENTS;
+ghost use Rattle.queue_streams.specs.Answers.{numberNumber, flagNumber};
+ghost use Rattle.send_queue_c.specs.Numbers.{numberOut, flagOut};
 use out_array::OUT_WORDS;
 use out_array::VALUE;
-use send_queue::Call;
 use send_queue::Flag;
 use send_queue::Number;
-
-// A call that tells nothing else.
-pub fn call_number(c: Call) -> u32
-    ensures { λ r. ⌜ r ≡ callNumber c ⌝ }
-{
-    match c {
-        Call::Accepted(_) => 0,
-        Call::Refused(n) => n as u32,
-    }
-}
-
-// A call that writes events.
-pub fn tell_call(out: &mut [u64; OUT_WORDS], c: Call) -> u32
-    ensures { λ r. ⌜ (r ≡ callNumber c) × (now (out .exit) ≡ callOut (now (out .entry)) c) ⌝ }
-{
-    match c {
-        Call::Accepted(k) => {
-            out[EVENTS] = k as u64;
-            0
-        }
-        Call::Refused(refusal) => refusal as u32,
-    }
-}
 
 // A question for a number.
 pub fn tell_number(out: &mut [u64; OUT_WORDS], a: Number) -> u32

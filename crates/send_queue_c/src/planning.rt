@@ -7,7 +7,7 @@ ghost use Rattle.priority_plan.specs.Plan.{planned};
 ghost use Rattle.queue_streams.specs.Answers.{callNumber};
 ghost use Rattle.send_queue_c.specs.Numbers.{plannedPlaces};
 ghost use Rattle.send_queue_c.specs.Given.{GivesPriorities};
-use crate::copying::copy_first;
+use host_numbers::copy_first;
 use send_queue::Call;
 use send_queue::MAX_PLANNED;
 use send_queue::PlannedPriorities;

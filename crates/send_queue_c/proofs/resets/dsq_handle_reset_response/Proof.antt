@@ -1,6 +1,6 @@
 -- `send_queue_c::resets::dsq_handle_reset_response` meets its contract: each return is what its definition says, by what the calls ensure and the arms matched. Assumes nothing.
 use borrow.Author.Needs.{needs}
-use Rattle.send_queue_c.proofs.Handler.{gives-response}
+use Rattle.host_handler.proofs.Handler.{gives-response}
 use Rattle.send_queue_c.proofs.resets.dsq_handle_reset_response.Statement.{statement}
 use Rattle.send_queue_c.proofs.resets.dsq_handle_reset_response.Tie as tie
 

@@ -1,6 +1,6 @@
 -- `send_queue_c::resets::dsq_make_reset_request` meets its contract: each return is what its definition says, by what the calls ensure and the arms matched. Assumes nothing.
 use borrow.Author.Needs.{needs}
-use Rattle.send_queue_c.proofs.Handler.{gives-request}
+use Rattle.host_handler.proofs.Handler.{gives-request}
 use Rattle.send_queue_c.proofs.resets.dsq_make_reset_request.Statement.{statement}
 use Rattle.send_queue_c.proofs.resets.dsq_make_reset_request.Tie as tie
 

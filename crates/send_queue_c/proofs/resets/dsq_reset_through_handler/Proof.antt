@@ -1,6 +1,6 @@
 -- `send_queue_c::resets::dsq_reset_through_handler` meets its contract: each return is what its definition says, by what the calls ensure and the arms matched. Assumes nothing.
 use borrow.Author.Needs.{needs}
-use Rattle.send_queue_c.proofs.Handler.{gives-reset}
+use Rattle.host_handler.proofs.Handler.{gives-reset}
 use Rattle.send_queue_c.proofs.resets.dsq_reset_through_handler.Statement.{statement}
 use Rattle.send_queue_c.proofs.resets.dsq_reset_through_handler.Tie as tie
 

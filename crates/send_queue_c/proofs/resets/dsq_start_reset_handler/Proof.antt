@@ -2,7 +2,7 @@
 use borrow.Author.Needs.{needs}
 use mathlib.Core.Path.{refl, ap, _∙_}
 use Rattle.stream_reset_handler.specs.declared.handler.StreamResetHandler.{StreamResetHandler}
-use Rattle.send_queue_c.specs.Handler.{handlerNumbers}
+use Rattle.host_handler.specs.Handler.{handlerNumbers}
 use Rattle.send_queue_c.proofs.resets.dsq_start_reset_handler.Statement.{statement}
 use Rattle.send_queue_c.proofs.resets.dsq_start_reset_handler.Tie as tie
 

@@ -1,0 +1,2 @@
+-- What the proofs of several functions use. Assumes nothing.
+pub mod Handler

@@ -1,0 +1,56 @@
+-- `host_handler::put_ended` meets its contract: each return is what its definition says, by what the calls ensure and the tests taken. Assumes nothing.
+use borrow.Author.Needs.{needs}
+use Rattle.host_handler.proofs.put_ended.Statement.{statement}
+use Rattle.host_handler.proofs.put_ended.Tie as tie
+
+returns : tie.Need-returns
+returns c =
+    rw (
+      (c .before .before .enum-told .given .1),
+      ← (c .put-handler .ensures),
+    )
+
+returns-2 : tie.Need-returns-2
+returns-2 c =
+    rw (
+      (c .before .before .enum-told2 .given .1),
+      ← (c .put-handler2 .ensures),
+    )
+
+returns-3 : tie.Need-returns-3
+returns-3 c =
+    rw
+    (
+    (c .enum-told3 .given .1)
+    )
+
+returns-4 : tie.Need-returns-4
+returns-4 c =
+    rw
+    (
+    (c .enum-told4 .given .1)
+    )
+
+returns-5 : tie.Need-returns-5
+returns-5 c =
+    rw
+    (
+    (c .enum-told5 .given .1)
+    )
+
+pub put-ended-spec : {M : Type 1} → statement M
+put-ended-spec =
+    tie.close
+    (tie.spec
+    (λ c. search needs)
+    (λ c. search needs)
+    (λ c. search needs)
+    (λ c. search needs)
+    (λ c. search needs)
+    (λ c. search needs)
+    (λ c. search needs)
+    returns
+    returns-2
+    returns-3
+    returns-4
+    returns-5)

@@ -1,0 +1,2 @@
+-- The stream reset handler in numbers. Assumes nothing.
+pub mod Handler
