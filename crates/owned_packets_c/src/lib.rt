@@ -13,6 +13,8 @@ use packet_numbers::packet_of;
 use packet_numbers::tell_packet;
 use queue_words::QUEUE_WORDS;
 
+pub mod layout;
+
 fn refusal_number(r: Refusal) -> u32
     ensures { λ n. ⌜ n ≡ refusalNumber r ⌝ }
 {

@@ -1,0 +1,2 @@
+-- What a call gives. Assumes nothing.
+pub mod Gives
