@@ -59,12 +59,12 @@ impl SendQueue {
     ///
     /// # Panics
     ///
-    /// Where the linked library tells another layout than the one that its symbols name; none that `rt` has made does.
+    /// Where a linked library tells another layout than the one that its symbols name; none that `rt` has made does.
     pub fn new(max_payload_bytes: usize, options: &Options) -> Result<Self, Refusal> {
         let layouts = ffi::layouts();
         assert!(
-            layouts == [LAYOUT; 2],
-            "the proved library tells layouts {layouts:?}, this crate is written for {LAYOUT}"
+            layouts == [LAYOUT; 4],
+            "the proved libraries tell layouts {layouts:?}, this crate is written for {LAYOUT}"
         );
         // A longer store than any queue takes need not be had for it to be refused.
         let store = vec![0; options.max_send_buffer_size.min(MAX_STORE + 1)].into_boxed_slice();

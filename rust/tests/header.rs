@@ -65,26 +65,33 @@ fn of_header(header: &str) -> Functions {
     functions
 }
 
-/// The declarations of the crate whose names begin so. One without an answer has `()`.
-fn of_crate(ffi: &str, prefix: &str) -> Functions {
+/// The declarations of the crate. One without an answer has `()`; two of the same arguments have a bar between their names.
+fn of_crate() -> Functions {
     let mut functions = Functions::new();
-    for statement in ffi.split("pub fn ").skip(1) {
-        let Some((head, _)) = statement.split_once(';').filter(|_| statement.starts_with(prefix)) else { continue };
-        let one_line = head.split_whitespace().collect::<Vec<_>>().join(" ");
-        let (name, rest) = one_line.split_once('(').unwrap();
+    for statement in text("src/ffi/c.rs").split("pub fn ").filter(|s| s.starts_with("ds")) {
+        let one_line = statement.split_once(';').unwrap().0.split_whitespace().collect::<Vec<_>>().join(" ");
+        let (names, rest) = one_line.split_once('(').unwrap();
         let (parameters, answer) = rest.split_once(") -> ").unwrap_or((rest.trim_end_matches(')'), "()"));
         let mut list: Vec<String> =
             parameters.split(',').map(str::trim).filter(|p| !p.is_empty()).map(String::from).collect();
         list.push(answer.into());
-        functions.insert(name.into(), list);
+        for name in names.split(" | ") {
+            functions.insert(name.into(), list.clone());
+        }
     }
     functions
+}
+
+/// Those of the owned functions, which the headers do not have.
+fn is_owned(name: &str) -> bool {
+    name.starts_with("dsq_owned_")
 }
 
 #[test]
 fn the_functions_are_the_header_s() {
     for (header, prefix, least) in [("../c/send_queue.h", "dsq_", 20), ("../c/receiver.h", "dsr_", 4)] {
-        let (header, ours) = (of_header(&text(header)), of_crate(&text("src/ffi.rs"), prefix));
+        let (header, mut ours) = (of_header(&text(header)), of_crate());
+        ours.retain(|name, _| name.starts_with(prefix) && !is_owned(name));
         assert!(header.len() >= least, "the header was not understood");
         for (name, parameters) in &header {
             assert_eq!(ours.get(name), Some(parameters), "{name}");
@@ -151,12 +158,10 @@ fn the_owned_functions_are_the_proved_ones() {
         }
     }
     let files: Vec<&str> = files.iter().map(String::as_str).collect();
-    let declared = of_crate(&text("src/ffi/queue.rs"), "dsq_owned_");
+    let mut declared = of_crate();
+    declared.retain(|name, _| is_owned(name));
     assert!(declared.len() > 10, "the declarations were not understood");
-    let proved = of_source(&files);
-    for (name, parameters) in &declared {
-        assert_eq!(proved.get(name), Some(parameters), "{name}");
-    }
+    assert_eq!(declared, of_source(&files));
     assert!(!text("../c/send_queue.h").contains("owned"));
 }
 
@@ -183,10 +188,10 @@ fn the_lengths_and_places_are_the_proved_ones() {
     let events = text("../crates/queue_streams/src/events.rt");
     let places = text("../crates/out_array/src/lib.rt");
     let lists = text("../crates/priority_plan/src/lists.rt");
-    let layout = text("../crates/send_queue_c/src/layout.rt");
+    let layout = text("../crates/host_numbers/src/layout.rt");
     let wire = text("../crates/send_queue_c/src/wire.rt");
     let writing = text("../crates/chunks/src/writing.rt");
-    let resets = text("../crates/send_queue_c/src/resets.rt");
+    let resets = text("../crates/host_handler/src/lib.rt");
     let kinds = text("src/chunk.rs");
     for (define, source, constant) in [
         ("#define DSQ_LAYOUT", &layout, "const LAYOUT: u64"),
@@ -298,6 +303,20 @@ fn the_layout_is_in_a_function_s_name() {
         let name = format!("{prefix}_layout_{}", number(&header, &format!("#define {}_LAYOUT", prefix.to_uppercase())));
         assert!(of_header(&header).contains_key(&name));
         assert!(without_comments(&header).contains(&format!("DSQ_LINKED_WITH({name});")), "the header refers to it");
+        assert!(text("src/ffi.rs").contains(&format!("c::{name}()")), "the crate calls it");
+    }
+}
+
+/// Each library of owned functions has one with the layout in its name, and the crate calls it.
+#[test]
+fn the_layout_is_in_the_name_of_an_owned_function() {
+    let layout = number(&text("../c/send_queue.h"), "#define DSQ_LAYOUT");
+    for library in text("owned_libraries.txt").split_whitespace() {
+        let name = format!("dsq_{}_layout_{layout}", library.trim_end_matches("_c"));
+        assert!(
+            text(&format!("../crates/{library}/src/layout.rt")).contains(&format!(" fn {name}()")),
+            "{library} has it"
+        );
         assert!(text("src/ffi.rs").contains(&format!("c::{name}()")), "the crate calls it");
     }
 }

@@ -7,8 +7,7 @@
 //! such is proved, and a refused call changes nothing; a copy of both is as good as they are. So an owned function does not look whether the
 //! words are a queue's, and has no answer 16.
 //!
-//! A debug build calls the checked function in place of the owned one, with the same arguments, and stops if it ever answers 16. Packets,
-//! closing, ready streams and saving have no owned function yet: they call the checked one in every build.
+//! A debug build calls the checked function in place of the owned one, with the same arguments, and stops if it ever answers 16.
 
 use super::EventWords;
 use super::HandlerNumbers;
@@ -22,66 +21,6 @@ use crate::limits::QUEUE_WORDS;
 use crate::options::Options;
 use crate::packet::Packet;
 use crate::queue::zeros;
-
-mod owned {
-    unsafe extern "C" {
-        pub fn dsq_owned_add(
-            queue: *mut u64,
-            store: *mut u8,
-            store_length: usize,
-            payload: *const u8,
-            payload_length: usize,
-            time: u64,
-            stream_id: u16,
-            ppid: u32,
-            unordered: u8,
-            has_lifetime: u8,
-            lifetime: u64,
-            has_retransmissions: u8,
-            max_retransmissions: u16,
-            lifecycle_id: u64,
-        ) -> u32;
-        pub fn dsq_owned_produce(
-            queue: *mut u64,
-            store: *const u8,
-            store_length: usize,
-            events: *mut u64,
-            events_length: usize,
-            buffer: *mut u8,
-            buffer_length: usize,
-            out: *mut u64,
-            time: u64,
-            size: u64,
-        ) -> u32;
-        pub fn dsq_owned_discard(
-            queue: *mut u64,
-            events: *mut u64,
-            events_length: usize,
-            out: *mut u64,
-            stream_id: u16,
-            message_id: u32,
-        ) -> u32;
-        pub fn dsq_owned_set_buffered_amount_low_threshold(
-            queue: *mut u64,
-            events: *mut u64,
-            events_length: usize,
-            out: *mut u64,
-            stream_id: u16,
-            threshold: u64,
-        ) -> u32;
-        pub fn dsq_owned_set_priority(queue: *mut u64, stream_id: u16, priority: u16) -> u32;
-        pub fn dsq_owned_enable_message_interleaving(queue: *mut u64, enabled: u8);
-        pub fn dsq_owned_commit_reset_streams(queue: *mut u64);
-        pub fn dsq_owned_rollback_reset_streams(queue: *mut u64);
-        pub fn dsq_owned_reset(queue: *mut u64);
-        pub fn dsq_owned_get_priority(queue: *const u64, stream_id: u16) -> u16;
-        pub fn dsq_owned_buffered_amount(queue: *const u64, stream_id: u16) -> u64;
-        pub fn dsq_owned_buffered_amount_low_threshold(queue: *const u64, stream_id: u16) -> u64;
-        pub fn dsq_owned_has_data_to_send(queue: *const u64) -> u32;
-        pub fn dsq_owned_has_streams_ready_to_be_reset(queue: *const u64) -> u32;
-        pub fn dsq_owned_count_streams_ready_to_reset(queue: *const u64) -> u64;
-    }
-}
 
 /// Whether the checked function is called where there is an owned one.
 const CHECKED: bool = cfg!(debug_assertions);
@@ -110,14 +49,7 @@ fn told(ask: impl FnOnce(*mut u64) -> u32) -> u64 {
 /// The owned function, or the checked one with the same arguments.
 macro_rules! either {
     ($owned:ident | $checked:ident ( $($argument:expr),* $(,)? )) => {
-        if CHECKED { unbroken(c::$checked($($argument),*)) } else { owned::$owned($($argument),*) }
-    };
-}
-
-/// The checked function: there is no owned one yet.
-macro_rules! checked {
-    ($checked:ident ( $($argument:expr),* $(,)? )) => {
-        unbroken(c::$checked($($argument),*))
+        if CHECKED { unbroken(c::$checked($($argument),*)) } else { c::$owned($($argument),*) }
     };
 }
 
@@ -230,22 +162,25 @@ impl Queue {
     ) -> u32 {
         // SAFETY: all five are references, the lengths are their own. Words and store are a queue's own.
         unsafe {
-            checked!(dsq_fill_packet(
-                self.words.as_mut_ptr(),
-                self.store.as_ptr(),
-                self.store.len(),
-                events.as_mut_ptr(),
-                events.len(),
-                buffer.as_mut_ptr(),
-                buffer.len(),
-                out.as_mut_ptr(),
-                time,
-                packet.limit as u64,
-                packet.source_port,
-                packet.destination_port,
-                packet.verification_tag,
-                packet.tsn.0,
-            ))
+            either!(
+                dsq_owned_fill_packet
+                    | dsq_fill_packet(
+                        self.words.as_mut_ptr(),
+                        self.store.as_ptr(),
+                        self.store.len(),
+                        events.as_mut_ptr(),
+                        events.len(),
+                        buffer.as_mut_ptr(),
+                        buffer.len(),
+                        out.as_mut_ptr(),
+                        time,
+                        packet.limit as u64,
+                        packet.source_port,
+                        packet.destination_port,
+                        packet.verification_tag,
+                        packet.tsn.0,
+                    )
+            )
         }
     }
 
@@ -269,13 +204,16 @@ impl Queue {
     pub(crate) fn prepare_reset_stream(&mut self, events: &mut EventWords, out: &mut Out, stream_id: u16) -> u32 {
         // SAFETY: all three are references, the list's length is its own. The words are a queue's own.
         unsafe {
-            checked!(dsq_prepare_reset_stream(
-                self.words.as_mut_ptr(),
-                events.as_mut_ptr(),
-                events.len(),
-                out.as_mut_ptr(),
-                stream_id,
-            ))
+            either!(
+                dsq_owned_prepare_reset_stream
+                    | dsq_prepare_reset_stream(
+                        self.words.as_mut_ptr(),
+                        events.as_mut_ptr(),
+                        events.len(),
+                        out.as_mut_ptr(),
+                        stream_id,
+                    )
+            )
         }
     }
 
@@ -314,7 +252,7 @@ impl Queue {
             if CHECKED {
                 unrefused(c::dsq_enable_message_interleaving(words, enabled));
             } else {
-                owned::dsq_owned_enable_message_interleaving(words, enabled);
+                c::dsq_owned_enable_message_interleaving(words, enabled);
             }
         }
     }
@@ -322,8 +260,14 @@ impl Queue {
     /// The ready ids stand at the list's start; how many.
     pub(crate) fn get_streams_ready_to_reset(&mut self, ids: &mut ReadyIds) -> usize {
         let (words, ids) = (self.words.as_mut_ptr(), ids.as_mut_ptr());
-        // SAFETY: both are references, and the ids have room for every stream that a queue can know.
-        let count = told(|out| unsafe { c::dsq_get_streams_ready_to_reset(words, ids, out) });
+        // SAFETY: both are references, and the ids have room for every stream that a queue can know. The words are a queue's own.
+        let count = unsafe {
+            if CHECKED {
+                told(|out| c::dsq_get_streams_ready_to_reset(words, ids, out))
+            } else {
+                c::dsq_owned_get_streams_ready_to_reset(words, ids)
+            }
+        };
         (count as usize).min(MAX_STREAMS)
     }
 
@@ -334,7 +278,7 @@ impl Queue {
             if CHECKED {
                 unrefused(c::dsq_commit_reset_streams(words));
             } else {
-                owned::dsq_owned_commit_reset_streams(words);
+                c::dsq_owned_commit_reset_streams(words);
             }
         }
     }
@@ -346,7 +290,7 @@ impl Queue {
             if CHECKED {
                 unrefused(c::dsq_rollback_reset_streams(words));
             } else {
-                owned::dsq_owned_rollback_reset_streams(words);
+                c::dsq_owned_rollback_reset_streams(words);
             }
         }
     }
@@ -358,7 +302,7 @@ impl Queue {
             if CHECKED {
                 unrefused(c::dsq_reset(words));
             } else {
-                owned::dsq_owned_reset(words);
+                c::dsq_owned_reset(words);
             }
         }
     }
@@ -371,36 +315,49 @@ impl Queue {
         response_number: u32,
         last_tsn: u32,
     ) -> u32 {
-        // SAFETY: all four are references, the output's length is its own. It makes calls of the queue's own on the words.
-        unbroken(unsafe {
-            c::dsq_make_reset_request(
-                self.words.as_mut_ptr(),
-                handler.as_mut_ptr(),
-                output.as_mut_ptr(),
-                output.len(),
-                out.as_mut_ptr(),
-                response_number,
-                last_tsn,
+        // SAFETY: all four are references, the output's length is its own. The words are a queue's own.
+        unsafe {
+            either!(
+                dsq_owned_make_reset_request
+                    | dsq_make_reset_request(
+                        self.words.as_mut_ptr(),
+                        handler.as_mut_ptr(),
+                        output.as_mut_ptr(),
+                        output.len(),
+                        out.as_mut_ptr(),
+                        response_number,
+                        last_tsn,
+                    )
             )
-        })
+        }
     }
 
     pub(crate) fn handle_reset_response(&mut self, handler: &mut HandlerNumbers, bytes: &[u8], out: &mut Out) -> u32 {
-        // SAFETY: all four are references, the bytes' length is their own and they are only read. It makes calls of the queue's own on the words.
-        unbroken(unsafe {
-            c::dsq_handle_reset_response(
-                self.words.as_mut_ptr(),
-                handler.as_mut_ptr(),
-                bytes.as_ptr(),
-                bytes.len(),
-                out.as_mut_ptr(),
+        // SAFETY: all four are references, the bytes' length is their own and they are only read. The words are a queue's own.
+        unsafe {
+            either!(
+                dsq_owned_handle_reset_response
+                    | dsq_handle_reset_response(
+                        self.words.as_mut_ptr(),
+                        handler.as_mut_ptr(),
+                        bytes.as_ptr(),
+                        bytes.len(),
+                        out.as_mut_ptr(),
+                    )
             )
-        })
+        }
     }
 
     pub(crate) fn reset_through_handler(&mut self, handler: &mut HandlerNumbers) {
-        // SAFETY: both are references. It is the queue's own reset.
-        unrefused(unsafe { c::dsq_reset_through_handler(self.words.as_mut_ptr(), handler.as_mut_ptr()) });
+        let (words, handler) = (self.words.as_mut_ptr(), handler.as_mut_ptr());
+        // SAFETY: both are references. The words are a queue's own.
+        unsafe {
+            if CHECKED {
+                unrefused(c::dsq_reset_through_handler(words, handler));
+            } else {
+                c::dsq_owned_reset_through_handler(words, handler);
+            }
+        }
     }
 
     pub(crate) fn get_priority(&self, stream_id: u16) -> u16 {
@@ -410,7 +367,7 @@ impl Queue {
             if CHECKED {
                 told(|out| c::dsq_get_priority(words, out, stream_id)) as u16
             } else {
-                owned::dsq_owned_get_priority(words, stream_id)
+                c::dsq_owned_get_priority(words, stream_id)
             }
         }
     }
@@ -422,7 +379,7 @@ impl Queue {
             if CHECKED {
                 told(|out| c::dsq_buffered_amount(words, out, stream_id))
             } else {
-                owned::dsq_owned_buffered_amount(words, stream_id)
+                c::dsq_owned_buffered_amount(words, stream_id)
             }
         }
     }
@@ -434,7 +391,7 @@ impl Queue {
             if CHECKED {
                 told(|out| c::dsq_buffered_amount_low_threshold(words, out, stream_id))
             } else {
-                owned::dsq_owned_buffered_amount_low_threshold(words, stream_id)
+                c::dsq_owned_buffered_amount_low_threshold(words, stream_id)
             }
         }
     }
@@ -446,7 +403,7 @@ impl Queue {
             if CHECKED {
                 told(|out| c::dsq_has_data_to_send(words, out)) != 0
             } else {
-                owned::dsq_owned_has_data_to_send(words) != 0
+                c::dsq_owned_has_data_to_send(words) != 0
             }
         }
     }
@@ -458,7 +415,7 @@ impl Queue {
             if CHECKED {
                 told(|out| c::dsq_has_streams_ready_to_be_reset(words, out)) != 0
             } else {
-                owned::dsq_owned_has_streams_ready_to_be_reset(words) != 0
+                c::dsq_owned_has_streams_ready_to_be_reset(words) != 0
             }
         }
     }
@@ -470,7 +427,7 @@ impl Queue {
             if CHECKED {
                 told(|out| c::dsq_count_streams_ready_to_reset(words, out))
             } else {
-                owned::dsq_owned_count_streams_ready_to_reset(words)
+                c::dsq_owned_count_streams_ready_to_reset(words)
             }
         }
     }
@@ -508,15 +465,18 @@ impl Queue {
     pub(crate) fn save(&self, image: &mut [u8], out: &mut Out, time: u64) -> u32 {
         // SAFETY: all four are references, the lengths are their own; saving reads words and store only. They are a queue's own.
         unsafe {
-            checked!(dsq_save(
-                self.words.as_ptr(),
-                self.store.as_ptr(),
-                self.store.len(),
-                image.as_mut_ptr(),
-                image.len(),
-                out.as_mut_ptr(),
-                time,
-            ))
+            either!(
+                dsq_owned_save
+                    | dsq_save(
+                        self.words.as_ptr(),
+                        self.store.as_ptr(),
+                        self.store.len(),
+                        image.as_mut_ptr(),
+                        image.len(),
+                        out.as_mut_ptr(),
+                        time,
+                    )
+            )
         }
     }
 
