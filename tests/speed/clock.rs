@@ -54,19 +54,23 @@ fn part<const KINDS: usize>(round: &mut Round<'_, KINDS>) -> [f64; KINDS] {
     laps.map(|lap| lap.time.as_nanos() as f64 / lap.calls.max(1) as f64)
 }
 
-/// The best part of each queue, for each kind of call. The first part of each only warms up.
-pub fn best<const KINDS: usize>(mut ours: Round<'_, KINDS>, mut theirs: Round<'_, KINDS>) -> [Times; KINDS] {
-    let mut best = [Times { ours: f64::MAX, theirs: f64::MAX }; KINDS];
+/// The best part of each side, for each kind of call. The first part of each only warms up.
+pub fn best_of<const SIDES: usize, const KINDS: usize>(mut rounds: [Round<'_, KINDS>; SIDES]) -> [[f64; SIDES]; KINDS] {
+    let mut best = [[f64::MAX; SIDES]; KINDS];
     for k in 0..PARTS {
-        let (t, o) = (part(&mut theirs), part(&mut ours));
-        if k > 0 {
-            for (kind, times) in best.iter_mut().enumerate() {
-                times.ours = times.ours.min(o[kind]);
-                times.theirs = times.theirs.min(t[kind]);
+        for (side, round) in rounds.iter_mut().enumerate() {
+            let times = part(round);
+            if k > 0 {
+                best.iter_mut().zip(times).for_each(|(kind, time)| kind[side] = kind[side].min(time));
             }
         }
     }
     best
+}
+
+/// The same of the proved queue and the original.
+pub fn best<const KINDS: usize>(ours: Round<'_, KINDS>, theirs: Round<'_, KINDS>) -> [Times; KINDS] {
+    best_of([theirs, ours]).map(|[theirs, ours]| Times { ours, theirs })
 }
 
 /// Prints a row of the table.

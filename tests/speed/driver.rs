@@ -10,11 +10,14 @@
 
 include!("original.rs");
 
+mod c;
 mod clock;
 mod depth;
 mod dropping;
 mod expired;
 mod images;
+mod limits;
+mod owned;
 mod packets;
 mod planning;
 mod reassembly;
@@ -44,5 +47,6 @@ fn main() {
     depth::depth();
     steady::steady();
     steady::longest_calls();
+    owned::beside_checked();
     println!("\nProfile 3 has 600 messages: 1,024 of 3,000 bytes do not fit into the largest store, 2,000,000 bytes.");
 }

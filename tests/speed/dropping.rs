@@ -51,7 +51,7 @@ pub fn discarding() {
 }
 
 /// Lets the allocator put what was freed in order now, so that the next timed call does not pay for it.
-fn settle() {
+pub fn settle() {
     drop(black_box(vec![0u8; 65_536]));
 }
 

@@ -31,7 +31,7 @@ macro_rules! round {
 }
 
 /// The fragments of one packet, each copied to where the packet has it.
-fn fragments(queue: &mut Theirs, buffer: &mut [u8], header: usize) -> bool {
+pub fn fragments(queue: &mut Theirs, buffer: &mut [u8], header: usize) -> bool {
     let mut at = COMMON;
     while SIZE - at >= header + 4 {
         let room = (SIZE - at - header) / 4 * 4;
