@@ -38,8 +38,8 @@ impl SendQueue {
     /// Each chunk carries what one [`produce`](SendQueue::produce) at this time would give; its payload is copied once, from the queue to its
     /// place. The buffer behind the packet stays as it was.
     ///
-    /// Where it drops up to 17 messages it takes 7 KB of stack, up to 128 of them 37 KB, and 253 KB to drop more in one call (measured):
-    /// give a thread more.
+    /// It takes at most 4 KB of stack (measured). A build with debug assertions calls the checked function, which takes 7 KB where it drops up
+    /// to 17 messages, 37 KB up to 128 of them, and 253 KB to drop more in one call.
     ///
     /// # Errors
     ///

@@ -43,7 +43,7 @@ fn a_next_fragment_past_expired_messages() {
 fn a_packet_past_expired_messages() {
     let mut queue = expired(1_024);
     let mut buffer = vec![0; 1_200];
-    with_stack(DEEP, move || {
+    with_stack(if cfg!(debug_assertions) { DEEP } else { LITTLE }, move || {
         let packet = Packet { limit: 1_200, source_port: 1, destination_port: 2, verification_tag: 3, tsn: Tsn(4) };
         assert_eq!(queue.fill_packet(LATER, &mut buffer, &packet).unwrap(), None);
         assert_eq!(queue.waiting_messages(), 0);
