@@ -6,7 +6,6 @@ use crate::ffi::EventWords;
 use crate::ffi::Given;
 use crate::ffi::Out;
 use crate::ffi::Queue;
-
 use crate::fragment;
 use crate::fragment::DataToSend;
 use crate::ids::OutgoingMessageId;

@@ -113,7 +113,7 @@ pub fn drop_first(
     drop_in_state(queue, events, k, id, row, s, m)
 }
 
-// Drops the head of the stream in a row, where the tests say that it may be dropped: the events so far. Nothing is tested again.
+// Drops the head of the stream in a row, where the tests say that it may be dropped: the events so far. The tests are not made again.
 pub fn drop_own(
     queue: &mut [u64; QUEUE_WORDS],
     events: &mut [u64],

@@ -303,7 +303,7 @@ fn append(
     append_at(queue, store, time, m, payload, row, s, place, free);
 }
 
-// The same, where the tests say that the message has a place and its payload may be put: nothing is tested again.
+// The same, where the tests say that the message has a place and its payload may be put: they are not made again.
 pub fn append_own(
     queue: &mut [u64; QUEUE_WORDS],
     store: &mut [u8],

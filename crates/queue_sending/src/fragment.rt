@@ -244,7 +244,7 @@ pub fn chosen_code(
     send_code(queue, len, s, m, n, room)
 }
 
-// Hands out at most `size` bytes of the chosen head, after k events, where the test says that they may be handed out: nothing is tested
+// Hands out at most `size` bytes of the chosen head, after k events, where the test says that they may be handed out: it is not made
 // again.
 pub fn hand_own(
     queue: &mut [u64; QUEUE_WORDS],
