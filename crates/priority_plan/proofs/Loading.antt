@@ -29,7 +29,6 @@ use Rattle.priority_plan.specs.Jobs.{Setting, priority, interleaving, se
 use Rattle.priority_plan.proofs.Lasting.{NoneExpired}
 use Rattle.queue_model.proofs.Demand3.Peel.{at-put-other}
 use Rattle.queue_model.proofs.Calm.Calm.{head-size-none}
-use Rattle.queue_model.proofs.FairTurns.Seen.{IsOpen}
 
 -- ---- accepted calls
 
@@ -167,6 +166,9 @@ fresh-new o c = record { well = well-new o c; options-same = refl; resting = rec
 
 -- ---- messages
 
+abbrev Opened : Stream → Type 0
+Opened s = s .pause-state ≡ not-paused
+
 -- An interleaving queue on which messages are added and none is sent yet.
 record Loading (o : Options) (q : Queue) : Type 0 where
   well : Well q
@@ -174,7 +176,7 @@ record Loading (o : Options) (q : Queue) : Type 0 where
   on : q .interleaving ≡ true
   free : q .scheduler .current ≡ none
   time-zero : q .scheduler .system-time ≡ 0
-  opened : Every IsOpen (q .streams)
+  opened : Every Opened (q .streams)
 
 -- A stream before its first message, and after it.
 record Before-first (k p : ℕ) (q : Queue) : Type 0 where
@@ -216,7 +218,7 @@ module _ (o : Options) (q : Queue) (l : Loading o q) (now : ℕ) (m : Message) (
   is-k = at-id (q .options) (q .streams) (m .stream-id)
 
   is-open : s .pause-state ≡ not-paused
-  is-open = every-at IsOpen (q .options) (m .stream-id) (q .streams) (l .opened) refl
+  is-open = every-at Opened (q .options) (m .stream-id) (q .streams) (l .opened) refl
 
   item-size : remaining (new-item now (q .next-message-id) m) ≡ length (m .payload)
   unfolding new-item
@@ -296,7 +298,7 @@ module _ (o : Options) (store now : ℕ) (m : Message) (q : Queue) (l : Loading 
       on = l .on;
       free = st .free;
       time-zero = st .time-zero;
-      opened = every-put stream-key IsOpen next-stream (q .streams) (is-open o q l now m h) (l .opened);
+      opened = every-put stream-key Opened next-stream (q .streams) (is-open o q l now m h) (l .opened);
     };
     before-others = λ k p n b. record {
       no-items = ap (λ (x : Stream). x .items) (other k n) ∙ b .no-items;
@@ -388,7 +390,7 @@ module _ (o : Options) (hs : List PlannedStream) (ps : List ℕ) (ss : List Sett
     on = up .choice ∙ j .interleaves;
     free = up .fresh .resting .free;
     time-zero = up .fresh .resting .time-zero;
-    opened = every-weaken Unused IsOpen ((set-up o ss) .streams) (λ s u. u .opened) (up .fresh .unused);
+    opened = every-weaken Unused Opened ((set-up o ss) .streams) (λ s u. u .opened) (up .fresh .unused);
   }
 
   loaded-full : Full o as′ (set-up o ss) (loaded o ss as′)

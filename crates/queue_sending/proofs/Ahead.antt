@@ -1,5 +1,5 @@
 -- A look in words that are not broken, and the parts of a fragment whose test has passed. Assumes nothing.
-use mathlib.Core.Path.{_≡_, refl, sym, ap, _∙_}
+use mathlib.Core.Path.{_≡_, sym, ap, _∙_}
 use mathlib.Core.Bool.{Bool, true, false}
 use mathlib.Core.List.{List}
 use Prim.Native.Nat.{ℕ, _≤_, _<_}
@@ -14,19 +14,15 @@ use Rattle.queue_words.specs.Items.{itemAt}
 use Rattle.queue_words.specs.Streams.{streamAt}
 use Rattle.queue_words.specs.declared.active.ActiveStreamInfo.{ActiveStreamInfo}
 use Rattle.queue_words.specs.declared.items.Item.{Item}
-use Rattle.queue_words.specs.declared.known.Found.{Found}
 use Rattle.queue_words.specs.declared.known.Found.the-variants as found
 use Rattle.queue_words.specs.declared.streams.OutgoingStream.{OutgoingStream}
 use Rattle.queue_words.proofs.Finds.{find-hit, by-lt}
 use Rattle.payload_store.specs.Reading.{readCode}
 use Rattle.payload_store.proofs.Cases.{pick-else}
-use Rattle.stream_scheduler.specs.Own.{HasRow}
 use Rattle.stream_scheduler.specs.Words.{peekWords}
-use Rattle.stream_scheduler.specs.declared.Peeked.{Peeked}
 use Rattle.stream_scheduler.specs.declared.Peeked.the-variants as peeked
-use Rattle.stream_scheduler.proofs.Peeks.{peek-in}
 use Rattle.message_chains.specs.Amounts.{rest}
-use Rattle.queue_sending.specs.Choice.{expiredBy, lookAt, lookIn, lookFor, lookPeeked, lookAhead}
+use Rattle.queue_sending.specs.Choice.{expiredBy, lookAt, lookFor, lookAhead}
 use Rattle.queue_sending.specs.Fragment.{sendCode}
 use Rattle.queue_sending.specs.Own.{Unbroken}
 use Rattle.queue_sending.specs.declared.choice.Look.{Look}
@@ -111,40 +107,3 @@ module _ (ws : List ℕ) (time : ℕ) (y : Unbroken (lookAhead ws time)) where
   pub none-looked : peeked.Nothing ≡ peekWords ws → look.Nothing ≡ lookAhead ws time
   unfolding lookAhead
   none-looked e = rw (← e)
-
--- ---- the row of a head to send
-
-at-chosen : (ws : List ℕ) (time i x r at id row : ℕ) → look.Chosen at id row ≡ lookAt ws time i x r → at ≡ i
-unfolding lookAt
-at-chosen ws time i x r at id row e = by (ltb 1023 (streamAt ws r .first)) (expiredBy (itemAt ws (streamAt ws r .first)) time) e
-  where
-    by : (b g : Bool) → look.Chosen at id row ≡ pick b look.Broken (pick g (look.Expired x r) (look.Chosen i x r)) → at ≡ i
-    by true g e = let z : _≡_ {A = ℕ} 0 1 = cc e in absurd (omega arith)
-    by false true e = let z : _≡_ {A = ℕ} 0 1 = cc e in absurd (omega arith)
-    by false false e = cc e
-
-for-chosen : (ws : List ℕ) (time i x at id row : ℕ) (f : Found) → look.Chosen at id row ≡ lookIn ws time i x f → at ≡ i
-for-chosen ws time i x at id row (found.At p r) e = at-chosen ws time i x r at id row e
-for-chosen ws time i x at id row (found.Gap p) e = let z : _≡_ {A = ℕ} 0 1 = cc e in absurd (omega arith)
-for-chosen ws time i x at id row found.Broken e = let z : _≡_ {A = ℕ} 0 1 = cc e in absurd (omega arith)
-
-module _ (ws : List ℕ) (time at id row : ℕ) where
-  chosen-unbroken : look.Chosen at id row ≡ lookAhead ws time → Unbroken (lookAhead ws time)
-  chosen-unbroken e z = let q : _≡_ {A = ℕ} 0 1 = cc (e, z) in omega arith
-
-  chosen-in : look.Chosen at id row ≡ lookAhead ws time → at < schedulerAt ws .active
-  unfolding lookAhead lookFor
-  chosen-in e = by (peekWords ws) refl e
-    where
-      peeked-at : (i : ℕ) → peeked.At i ≡ peekWords ws → (b : Bool) → look.Chosen at id row ≡ pick b look.Broken (lookFor ws time i (activeAt ws i .«stream_id» .0)) → at < schedulerAt ws .active
-      peeked-at i ei true e = let z : _≡_ {A = ℕ} 0 1 = cc e in absurd (omega arith)
-      peeked-at i ei false e = let s : at ≡ i = for-chosen ws time i (activeAt ws i .«stream_id» .0) at id row (findStream ws (activeAt ws i .«stream_id» .0)) e in omega (arith, s, peek-in ws i ei)
-
-      by : (p : Peeked) → p ≡ peekWords ws → look.Chosen at id row ≡ lookPeeked ws time p → at < schedulerAt ws .active
-      by (peeked.At i) ei e = peeked-at i ei (ltb 255 i) e
-      by peeked.Nothing ei e = let z : _≡_ {A = ℕ} 0 1 = cc e in absurd (omega arith)
-      by peeked.Broken ei e = let z : _≡_ {A = ℕ} 0 1 = cc e in absurd (omega arith)
-
-  -- A head to send is found in a row that the scheduler has.
-  pub chosen-row : look.Chosen at id row ≡ lookAhead ws time → HasRow ws at
-  chosen-row e = (rows-few ws time (chosen-unbroken e), chosen-in e)

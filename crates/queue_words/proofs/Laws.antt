@@ -264,6 +264,14 @@ active-at-put-other ws i a j ne =
 
 -- AFTER A STORE OF THE OPTIONS
 
+pub totals-put-options : (ws : List ℕ) (o : Options) → totalsAt (putOptions ws o) ≡ totalsAt ws
+unfolding totalsAt putOptions
+totals-put-options ws o = ap totalsOf (row-put-other ws 0 (optionsWords o) 7 11 (inl (omega arith)))
+
+pub known-put-options : (ws : List ℕ) (o : Options) (j : ℕ) → knownAt (putOptions ws o) j ≡ knownAt ws j
+unfolding knownAt putOptions
+known-put-options ws o j = ap knownOf (row-put-other ws 0 (optionsWords o) (32 + j * 2) 2 (inl (omega arith)))
+
 -- AFTER A STORE OF THE TOTALS
 
 pub options-put-totals : (ws : List ℕ) (t : Totals) → optionsAt (putTotals ws t) ≡ optionsAt ws

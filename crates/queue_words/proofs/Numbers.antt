@@ -32,6 +32,11 @@ pause-state-of-word Pending = refl
 pause-state-of-word Paused = refl
 pause-state-of-word Resetting = refl
 
+-- a weight is a number of 16 bits
+pub parameters-of-word : (p : SchedulingParameters) → ((w : ℕ) → p ≡ WeightedFairQueuing w → w < 65536) → parametersOf (parametersWord p) ≡ p
+parameters-of-word RoundRobin f = refl
+parameters-of-word (WeightedFairQueuing w) f = rw (lt-ltb _ _ (f w refl))
+
 -- ---- the remembered stream
 
 pub remembered-of-word : (r : Remembered) → FitsRemembered r → rememberedOf (rememberedWord r) ≡ r

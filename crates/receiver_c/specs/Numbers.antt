@@ -12,6 +12,10 @@ use Rattle.receiver_fragments.specs.declared.answers.Received.the-variants as r
 use Rattle.receiver_fragments.specs.declared.answers.Fetched.{Fetched}
 use Rattle.receiver_fragments.specs.declared.answers.Fetched.the-variants as fetched
 
+-- A flag: 0 for no, anything else for yes.
+abbrev pub isYes : ℕ → Bool
+isYes n = not (eqb n 0)
+
 -- 1 for accepted, 0 for a repeat
 abbrev pub receivedOut : List ℕ → Received → List ℕ
 receivedOut out (received.Refused n) = out

@@ -44,7 +44,7 @@ use Rattle.receiver_fragments.specs.Receiving.{receiveNew, receiveFragment}
 use Rattle.receiver_fragments.specs.Fetching as fetching
 use Rattle.receiver_fragments.specs.Fetching.{takeOut, sizeBy, fetchFirst, fetch}
 use Rattle.receiver_fragments.specs.Freeing.{measured}
-use Rattle.receiver_calls.specs.Answers.{receivedNumber, fetchedNumber, fetchedValue}
+use Rattle.receiver_calls.specs.Answers.{receivedNumber, receivedValue, fetchedNumber, fetchedValue}
 use Rattle.receiver_calls.specs.Receiving.{fragmentOf, ofKind, receiveRead, receiveAs, receive}
 use Rattle.receiver_calls.specs.Promise.{creationNumbers, receivingNumbers, fetchingNumbers, CallsRefused}
 

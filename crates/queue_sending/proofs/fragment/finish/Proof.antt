@@ -34,7 +34,7 @@ the-end ws at id row s m n state t first bytes p r u v o w es et ef eb ep eu ev 
 returns : tie.Need-returns
 returns c =
     the-end _ _ _ _ _ _ _ _ _ _ _ _ _ _ _ _ _ (c .before .before .before .before .before .before .before .before .before .before .before .before .before .end-pending .ensures) (c .before .before .before .before .before .before .before .before .before .before .before .load-totals .ensures) (c .before .before .before .before .before .before .before .before .before .before .next-first .ensures) (c .before .before .before .before .before .before .before .before .head-size .ensures) (c .before .before .before .before .before .before .before .parameters-for .ensures)
-    (c .before .before .before .before .before .accept-last-own .ensures) (c .before .before .before .release .ensures) (c .before .before .without-head .ensures) (c .store-stream .ensures)
+    (c .before .before .before .before .before .accept-last .ensures) (c .before .before .before .release .ensures) (c .before .before .without-head .ensures) (c .store-stream .ensures)
 
 pub finish-spec : {M : Type 1} → statement M
 finish-spec =

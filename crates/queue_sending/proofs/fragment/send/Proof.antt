@@ -10,7 +10,7 @@ read-own-requires : tie.Need-read-own-requires
 read-own-requires c κs = send-reads _ _ _ _ _ _ (c .before .before .before .before .before .pre .2)
 
 write-sent-requires : tie.Need-write-sent-requires
-write-sent-requires c κs = ((c .before .before .before .before .before .before .before .before .before .before .before .before .before .before .before .before .before .pre .0), first-fits _ _ _ (c .before .before .numbered-stream .ensures) (c .before .before .before .before .before .before .before .before .before .before .before .before .before .before .before .before .before .pre .1), (c .before .before .before .before .before .before .before .before .before .before .before .before .before .before .before .before .before .pre .3))
+write-sent-requires c κs = ((c .before .before .before .before .before .before .before .before .before .before .before .before .before .before .before .before .before .pre .0), first-fits _ _ _ (c .before .before .numbered-stream .ensures) (c .before .before .before .before .before .before .before .before .before .before .before .before .before .before .before .before .before .pre .1))
 
 same-length : tie.Need-same-length
 same-length c = search (needs, (c .before .before .before .before .before .before .before .events .given))

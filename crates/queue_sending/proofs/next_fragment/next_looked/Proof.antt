@@ -4,7 +4,6 @@
 use borrow.Author.Needs.{needs}
 use borrow.Author.Tests.{le-ltb, lt-ltb}
 use mathlib.Core.Path.{sym, _∙_}
-use Rattle.queue_sending.proofs.Ahead.{chosen-row}
 use Rattle.queue_sending.proofs.next_fragment.next_looked.Statement.{statement}
 use Rattle.queue_sending.proofs.next_fragment.next_looked.Tie as tie
 
@@ -13,22 +12,34 @@ pass-waiting-requires c κs = ((c .before .before .before .before .before .befor
 
 returns : tie.Need-returns
 returns c =
-    (rw ((c .before .enum-told .given .1), lt-ltb _ _ (c .if1 .taken)), tt)
+    rw (
+      (c .before .enum-told .given .1),
+      lt-ltb _ _ (c .if1 .taken),
+    )
 
 returns-2 : tie.Need-returns-2
-returns-2 c = (rw (c .before .before .before .before .before .before .found .given .1) (c .before .before .pass-waiting .ensures .sends), (c .before .before .pass-waiting .ensures .in-row))
+returns-2 c = rw (c .before .before .before .before .before .before .found .given .1) (c .before .before .pass-waiting .ensures .sends)
 
 returns-3 : tie.Need-returns-3
 returns-3 c =
-    (rw ((c .before .enum-told .given .1), le-ltb _ _ (c .if1 .left)), tt)
+    rw (
+      (c .before .enum-told .given .1),
+      le-ltb _ _ (c .if1 .left),
+    )
 
 returns-4 : tie.Need-returns-4
 returns-4 c =
-    (rw (c .enum-told2 .given .1), tt)
+    rw
+    (
+    (c .enum-told2 .given .1)
+    )
 
 returns-5 : tie.Need-returns-5
 returns-5 c =
-    (rw (c .before .found2 .given .1), chosen-row _ _ _ _ _ (sym (c .before .found2 .given .1) ∙ (c .before .before .before .before .before .before .pre .1)))
+    rw
+    (
+    (c .before .found2 .given .1)
+    )
 
 pub next-looked-spec : {M : Type 1} → statement M
 next-looked-spec =
