@@ -16,6 +16,7 @@ use Rattle.owned_closing.specs.declared.closing.Closed.the-variants as c
 use Rattle.owned_closing.specs.declared.discarding.Discarded.{Discarded}
 use Rattle.owned_closing.specs.declared.discarding.Discarded.the-variants as discarded
 
+-- 3: "On next fragment, discard, close or setting a threshold, the event list has fewer than 2,305 places."
 abbrev pub discardedAs : Discarded → Call
 discardedAs (discarded.Done k) = Accepted k
 discardedAs discarded.EventsShort = Refused 3
@@ -26,6 +27,7 @@ pub record MayDiscard (ws : List ℕ) (id message row : ℕ) : Type 0 where
   pub first-fits : streamAt ws row .first ≤ 1024
   pub goes : streamAt ws row .first < 1024 → itemAt ws (streamAt ws row .first) .«message_id» .0 ≡ message → MayDrop ws id row
 
+-- 3 as for discarding; 6: "The call would make a 257th known stream."
 abbrev pub closingAs : Closed → Call
 closingAs (closed.Done k) = Accepted k
 closingAs closed.EventsShort = Refused 3

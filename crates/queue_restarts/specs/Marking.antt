@@ -3,6 +3,6 @@ use Prim.Native.Nat.{ℕ, _+_, _*_}
 use mathlib.Core.List.{List}
 use lib.ListN.{set}
 
--- of the stream in a row its state
+-- Ready ids "become resetting": of the stream in a row its state, and no other word.
 unfoldable pub putResetting : List ℕ → ℕ → List ℕ
 putResetting ws row = set ws (544 + row * 10 + 1) 3
