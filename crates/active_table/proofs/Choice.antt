@@ -18,7 +18,7 @@ use Rattle.queue_words.specs.Header.{optionsAt, schedulerAt}
 use Rattle.queue_words.specs.Leasts.{groupOf, stale, leastsAt, leastAt, putLeast}
 use Rattle.queue_words.proofs.Laws.{whole-put-least, options-put-least, scheduler-put-least, active-put-least, leasts-at-put}
 use Rattle.active_table.specs.declared.Best.{Best}
-use Rattle.active_table.specs.Groups.{groupsOf, countIn, bestAt, bestIn, bestOver, leastKnown, staleFrom, leastIn, refreshedAt, refreshed, AtMost, sooner, level, Leasts}
+use Rattle.active_table.specs.Groups.{groupsOf, countIn, bestAt, bestIn, bestOver, few, leastKnown, staleFrom, leastIn, refreshedAt, groupFresh, refreshed, AtMost, sooner, level, Leasts}
 use Rattle.active_table.specs.Parts.{rowsFrom}
 use Rattle.active_table.specs.Rows.{bestOf, better, bestAmong, bestTo}
 
@@ -183,7 +183,7 @@ module _ (ws : List ℕ) (n : ℕ) where
 
   pub known-is : 0 < n → Least ws n n (leastKnown ws n)
   unfolding leastKnown
-  known-is pos = go (leb n 64)
+  known-is pos = go (leb n few)
     where
       over : Least ws n (groupsOf n * 24) (bestOver ws n (groupsOf n)) → Least ws n n (bestOver ws n (groupsOf n))
       over l = record { least-row = l .least-row; least-in = l .least-in; least-first = λ w j h k. l .least-first w j h (omega arith) }
@@ -287,40 +287,57 @@ module _ (ws : List ℕ) (n g : ℕ) where
           let w : leastAt us k ≡ leastAt ws k = ap (λ (x : List ℕ). getD x k 0) words ∙ getD-set-other (leastsAt ws) g k v 0 (λ q. ne (sym q)) in
           rw (w, rows (k * 24 + leastAt ws k), rows (k * 24 + j)) (l k (omega arith) j c)
 
--- What holds of the words, and of them with a group of the rows in use made fresh, holds of `refreshed`.
+-- What holds of the words, and stays true where a group of the rows in use is made fresh, holds of `refreshed`.
 module _ (ws : List ℕ) (at : ℕ) where
   abbrev n : ℕ
   n = (schedulerAt ws) .active
 
-  pub refreshed-by : (P : List ℕ → Type 0) → P ws → ((g : ℕ) → g < 11 → P (refreshedAt ws n g)) → P (refreshed ws at)
-  unfolding refreshed
-  refreshed-by P same-words fresh = go (ltb 256 n) (leb n 64) (ltb g (groupsOf n)) refl refl
-    where
-      g : ℕ
-      g = staleFrom ws n (at / 24) 0 (groupsOf n)
+  module _ (P : List ℕ → Type 0) (fresh : (us : List ℕ) (g : ℕ) → g < 11 → P us → P (refreshedAt us n g)) where
+    group-by : (us : List ℕ) (g : ℕ) → n ≤ 256 → P us → P (groupFresh us n g)
+    unfolding groupFresh
+    group-by us g fits p = go (ltb g (groupsOf n)) refl
+      where
+        go : (b : Bool) → ltb g (groupsOf n) ≡ b → P (if b then refreshedAt us n g else us)
+        go true e = fresh us g (omega (arith, tests.ltb-true g (groupsOf n) e)) p
+        go false e = p
 
-      go : (a b c : Bool) → ltb 256 n ≡ a → ltb g (groupsOf n) ≡ c → P (if a then ws else if b then ws else if c then refreshedAt ws n g else ws)
-      go true b c e f = same-words
-      go false true c e f = same-words
-      go false false true e f = fresh g (omega (arith, tests.ltb-true g (groupsOf n) f, tests.ltb-false 256 n e))
-      go false false false e f = same-words
+    pub refreshed-by : P ws → P (refreshed ws at)
+    unfolding refreshed
+    refreshed-by p = go (ltb 256 n) (leb n few) refl
+      where
+        us : List ℕ
+        us = groupFresh ws n (at / 24)
 
-  -- What is read of words with a group made fresh.
-  pub refreshed-puts : (P : List ℕ → Type 0) → P ws → ((g v : ℕ) → g < 11 → P (putLeast ws g v)) → P (refreshed ws at)
+        go : (a b : Bool) → ltb 256 n ≡ a → P (if a then ws else if b then ws else groupFresh us n (staleFrom us n 0 (groupsOf n)))
+        go true b e = p
+        go false true e = p
+        go false false e =
+            let h : n ≤ 256 = tests.ltb-false 256 n e in
+            group-by us (staleFrom us n 0 (groupsOf n)) h (group-by ws (at / 24) h p)
+
+  -- What is read of words with groups made fresh.
+  pub refreshed-puts : (P : List ℕ → Type 0) → ((us : List ℕ) (g v : ℕ) → g < 11 → P us → P (putLeast us g v)) → P ws → P (refreshed ws at)
   unfolding refreshedAt
-  refreshed-puts P same-words fresh = refreshed-by P same-words (λ g fits. fresh g _ fits)
+  refreshed-puts P fresh = refreshed-by P (λ us g fits. fresh us g _ fits)
 
   pub refreshed-whole : length (refreshed ws at) ≡ length ws
-  refreshed-whole = refreshed-puts (λ us. length us ≡ length ws) refl (λ g v h. whole-put-least ws g v)
+  refreshed-whole = refreshed-puts (λ us. length us ≡ length ws) (λ us g v h e. whole-put-least us g v ∙ e) refl
 
   pub refreshed-options : optionsAt (refreshed ws at) ≡ optionsAt ws
-  refreshed-options = refreshed-puts (λ us. optionsAt us ≡ optionsAt ws) refl (λ g v h. options-put-least ws g v)
+  refreshed-options = refreshed-puts (λ us. optionsAt us ≡ optionsAt ws) (λ us g v h e. options-put-least us g v ∙ e) refl
 
   pub refreshed-scheduler : schedulerAt (refreshed ws at) ≡ schedulerAt ws
-  refreshed-scheduler = refreshed-puts (λ us. schedulerAt us ≡ schedulerAt ws) refl (λ g v h. scheduler-put-least ws g v)
+  refreshed-scheduler = refreshed-puts (λ us. schedulerAt us ≡ schedulerAt ws) (λ us g v h e. scheduler-put-least us g v ∙ e) refl
 
   pub refreshed-rows : (j : ℕ) → activeAt (refreshed ws at) j ≡ activeAt ws j
-  refreshed-rows j = refreshed-puts (λ us. activeAt us j ≡ activeAt ws j) refl (λ g v h. active-put-least ws g v j h)
+  refreshed-rows j = refreshed-puts (λ us. activeAt us j ≡ activeAt ws j) (λ us g v h e. active-put-least us g v j h ∙ e) refl
+
+  whole-refreshed : (us : List ℕ) (g : ℕ) → length (refreshedAt us n g) ≡ length us
+  unfolding refreshedAt
+  whole-refreshed us g = whole-put-least us g _
 
   pub refreshed-leasts : length ws ≡ 20768 → Leasts ws n → Leasts (refreshed ws at) n
-  refreshed-leasts long l = refreshed-by (λ us. Leasts us n) l (λ g fits. leasts-refreshed ws n g long fits l)
+  refreshed-leasts long l = refreshed-by Right (λ us g fits p. (whole-refreshed us g ∙ p .0, leasts-refreshed us n g (p .0) fits (p .1))) (long, l) .1
+    where
+      Right : List ℕ → Type 0
+      Right us = (length us ≡ 20768) × Leasts us n

@@ -6,13 +6,13 @@ use Prim.Native.Nat.{ℕ, zero, suc, _+_, _-_, _*_, _/_, _≤_, _<_}
 use native.Mathlib.Omega.{arith}
 use native.Mathlib.Nat.{sub-zero}
 use lib.Dec.{ltb}
-use borrow.Author.Tests.{lt-ltb, le-ltb, le-leb, lt-leb, eq-eqb, ne-eqb}
+use borrow.Author.Tests.{lt-ltb, le-ltb, le-leb, lt-leb}
 use Rattle.queue_model.specs.Logic.{if_then_else_}
 use Rattle.queue_words.specs.Header.{schedulerAt}
 use Rattle.queue_words.specs.Leasts.{leastAt, putLeast}
 use Rattle.queue_words.specs.declared.header.SchedulerState.{SchedulerState}
 use Rattle.active_table.specs.declared.Best.{Best}
-use Rattle.active_table.specs.Groups.{groupsOf, countIn, bestAt, bestIn, bestOver, leastKnown, isPassed, staleFrom, leastIn, refreshedAt, refreshed}
+use Rattle.active_table.specs.Groups.{groupsOf, countIn, bestAt, bestIn, bestOver, few, leastKnown, isFresh, staleFrom, leastIn, refreshedAt, groupFresh, refreshed}
 use Rattle.active_table.specs.Parts.{rowsFrom}
 use Rattle.active_table.specs.Rows.{bestAmong, bestTo}
 use Rattle.active_table.proofs.Choice.{least-from}
@@ -34,72 +34,103 @@ pub over-none : (ws : List ℕ) (n : ℕ) (b : Best) → b ≡ bestAt ws 0 → b
 unfolding bestOver
 over-none ws n b e = e
 
-pub over-one : (ws : List ℕ) (n g : ℕ) (a b : Best) → a ≡ bestOver ws n g → b ≡ bestIn ws n g a → b ≡ bestOver ws n (g + 1)
-unfolding bestOver
-over-one ws n g a b ea eb =
-    let s : g + 1 ≡ suc g = omega arith in
-    rw (s, eb, ea)
+-- A full group is looked at as the last of its rows.
+full-count : (g n : ℕ) → g * 24 + 24 ≤ n → countIn g (g * 24 + 24) ≡ countIn g n
+full-count g n l = omega arith
 
-pub over-end : (ws : List ℕ) (n g k : ℕ) (b : Best) → b ≡ bestOver ws n g → k ≡ groupsOf n → g ≤ k → k ≤ g → b ≡ bestOver ws n (groupsOf n)
-over-end ws n g k b e ek l m =
-    let z : g ≡ groupsOf n = omega arith in
-    e ∙ ap (bestOver ws n) z
+module _ (ws : List ℕ) (n g : ℕ) (a b : Best) (ea : a ≡ bestOver ws n g) where
+  pub over-one : b ≡ bestIn ws n g a → b ≡ bestOver ws n (suc g)
+  unfolding bestOver
+  over-one eb = rw (eb, ea)
+
+  pub over-full : g * 24 + 24 ≤ n → b ≡ bestIn ws (g * 24 + 24) g a → b ≡ bestOver ws n (g + 1)
+  unfolding bestIn
+  over-full l eb =
+      let s : g + 1 ≡ suc g = omega arith in
+      subst (λ (x : ℕ). b ≡ bestOver ws n x) (sym s) (over-one (rw (eb, full-count g n l)))
+
+-- The last group, which is not full, and none.
+module _ (n g : ℕ) (l : n < g * 24 + 24) where
+  last-group : g * 24 < n → groupsOf n ≡ suc g
+  last-group h = omega arith
+
+  no-group : g * 24 ≤ n → n ≤ g * 24 → groupsOf n ≡ g
+  no-group h m = omega arith
+
+module _ (ws : List ℕ) (n g : ℕ) (a : Best) (ea : a ≡ bestOver ws n g) (l : n < g * 24 + 24) where
+  pub over-last : (b : Best) → g * 24 < n → b ≡ bestIn ws n g a → b ≡ bestOver ws n (groupsOf n)
+  over-last b h eb = subst (λ (x : ℕ). b ≡ bestOver ws n x) (sym (last-group n g l h)) (over-one ws n g a b ea eb)
+
+  pub over-end : g * 24 ≤ n → n ≤ g * 24 → a ≡ bestOver ws n (groupsOf n)
+  over-end h m = subst (λ (x : ℕ). a ≡ bestOver ws n x) (sym (no-group n g l h m)) ea
 
 module _ (ws : List ℕ) (n : ℕ) (b : Best) where
-  pub known-one : n ≤ 64 → b ≡ bestTo ws (n - 1) → b ≡ leastKnown ws n
+  pub known-one : n ≤ few → b ≡ bestTo ws (n - 1) → b ≡ leastKnown ws n
   unfolding leastKnown
   known-one l e = rw (le-leb _ _ l, e)
 
-  pub known-over : 64 < n → b ≡ bestOver ws n (groupsOf n) → b ≡ leastKnown ws n
+  pub known-over : few < n → b ≡ bestOver ws n (groupsOf n) → b ≡ leastKnown ws n
   unfolding leastKnown
   known-over l e = rw (lt-leb _ _ l, e)
 
 -- ---- a group made fresh
 
-module _ (ws : List ℕ) (n own g : ℕ) where
-  pub passed-own : g ≡ own → true ≡ isPassed ws n own g
-  passed-own e = rw (eq-eqb _ _ e)
+pub fresh-is : (ws : List ℕ) (n g w count : ℕ) → w ≡ leastAt ws g → count ≡ countIn g n → ltb w count ≡ isFresh ws n g
+fresh-is ws n g w count ew ec = rw (ew, ec)
 
-  pub passed-other : (w count : ℕ) → (g ≡ own → ⊥) → w ≡ leastAt ws g → count ≡ countIn g n → ltb w count ≡ isPassed ws n own g
-  passed-other w count ne ew ec = rw (ne-eqb _ _ ne, ew, ec)
-
--- Group g of k groups: what is sought is the first stale one from g on.
-module _ (ws : List ℕ) (n own k : ℕ) (ek : k ≡ groupsOf n) where
+-- What is sought is the first stale group from g on.
+module _ (ws : List ℕ) (n : ℕ) where
   abbrev Left : ℕ → ℕ
-  Left g = staleFrom ws n own g (k - g)
+  Left g = staleFrom ws n g (groupsOf n - g)
 
-  pub stale-start : staleFrom ws n own 0 (groupsOf n) ≡ Left 0
-  stale-start = rw (sub-zero, ek)
+  pub stale-start : staleFrom ws n 0 (groupsOf n) ≡ Left 0
+  stale-start = rw sub-zero
 
-  module _ (g : ℕ) (inv : staleFrom ws n own 0 (groupsOf n) ≡ Left g) where
-    more-left : g < k → Left g ≡ staleFrom ws n own g (suc (k - (g + 1)))
-    more-left l =
-        let s : k - g ≡ suc (k - (g + 1)) = omega arith in
-        ap (staleFrom ws n own g) s
-
+  module _ (g : ℕ) (inv : staleFrom ws n 0 (groupsOf n) ≡ Left g) where
     one : Bool → ℕ
-    one b = if b then staleFrom ws n own (suc g) (k - (g + 1)) else g
+    one b = if b then staleFrom ws n (suc g) (groupsOf n - suc g) else g
 
-    step : staleFrom ws n own g (suc (k - (g + 1))) ≡ one (isPassed ws n own g)
+    step : g * 24 < n → Left g ≡ one (isFresh ws n g)
     unfolding staleFrom one
-    step = refl
+    step l =
+        let s : groupsOf n - g ≡ suc (groupsOf n - suc g) = omega arith in
+        ap (staleFrom ws n g) s
 
-    module _ (l : g < k) (b : Bool) (eb : b ≡ isPassed ws n own g) where
-      pub stale-here : b ≡ false → g ≡ staleFrom ws n own 0 (groupsOf n)
+    module _ (l : g * 24 < n) (b : Bool) (eb : b ≡ isFresh ws n g) where
+      pub stale-here : b ≡ false → g ≡ staleFrom ws n 0 (groupsOf n)
       unfolding one
-      stale-here e = sym (inv ∙ more-left l ∙ step ∙ ap one (sym eb ∙ e))
+      stale-here e = sym (inv ∙ step l ∙ ap one (sym eb ∙ e))
 
-      pub stale-past : b ≡ true → staleFrom ws n own 0 (groupsOf n) ≡ Left (g + 1)
+      fresh-past : b ≡ true → staleFrom ws n 0 (groupsOf n) ≡ Left (suc g)
       unfolding one
-      stale-past e =
-          let s : suc g ≡ g + 1 = omega arith in
-          inv ∙ more-left l ∙ step ∙ ap one (sym eb ∙ e) ∙ ap (λ (x : ℕ). staleFrom ws n own x (k - (g + 1))) s
+      fresh-past e = inv ∙ step l ∙ ap one (sym eb ∙ e)
 
-    pub stale-none : k ≤ g → g ≡ staleFrom ws n own 0 (groupsOf n)
-    unfolding staleFrom
-    stale-none m =
-        let s : k - g ≡ 0 = omega arith in
-        sym (inv ∙ ap (staleFrom ws n own g) s)
+    module _ (l : g * 24 + 24 ≤ n) (b : Bool) (eb : b ≡ isFresh ws (g * 24 + 24) g) where
+      full-is : b ≡ isFresh ws n g
+      full-is = rw (eb, full-count g n l)
+
+      pub full-here : b ≡ false → g ≡ staleFrom ws n 0 (groupsOf n)
+      full-here = stale-here (omega arith) b full-is
+
+      pub full-past : b ≡ true → staleFrom ws n 0 (groupsOf n) ≡ Left (g + 1)
+      full-past e =
+          let s : g + 1 ≡ suc g = omega arith in
+          fresh-past (omega arith) b full-is e ∙ ap Left (sym s)
+
+    -- Nothing is left behind group g.
+    module _ (l : n < g * 24 + 24) where
+      pub stale-none : g * 24 ≤ n → n ≤ g * 24 → g ≡ staleFrom ws n 0 (groupsOf n)
+      unfolding staleFrom
+      stale-none h m =
+          let s : groupsOf n - g ≡ 0 = omega arith in
+          sym (inv ∙ ap (staleFrom ws n g) s)
+
+      pub last-past : g * 24 < n → (b : Bool) → b ≡ isFresh ws n g → b ≡ true → g + 1 ≡ staleFrom ws n 0 (groupsOf n)
+      unfolding staleFrom
+      last-past h b eb e =
+          let s : groupsOf n - suc g ≡ 0 = omega arith in
+          let t : g + 1 ≡ suc g = omega arith in
+          t ∙ sym (fresh-past h b eb e ∙ ap (staleFrom ws n (suc g)) s)
 
 pub least-in-is : (ws : List ℕ) (n g count : ℕ) (first best : Best) → count ≡ countIn g n → first ≡ bestAt ws (g * 24) → best ≡ bestAmong (rowsFrom ws (g * 24)) first (g * 24) count → best ≡ leastIn ws n g
 unfolding leastIn
@@ -112,25 +143,29 @@ pub group-refreshed : (ws : List ℕ) (n g : ℕ) (best : Best) (l : List ℕ) �
 unfolding refreshedAt
 group-refreshed ws n g best l eb el = rw (el, eb)
 
-module _ (ws : List ℕ) (at : ℕ) (s : SchedulerState) (es : s ≡ schedulerAt ws) where
-  pub refresh-broken : 256 < s .active → ws ≡ refreshed ws at
+module _ (ws : List ℕ) (n g k : ℕ) (ek : k ≡ groupsOf n) where
+  pub freshen-done : (us : List ℕ) → g < k → us ≡ refreshedAt ws n g → us ≡ groupFresh ws n g
+  unfolding groupFresh
+  freshen-done us l e =
+      let f : g < groupsOf n = omega arith in
+      rw (lt-ltb _ _ f, e)
+
+  pub freshen-none : k ≤ g → ws ≡ groupFresh ws n g
+  unfolding groupFresh
+  freshen-none l =
+      let f : groupsOf n ≤ g = omega arith in
+      rw (le-ltb _ _ f)
+
+-- The rows of the state that is loaded are as few.
+pub few-rows : (ws : List ℕ) (s : SchedulerState) → s ≡ schedulerAt ws → schedulerAt ws .active ≤ 256 → s .active ≤ 256
+few-rows ws s es h = rw es h
+
+module _ (ws : List ℕ) (at : ℕ) (s : SchedulerState) (es : s ≡ schedulerAt ws) (h : s .active ≤ 256) where
+  pub refresh-few : s .active ≤ few → ws ≡ refreshed ws at
   unfolding refreshed
-  refresh-broken h = rw (← es, lt-ltb _ _ h)
+  refresh-few l = rw (← es, le-ltb _ _ h, le-leb _ _ l)
 
-  module _ (h : s .active ≤ 256) where
-    pub refresh-one : s .active ≤ 64 → ws ≡ refreshed ws at
-    unfolding refreshed
-    refresh-one l = rw (← es, le-ltb _ _ h, le-leb _ _ l)
-
-    module _ (l : 64 < s .active) (g k : ℕ) (eg : g ≡ staleFrom ws (s .active) (at / 24) 0 (groupsOf (s .active))) (ek : k ≡ groupsOf (s .active)) where
-      pub refresh-done : (us : List ℕ) → g < k → us ≡ refreshedAt ws (s .active) g → us ≡ refreshed ws at
-      unfolding refreshed
-      refresh-done us m eu =
-          let f : g < groupsOf (s .active) = omega arith in
-          rw (← es, le-ltb _ _ h, lt-leb _ _ l, ← eg, lt-ltb _ _ f, eu)
-
-      pub refresh-none : k ≤ g → ws ≡ refreshed ws at
-      unfolding refreshed
-      refresh-none m =
-          let f : groupsOf (s .active) ≤ g = omega arith in
-          rw (← es, le-ltb _ _ h, lt-leb _ _ l, ← eg, le-ltb _ _ f)
+  pub refresh-both : (us : List ℕ) (g : ℕ) (vs : List ℕ) → few < s .active → us ≡ groupFresh ws (s .active) (at / 24)
+      → g ≡ staleFrom us (s .active) 0 (groupsOf (s .active)) → vs ≡ groupFresh us (s .active) g → vs ≡ refreshed ws at
+  unfolding refreshed
+  refresh-both us g vs l eu eg ev = rw (← es, le-ltb _ _ h, lt-leb _ _ l, ev, eg, eu)

@@ -1,9 +1,9 @@
 -- The choice in two levels: the least of the groups' least rows, where they are known. Assumes nothing.
 use Prim.Native.Nat.{ℕ, zero, suc, _+_, _-_, _*_, _/_, _≤_, _<_, min}
 use mathlib.Core.Path.{_≡_}
-use mathlib.Core.Bool.{Bool, true}
+use mathlib.Core.Bool.{Bool}
 use mathlib.Core.List.{List}
-use lib.Dec.{eqb, ltb, leb}
+use lib.Dec.{ltb, leb}
 use Rattle.queue_model.specs.Logic.{if_then_else_}
 use Rattle.queue_words.specs.Active.{activeAt}
 use Rattle.queue_words.specs.Header.{schedulerAt}
@@ -35,20 +35,24 @@ unfoldable pub bestOver : List ℕ → ℕ → ℕ → Best
 bestOver ws n zero = bestAt ws 0
 bestOver ws n (suc k) = bestIn ws n k (bestOver ws n k)
 
--- The least of n rows. So few as 64 are searched as they are.
+-- So few rows are searched as they are.
+abbrev pub few : ℕ
+few = 48
+
+-- The least of n rows.
 unfoldable pub leastKnown : List ℕ → ℕ → Best
-leastKnown ws n = if leb n 64 then bestTo ws (n - 1) else bestOver ws n (groupsOf n)
+leastKnown ws n = if leb n few then bestTo ws (n - 1) else bestOver ws n (groupsOf n)
 
 -- ------------------------------------------------------------------ a group made fresh
 
--- Whether group g is not to be made fresh: it is, or it is `own`.
-abbrev pub isPassed : List ℕ → ℕ → ℕ → ℕ → Bool
-isPassed ws n own g = if eqb g own then true else ltb (leastAt ws g) (countIn g n)
+-- Whether group g is fresh.
+abbrev pub isFresh : List ℕ → ℕ → ℕ → Bool
+isFresh ws n g = ltb (leastAt ws g) (countIn g n)
 
--- The first stale one but `own` of the k groups from g on, or the group behind them.
-unfoldable pub staleFrom : List ℕ → ℕ → ℕ → ℕ → ℕ → ℕ
-staleFrom ws n own g zero = g
-staleFrom ws n own g (suc k) = if isPassed ws n own g then staleFrom ws n own (suc g) k else g
+-- The first stale one of the k groups from g on, or the group behind them.
+unfoldable pub staleFrom : List ℕ → ℕ → ℕ → ℕ → ℕ
+staleFrom ws n g zero = g
+staleFrom ws n g (suc k) = if isFresh ws n g then staleFrom ws n (suc g) k else g
 
 -- The least row of group g.
 unfoldable pub leastIn : List ℕ → ℕ → ℕ → Best
@@ -57,12 +61,16 @@ leastIn ws n g = bestAmong (rowsFrom ws (g * 24)) (bestAt ws (g * 24)) (g * 24) 
 unfoldable pub refreshedAt : List ℕ → ℕ → ℕ → List ℕ
 refreshedAt ws n g = putLeast ws g ((leastIn ws n g) .at - g * 24)
 
--- The words with the first stale group made fresh but that of the row `at`, where there are more rows than 64.
+-- The words with group g made fresh, if n rows have it.
+unfoldable pub groupFresh : List ℕ → ℕ → ℕ → List ℕ
+groupFresh ws n g = if ltb g (groupsOf n) then refreshedAt ws n g else ws
+
+-- The words with the group of the row `at` made fresh, and then the first stale one, where there are more rows than a few.
 unfoldable pub refreshed : List ℕ → ℕ → List ℕ
 refreshed ws at =
     let n = (schedulerAt ws) .active in
-    let g = staleFrom ws n (at / 24) 0 (groupsOf n) in
-    if ltb 256 n then ws else if leb n 64 then ws else if ltb g (groupsOf n) then refreshedAt ws n g else ws
+    let us = groupFresh ws n (at / 24) in
+    if ltb 256 n then ws else if leb n few then ws else groupFresh us n (staleFrom us n 0 (groupsOf n))
 
 -- ------------------------------------------------------------------ when the words are right
 
