@@ -29,27 +29,21 @@ pub record DropOk (ws : List ℕ) (i : ℕ) : Type 0 where
   pub live : 1 ≤ sizeOf ws i
   pub in-used : sizeOf ws i ≤ usedOf ws
 
-pub drop-held : (ws : List ℕ) (i code : ℕ) → code ≡ dropCode ws i → code ≤ 0 → DropOk ws i
+pub drop-held : (ws : List ℕ) (i : ℕ) → dropCode ws i ≡ 0 → DropOk ws i
 unfolding dropCode
-drop-held ws i code ec h =
-    let t1 = pick-else (leb 1024 i) 16 _ 0 (λ z. omega arith) (sym ec ∙ omega arith) in
+drop-held ws i e =
+    let t1 = pick-else (leb 1024 i) 16 _ 0 (λ z. omega arith) e in
     let t2 = pick-else (eqb (sizeOf ws i) 0) 16 _ 0 (λ z. omega arith) (t1 .1) in
     let t3 = pick-else (ltb (usedOf ws) (sizeOf ws i)) 16 _ 0 (λ z. omega arith) (t2 .1) in
     let nz = eqb-false (sizeOf ws i) 0 (t2 .0) in
     record { row = leb-false 1024 i (t1 .0); live = omega arith; in-used = ltb-false (usedOf ws) (sizeOf ws i) (t3 .0) }
 
-pub drop-refused : (ws : List ℕ) (i code : ℕ) → code ≡ dropCode ws i → 0 < code → (code ≡ dropCode ws i) × (ws ≡ dropPayload ws i)
-unfolding dropPayload
-drop-refused ws i code ec h = (ec, rw (ne-eqb (dropCode ws i) 0 (λ z. omega arith)))
-
 -- the ways out of drop_payload
-module _ (ws ws1 ws2 : List ℕ) (i code size place : ℕ) (t : Totals) (g : Gaps) (ec : code ≡ dropCode ws i) (h : code ≤ 0) (es : size ≡ sizeOf ws i) (ep : place ≡ placeOf ws i)
+module _ (ws ws1 ws2 : List ℕ) (i size place : ℕ) (t : Totals) (g : Gaps) (z : dropCode ws i ≡ 0) (es : size ≡ sizeOf ws i) (ep : place ≡ placeOf ws i)
     (et : t ≡ totalsAt ws) (eg : g ≡ gapsLeft (t .gaps) place size) (e1 : ws1 ≡ putLength ws i 0) where
-  drop-done : (u : ℕ) (e : Gaps) → u ≡ t .used - size → e ≡ gapsThen ws i g → ws2 ≡ putBytes ws1 u e → (0 ≡ dropCode ws i) × (ws2 ≡ dropPayload ws i)
+  drop-done : (u : ℕ) (e : Gaps) → u ≡ t .used - size → e ≡ gapsThen ws i g → ws2 ≡ putBytes ws1 u e → ws2 ≡ dropPayload ws i
   unfolding dropPayload dropped
-  drop-done u e eu ee e2 =
-      let z : dropCode ws i ≡ 0 = omega arith in
-      (sym z, rw (eq-eqb (dropCode ws i) 0 z) (rw (e2, e1, ee, eg, eu, et, es, ep)))
+  drop-done u e eu ee e2 = rw (eq-eqb (dropCode ws i) 0 z) (rw (e2, e1, ee, eg, eu, et, es, ep))
 
   then-all : t .used ≡ size → gaps 0 (g .limit) 0 0 ≡ gapsThen ws i g
   unfolding gapsThen
@@ -59,10 +53,10 @@ module _ (ws ws1 ws2 : List ℕ) (i code size place : ℕ) (t : Totals) (g : Gap
   unfolding gapsThen
   then-some q = rw (ne-eqb (usedOf ws) (sizeOf ws i) (λ z. q (ap (λ (x : Totals). x .used) et ∙ (z ∙ sym es))))
 
-  pub drop-all : t .used ≡ size → ws2 ≡ putBytes ws1 0 (gaps 0 (g .limit) 0 0) → (0 ≡ dropCode ws i) × (ws2 ≡ dropPayload ws i)
+  pub drop-all : t .used ≡ size → ws2 ≡ putBytes ws1 0 (gaps 0 (g .limit) 0 0) → ws2 ≡ dropPayload ws i
   drop-all q e2 = drop-done 0 (gaps 0 (g .limit) 0 0) (omega arith) (then-all q) e2
 
-  pub drop-some : (t .used ≡ size → ⊥) → ws2 ≡ putBytes ws1 (t .used - size) g → (0 ≡ dropCode ws i) × (ws2 ≡ dropPayload ws i)
+  pub drop-some : (t .used ≡ size → ⊥) → ws2 ≡ putBytes ws1 (t .used - size) g → ws2 ≡ dropPayload ws i
   drop-some q e2 = drop-done (t .used - size) g refl (then-some q) e2
 
 -- every payload but row r's lies below a, or at or above b

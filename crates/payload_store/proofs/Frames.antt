@@ -199,7 +199,7 @@ drop-frame ws i l = go (eqb (dropCode ws i) 0) refl
     go : (a : Bool) → eqb (dropCode ws i) 0 ≡ a → Frame ws (pick a (putBytes (putLength ws i 0) u e) ws)
     go true ea =
         let z : dropCode ws i ≡ 0 = eqb-true (dropCode ws i) 0 ea in
-        let h : i < 1024 = drop-held ws i 0 (sym z) (omega arith) .row in
+        let h : i < 1024 = drop-held ws i z .row in
         frame-both ws (putLength ws i 0) (putBytes (putLength ws i 0) u e) (length-frame ws l i 0 h) (bytes-frame (putLength ws i 0) (size-length ws i 0 ∙ l) u e)
     go false ea = frame-none ws
 

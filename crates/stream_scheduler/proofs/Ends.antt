@@ -3,7 +3,7 @@ use mathlib.Core.Path.{_≡_}
 use mathlib.Core.Bool.{true, false}
 use mathlib.Core.List.{List}
 use Prim.Native.Nat.{ℕ, _-_, _≤_, _<_}
-use borrow.Author.Tests.{lt-ltb, le-ltb, le-leb, lt-leb, eq-eqb, ne-eqb}
+use borrow.Author.Tests.{le-ltb, lt-leb, eq-eqb, ne-eqb}
 use Rattle.queue_words.specs.Active.{activeAt, putActive, parametersWord}
 use Rattle.queue_words.specs.Header.{optionsAt, schedulerAt, putScheduler}
 use Rattle.queue_words.specs.declared.active.ActiveStreamInfo.{ActiveStreamInfo}
@@ -22,15 +22,7 @@ unfolding begunAnew
 begun-anew ws at id t bytes w n o start row l m eo es er el em = rw (em, el, er, es, eo)
 
 module _ (ws : List ℕ) (at id sent bytes : ℕ) (p : SchedulingParameters) (s : SchedulerState) (es : s ≡ schedulerAt ws) where
-  pub last-broken : 256 < s .active → outcome false ws ≡ acceptLast ws at id sent bytes p
-  unfolding acceptLast
-  last-broken h = rw (← es, lt-ltb _ _ h)
-
   module _ (h : s .active ≤ 256) where
-    pub last-no-row : s .active ≤ at → outcome false ws ≡ acceptLast ws at id sent bytes p
-    unfolding acceptLast
-    last-no-row g = rw (← es, le-ltb _ _ h, le-leb _ _ g)
-
     module _ (f : at < s .active) (a : ActiveStreamInfo) (ea : a ≡ activeAt ws at) (t : ℕ) (et : t ≡ advanced (a .parameters) (a .«virtual_start_time») sent) where
       pub last-none : (l r : List ℕ) → bytes ≡ 0 → l ≡ droppedRow ws at NoStream t (s .active) → r ≡ refreshed l at → outcome true r ≡ acceptLast ws at id sent bytes p
       unfolding acceptLast lastRow

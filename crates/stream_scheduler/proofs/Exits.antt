@@ -1,14 +1,16 @@
 -- The ways out of the scheduler's functions, over plain values: a callee's result is a variable, what it ensures a hypothesis. Assumes nothing.
-use mathlib.Core.Path.{_≡_}
+use mathlib.Core.Path.{_≡_, refl, sym, _∙_}
 use mathlib.Core.Bool.{Bool, true, false}
 use mathlib.Core.List.{List}
 use Prim.Native.Nat.{ℕ, _+_, _-_, _*_, _/_, _≤_, _<_, min, max}
 use native.Mathlib.Nat.{div-one}
 use native.Mathlib.Omega.{arith}
-use lib.Dec.{ltb}
-use borrow.Author.Tests.{lt-ltb, le-ltb, le-leb, lt-leb, eq-eqb, ne-eqb}
+use lib.Dec.{eqb, ltb}
+use borrow.Author.Tests.{lt-ltb, le-ltb, le-leb, lt-leb, eq-eqb, ne-eqb, ltb-true, ltb-false}
+use Rattle.queue_model.specs.Logic.{if_then_else_}
 use Rattle.queue_model.specs.Scheduler.{cost, saturating}
 use Rattle.queue_model.specs.Types.{weighted}
+use Rattle.queue_model.proofs.Tests.{holds}
 use Rattle.queue_words.specs.Active.{activeAt, putActive, parametersOf, parametersWord}
 use Rattle.queue_words.specs.Header.{optionsAt, schedulerAt, putScheduler}
 use Rattle.queue_words.specs.declared.active.ActiveStreamInfo.{ActiveStreamInfo}
@@ -21,9 +23,9 @@ use Rattle.queue_words.specs.declared.header.SchedulerState.{SchedulerState}
 use Rattle.active_table.specs.Groups.{leastKnown, refreshed}
 use Rattle.active_table.specs.Rows.{seek}
 use Rattle.active_table.specs.declared.Best.{Best}
-use Rattle.stream_scheduler.specs.Own.{HasRow}
+use Rattle.stream_scheduler.specs.Own.{HasRow, hasRow}
 use Rattle.stream_scheduler.specs.Rows.{advanced, scheduledRow}
-use Rattle.stream_scheduler.specs.Words.{outcome, currentRow, peekAmong, peekWords, waitsIn, forgotten, rested, stateOf, droppedRow, takenOut, removeStream, setIn, setBytesRemaining, beginWaiting, rememberedBy, acceptRow, acceptAt}
+use Rattle.stream_scheduler.specs.Words.{Outcome, outcome, currentRow, peekAmong, peekWords, waitsIn, forgotten, rested, stateOf, droppedRow, takenOut, removeStream, setIn, setBytesRemaining, beginWaiting, rememberedBy, acceptRow, acceptAt}
 use Rattle.stream_scheduler.specs.declared.Peeked.the-variants.{At, Nothing, Broken}
 
 -- ------------------------------------------------------------------ cost and times
@@ -75,15 +77,15 @@ module _ (ws : List ℕ) (s : SchedulerState) (es : s ≡ schedulerAt ws) where
   pub few-rows : schedulerAt ws .active ≤ 256 → s .active ≤ 256
   few-rows h = rw es h
 
+  pub few-free : schedulerAt ws .active < 256 → s .active < 256
+  few-free h = rw es h
+
   pub has-row : (at : ℕ) → at < schedulerAt ws .active → at < s .active
   has-row at h = rw es h
 
   -- and back
   pub rows-few : s .active ≤ 256 → schedulerAt ws .active ≤ 256
   rows-few h = rw (← es) h
-
-  pub row-there : (at : ℕ) → s .active ≤ 256 → at < s .active → HasRow ws at
-  row-there at h f = (rw (← es) h, rw (← es) f)
 
   pub peek-front : s .active ≤ 256 → (s .active ≡ 0 → ⊥) → (r : ℕ) → At r ≡ peekAmong ws (s .active) (currentRow ws (s .active) (s .current)) → At r ≡ peekWords ws
   unfolding peekWords peekAmong
@@ -156,27 +158,80 @@ module _ (ws : List ℕ) (id bytes : ℕ) (p : SchedulingParameters) (s : Schedu
     unfolding setBytesRemaining
     bytes-some w r z ew el = rw (← es, le-ltb _ _ h, ne-eqb _ _ z, ← ew, ← ea) el
 
-  pub begin-broken : 256 < s .active → outcome false ws ≡ beginWaiting ws id bytes p
-  unfolding beginWaiting
-  begin-broken h = rw (← es, lt-ltb _ _ h)
+-- ---- whether a stream can be let wait, and what its being let wait says
 
-  pub begin-set : (l : List ℕ) (w : ℕ) (r : Bool) → s .active ≤ 256 → w ≡ parametersWord p → outcome r l ≡ setIn ws id bytes w (s .active) (s .active)
-      → outcome r l ≡ beginWaiting ws id bytes p
-  unfolding beginWaiting
-  begin-set l w r h ew el = rw (← es, le-ltb _ _ h, ← ew) el
+-- The ways of `setBytesRemaining` by `hasRow`: three that are done, and one that is not.
+done-by : (a b c : Bool) (x y z o : Outcome) → x .done ≡ true → y .done ≡ true → z .done ≡ true → (if a then true else if b then true else c) ≡ true
+    → (if a then x else if b then y else if c then z else o) .done ≡ true
+done-by true b c x y z o hx hy hz r = hx
+done-by false true c x y z o hx hy hz r = hy
+done-by false false true x y z o hx hy hz r = hz
+done-by false false false x y z o hx hy hz r = absurd (holds false r)
+
+refused-by : (a b c : Bool) (x y z o : Outcome) → (if a then true else if b then true else c) ≡ false → o ≡ (if a then x else if b then y else if c then z else o)
+refused-by true b c x y z o r = absurd (holds false (sym r))
+refused-by false true c x y z o r = absurd (holds false (sym r))
+refused-by false false true x y z o r = absurd (holds false (sym r))
+refused-by false false false x y z o r = refl
+
+-- An outcome that is done where its first test would refuse it.
+first-passed : (a : Bool) (o x : Outcome) → o .done ≡ false → (if a then o else x) .done ≡ true → a ≡ false
+first-passed true o x n h = absurd (holds false (sym n ∙ h))
+first-passed false o x n h = refl
+
+last-passed : (a : Bool) (x o : Outcome) → o .done ≡ false → (if a then x else o) .done ≡ true → a ≡ true
+last-passed true x o n h = refl
+last-passed false x o n h = absurd (holds false (sym n ∙ h))
+
+module _ (ws : List ℕ) (id bytes : ℕ) (p : SchedulingParameters) (s : SchedulerState) (es : s ≡ schedulerAt ws) (at : ℕ) (ea : at ≡ seek ws id (s .active)) (h : s .active ≤ 256) where
+  pub set-can : hasRow bytes at (s .active) ≡ true → setBytesRemaining ws id bytes p .done ≡ true
+  unfolding setBytesRemaining setIn hasRow
+  set-can r = rw (← es, le-ltb _ _ h, ← ea) (done-by (eqb bytes 0) (ltb at (s .active)) (ltb (s .active) 256) _ _ _ _ refl refl refl r)
+
+  pub set-cannot : hasRow bytes at (s .active) ≡ false → outcome false ws ≡ setBytesRemaining ws id bytes p
+  unfolding setBytesRemaining setIn hasRow
+  set-cannot r = rw (← es, le-ltb _ _ h, ← ea) (refused-by (eqb bytes 0) (ltb at (s .active)) (ltb (s .active) 256) _ _ _ _ r)
+
+module _ (ws : List ℕ) (id bytes : ℕ) (p : SchedulingParameters) (d : setBytesRemaining ws id bytes p .done ≡ true) where
+  pub set-few : schedulerAt ws .active ≤ 256
+  unfolding setBytesRemaining
+  set-few = ltb-false 256 (schedulerAt ws .active) (first-passed (ltb 256 (schedulerAt ws .active)) _ _ refl d)
+
+  module _ (at n : ℕ) (en : n ≡ schedulerAt ws .active) (ea : at ≡ seek ws id n) where
+    pub rows-fit : n ≤ 256
+    rows-fit = rw en set-few
+
+    pub set-free : (bytes ≡ 0 → ⊥) → n ≤ at → n < 256
+    unfolding setBytesRemaining setIn
+    set-free z g =
+        ltb-true n 256 (last-passed (ltb n 256) _ (outcome false ws) refl
+        (rw (← en, le-ltb 256 n rows-fit, ne-eqb bytes 0 z, ← ea, le-ltb at n g) at d))
+
+    pub set-none : (l : List ℕ) → bytes ≡ 0 → l ≡ takenOut ws id at n → outcome true l ≡ setBytesRemaining ws id bytes p
+    unfolding setBytesRemaining
+    set-none l z el = rw (← en, le-ltb _ _ rows-fit, eq-eqb _ _ z, el, ea)
+
+    pub set-some : (l : List ℕ) (w : ℕ) → (bytes ≡ 0 → ⊥) → w ≡ parametersWord p → outcome true l ≡ setIn ws id bytes w at n → outcome true l ≡ setBytesRemaining ws id bytes p
+    unfolding setBytesRemaining
+    set-some l w z ew el = rw (← en, le-ltb _ _ rows-fit, ne-eqb _ _ z, ← ew, ← ea) el
+
+    no-row : (w : ℕ) → n ≤ at → setIn ws id bytes w n n ≡ setIn ws id bytes w at n
+    unfolding setIn
+    no-row w g = rw (le-ltb at n g, le-ltb n n (omega arith))
+
+    pub set-behind : (l : List ℕ) (w : ℕ) → (bytes ≡ 0 → ⊥) → w ≡ parametersWord p → n ≤ at → outcome true l ≡ setIn ws id bytes w n n → outcome true l ≡ setBytesRemaining ws id bytes p
+    set-behind l w z ew g el = set-some l w z ew (el ∙ no-row w g)
+
+-- A stream without a row let wait, where one is free.
+pub begun : (ws : List ℕ) (id bytes : ℕ) (p : SchedulingParameters) (s : SchedulerState) → s ≡ schedulerAt ws → schedulerAt ws .active < 256 → (l : List ℕ) (w : ℕ) → w ≡ parametersWord p
+    → outcome true l ≡ setIn ws id bytes w (s .active) (s .active) → outcome true l ≡ beginWaiting ws id bytes p
+unfolding beginWaiting
+begun ws id bytes p s es h l w ew el = rw (le-ltb 256 (schedulerAt ws .active) (omega arith), ← ew, ← es) el
 
 -- ------------------------------------------------------------------ handing out
 
 module _ (ws : List ℕ) (at bytes : ℕ) (s : SchedulerState) (es : s ≡ schedulerAt ws) where
-  pub accept-broken : 256 < s .active → outcome false ws ≡ acceptAt ws at bytes
-  unfolding acceptAt
-  accept-broken h = rw (← es, lt-ltb _ _ h)
-
   module _ (h : s .active ≤ 256) where
-    pub accept-no-row : s .active ≤ at → outcome false ws ≡ acceptAt ws at bytes
-    unfolding acceptAt
-    accept-no-row g = rw (← es, le-ltb _ _ h, le-leb _ _ g)
-
     module _ (f : at < s .active) (a : ActiveStreamInfo) (ea : a ≡ activeAt ws at) (t : ℕ) (et : t ≡ advanced (a .parameters) (a .«virtual_start_time») bytes) where
       pub accept-last : (l r : List ℕ) → a .«bytes_remaining» ≤ bytes → l ≡ droppedRow ws at NoStream t (s .active) → r ≡ refreshed l at → outcome true r ≡ acceptAt ws at bytes
       unfolding acceptAt acceptRow

@@ -20,7 +20,6 @@ use queue_words::header::SchedulerState;
 use queue_words::header::load_options;
 use queue_words::header::load_scheduler_state;
 use queue_words::header::store_scheduler_state;
-use queue_words::limits::STREAMS;
 
 // Of n rows the row `at` begins anew with so many bytes, at a time; no stream is remembered.
 fn begin_anew(
@@ -75,27 +74,4 @@ pub fn accept_last_own(
     let parameters = parameters_word(priority);
     begin_anew(queue, at, stream_id, time, bytes, parameters, n);
     refresh(queue, at);
-}
-
-// The same where there may be no such row.
-pub fn accept_last(
-    queue: &mut [u64; QUEUE_WORDS],
-    at: usize,
-    stream_id: u16,
-    sent: u64,
-    bytes: u64,
-    priority: SchedulingParameters,
-) -> bool
-    ensures { λ r. ⌜ outcome r (now (queue .exit)) ≡ acceptLast (now (queue .entry)) at «stream_id» sent bytes priority ⌝ }
-{
-    let s = load_scheduler_state(&*queue);
-    if s.active > STREAMS {
-        return false;
-    }
-    let n = s.active as usize;
-    if at >= n {
-        return false;
-    }
-    accept_last_own(queue, at, stream_id, sent, bytes, priority);
-    true
 }

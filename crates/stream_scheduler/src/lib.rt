@@ -2,21 +2,22 @@
 // crate active_table, whose functions the queue lends the table to.
 //
 // A stream that waits has a row. Rows stand in no order: a new one at the end, the last one in the place of one that is removed, and a
-// stream that begins anew keeps its row. Every public function is total: where the number of rows is above 256, a row asked for is not among
-// them, or a 257th would be needed, it answers `false` or `Broken`, and nothing has changed. The caller then answers 16. (src/own: the
-// same where the number of rows is known to be right.)
+// stream that begins anew keeps its row. The functions here are total: where the number of rows is above 256, or a 257th would be needed, they
+// answer `false` or `Broken`, and nothing has changed. The caller then answers 16. Those of src/own and src/anew ask for what is tested here.
 pub mod anew;
 pub mod own;
 
 ghost use mathlib.Core.Path.{_≡_};
+ghost use mathlib.Core.Bool.{true};
 ghost use Prim.Native.Nat.{_+_, _-_, _*_, _<_, _≤_, min};
 ghost use Rattle.queue_model.specs.Scheduler.{cost, saturating};
 ghost use Rattle.queue_model.specs.Types.{weighted};
 ghost use Rattle.stream_scheduler.specs.Rows.{advanced, scheduledRow};
 ghost use Rattle.stream_scheduler.specs.declared.Peeked.the-variants.{At};
-ghost use Rattle.stream_scheduler.specs.Words.{outcome, forgotten, rested, rememberedBy, keptUnless, currentRow, peekAmong, peekWords, waitsIn, droppedRow, takenOut, removeStream, setIn, setBytesRemaining, beginWaiting, acceptAt};
-use crate::own::accept_own;
+ghost use Rattle.stream_scheduler.specs.Words.{outcome, forgotten, rested, rememberedBy, keptUnless, currentRow, peekAmong, peekWords, waitsIn, droppedRow, takenOut, removeStream, setIn, setBytesRemaining};
+ghost use Rattle.stream_scheduler.specs.Own.{hasRow};
 use crate::own::remove_own;
+use crate::own::set_at;
 use active_table::groups::least_known;
 use active_table::seek;
 use queue_words::QUEUE_WORDS;
@@ -255,43 +256,68 @@ pub fn remove_stream(queue: &mut [u64; QUEUE_WORDS], stream_id: u16) -> bool
     true
 }
 
-// Sets a stream's row, which is `at`, or a new one where `at` is n.
-fn set_row(
+// Sets the row `at` of n, a stream's.
+fn set_old(
     queue: &mut [u64; QUEUE_WORDS],
     stream_id: u16,
     bytes: u64,
     parameters: u32,
     at: usize,
     n: usize,
-) -> bool
-    requires { ⌜ n ≤ 256 ⌝ }
-    ensures { λ r. ⌜ outcome r (now (queue .exit)) ≡ setIn (now (queue .entry)) «stream_id» bytes parameters at n ⌝ }
+)
+    requires { ⌜ (at < n) × (n ≤ 256) ⌝ }
+    ensures { λ _. ⌜ outcome true (now (queue .exit)) ≡ setIn (now (queue .entry)) «stream_id» bytes parameters at n ⌝ }
 {
     let o = load_options(&*queue);
-    let limit = o.payload_limit as u64;
+    let a = load_active(&*queue, at);
+    let row = schedule_next_chunk(
+        o.payload_limit as u64,
+        stream_id,
+        parameters,
+        a.virtual_start_time,
+        bytes,
+    );
+    store_active(queue, at, row);
+}
+
+// Sets a new row behind the n that there are.
+fn set_new(queue: &mut [u64; QUEUE_WORDS], stream_id: u16, bytes: u64, parameters: u32, n: usize)
+    requires { ⌜ n < 256 ⌝ }
+    ensures { λ _. ⌜ outcome true (now (queue .exit)) ≡ setIn (now (queue .entry)) «stream_id» bytes parameters n n ⌝ }
+{
+    let o = load_options(&*queue);
+    let s = load_scheduler_state(&*queue);
+    let current = s.current;
+    let row = schedule_next_chunk(
+        o.payload_limit as u64,
+        stream_id,
+        parameters,
+        s.system_virtual_time,
+        bytes,
+    );
+    store_active(queue, n, row);
+    let more = (n + 1) as u64;
+    store_scheduler_state(
+        queue,
+        SchedulerState {
+            current: current,
+            system_virtual_time: s.system_virtual_time,
+            active: more,
+        },
+    );
+}
+
+// Whether there is a row of n for so many bytes: that at `at`, a free one, or none is needed.
+fn has_row(bytes: u64, at: usize, n: usize) -> bool
+    ensures { λ r. ⌜ r ≡ hasRow bytes at n ⌝ }
+{
+    if bytes == 0 {
+        return true;
+    }
     if at < n {
-        let a = load_active(&*queue, at);
-        let row = schedule_next_chunk(limit, stream_id, parameters, a.virtual_start_time, bytes);
-        store_active(queue, at, row);
         return true;
     }
-    if n < STREAM_ROWS {
-        let s = load_scheduler_state(&*queue);
-        let current = s.current;
-        let row = schedule_next_chunk(limit, stream_id, parameters, s.system_virtual_time, bytes);
-        store_active(queue, n, row);
-        let more = (n + 1) as u64;
-        store_scheduler_state(
-            queue,
-            SchedulerState {
-                current: current,
-                system_virtual_time: s.system_virtual_time,
-                active: more,
-            },
-        );
-        return true;
-    }
-    false
+    n < STREAM_ROWS
 }
 
 // Lets a stream wait with so many bytes, or ends its waiting with 0.
@@ -309,30 +335,12 @@ pub fn set_bytes_remaining(
     }
     let n = s.active as usize;
     let at = seek(&*queue, stream_id, n);
-    if bytes == 0 {
-        take_out(queue, stream_id, at, n);
+    let there = has_row(bytes, at, n);
+    if there {
+        set_at(queue, stream_id, bytes, priority, at, n);
         return true;
     }
-    let parameters = parameters_word(priority);
-    set_row(queue, stream_id, bytes, parameters, at, n)
-}
-
-// Lets a stream wait that has no row, with so many bytes: its row is a new one.
-pub fn begin_waiting(
-    queue: &mut [u64; QUEUE_WORDS],
-    stream_id: u16,
-    bytes: u64,
-    priority: SchedulingParameters,
-) -> bool
-    ensures { λ r. ⌜ outcome r (now (queue .exit)) ≡ beginWaiting (now (queue .entry)) «stream_id» bytes priority ⌝ }
-{
-    let s = load_scheduler_state(&*queue);
-    if s.active > STREAMS {
-        return false;
-    }
-    let n = s.active as usize;
-    let parameters = parameters_word(priority);
-    set_row(queue, stream_id, bytes, parameters, n, n)
+    false
 }
 
 // "Without interleaving a stream is remembered from any fragment but a last one".
@@ -344,20 +352,4 @@ fn remember(stream_id: u16, parameters: u32) -> Remembered
         SchedulingParameters::RoundRobin => Remembered::Stream(StreamId(stream_id)),
         SchedulingParameters::WeightedFairQueuing(_) => Remembered::NoStream,
     }
-}
-
-// Hands out bytes of the row `at`: its start moves by their cost, and the system time becomes that start.
-pub fn accept(queue: &mut [u64; QUEUE_WORDS], at: usize, bytes: u64) -> bool
-    ensures { λ r. ⌜ outcome r (now (queue .exit)) ≡ acceptAt (now (queue .entry)) at bytes ⌝ }
-{
-    let s = load_scheduler_state(&*queue);
-    if s.active > STREAMS {
-        return false;
-    }
-    let n = s.active as usize;
-    if at >= n {
-        return false;
-    }
-    accept_own(queue, at, bytes);
-    true
 }

@@ -1,28 +1,26 @@
--- `stream_scheduler::set_bytes_remaining` meets its contract: each return is a case of `setBytesRemaining` (proofs/Exits.antt). Assumes nothing.
+-- `stream_scheduler::set_bytes_remaining` meets its contract: it is its tests, and what follows them (proofs/Exits.antt). Assumes nothing.
 use borrow.Author.Needs.{needs}
-use Rattle.stream_scheduler.proofs.Exits.{bytes-broken, bytes-none, bytes-some}
+use mathlib.Core.Path.{sym, ap, _∙_}
+use Rattle.queue_words.specs.declared.header.SchedulerState.{SchedulerState}
+use Rattle.stream_scheduler.proofs.Exits.{bytes-broken, set-can, set-cannot}
 use Rattle.stream_scheduler.proofs.set_bytes_remaining.Statement.{statement}
 use Rattle.stream_scheduler.proofs.set_bytes_remaining.Tie as tie
 
 returns : tie.Need-returns
 returns c = bytes-broken _ _ _ _ _ (c .before .before .load-scheduler-state .ensures) (c .if1 .taken)
 
+set-at-requires : tie.Need-set-at-requires
+set-at-requires c κs = (
+  ap (λ (s : SchedulerState). s .active) (c .before .before .before .before .before .before .before .load-scheduler-state .ensures),
+  (c .before .before .before .seek .ensures),
+  set-can _ _ _ _ _ (c .before .before .before .before .before .before .before .load-scheduler-state .ensures) _ (c .before .before .before .seek .ensures) (c .before .before .before .before .before .if1 .left) (sym (c .before .before .has-row .ensures) ∙ (c .before .if2 .taken)),
+)
+
 returns-2 : tie.Need-returns-2
-returns-2 c = bytes-none _ _ _ _ _ (c .before .before .before .before .before .before .before .load-scheduler-state .ensures) _ _ (c .before .before .before .before .before .if1 .left) (c .before .before .before .seek .ensures) (c .before .before .if2 .taken) (c .take-out .ensures)
+returns-2 c = (c .set-at .ensures)
 
 returns-3 : tie.Need-returns-3
-returns-3 c =
-    bytes-some _ _ _ _ _ (c .before .before .before .before .before .before .before .before .load-scheduler-state .ensures) _ _ (c .before .before .before .before .before .before .if1 .left) (c .before .before .before .before .seek .ensures) _ _ (c .before .before .before .if2 .left) (c .before .before .parameters-word .ensures) (c .set-row .ensures)
+returns-3 c = set-cannot _ _ _ _ _ (c .before .before .before .before .before .before .load-scheduler-state .ensures) _ (c .before .before .seek .ensures) (c .before .before .before .before .if1 .left) (sym (c .before .has-row .ensures) ∙ (c .if2 .left))
 
 pub set-bytes-remaining-spec : {M : Type 1} → statement M
-set-bytes-remaining-spec =
-    tie.close
-    (tie.spec
-    (λ c κs. search needs)
-    returns
-    (λ c κs. search needs)
-    (λ c κs. search needs)
-    returns-2
-    (λ c κs. search needs)
-    (λ c κs. search needs)
-    returns-3)
+set-bytes-remaining-spec = tie.close (tie.spec (λ c κs. search needs) returns (λ c κs. search needs) (λ c κs. search needs) set-at-requires returns-2 returns-3)
