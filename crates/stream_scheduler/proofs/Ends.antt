@@ -15,11 +15,16 @@ use Rattle.active_table.specs.Groups.{refreshed}
 use Rattle.stream_scheduler.specs.Rows.{advanced, scheduledRow}
 use Rattle.stream_scheduler.specs.Words.{outcome, rested, stateOf, droppedRow}
 use Rattle.stream_scheduler.specs.Anew.{begunAnew, lastRow, acceptLast}
+use Rattle.stream_scheduler.proofs.Exits.{put-few}
 
 pub begun-anew : (ws : List ℕ) (at id t bytes w n : ℕ) (o : Options) (start : ℕ) (row : ActiveStreamInfo) (l m : List ℕ) → o ≡ optionsAt ws → start ≡ rested t (n - 1)
     → row ≡ scheduledRow (o .«payload_limit») id w start bytes → l ≡ putActive ws at row → m ≡ putScheduler l (stateOf NoStream start n) → m ≡ begunAnew ws at id t bytes w n
 unfolding begunAnew
 begun-anew ws at id t bytes w n o start row l m eo es er el em = rw (em, el, er, es, eo)
+
+pub begun-few : (ws us : List ℕ) (at id t bytes w n : ℕ) → us ≡ begunAnew ws at id t bytes w n → n ≤ 256 → schedulerAt us .active ≤ 256
+unfolding begunAnew
+begun-few ws us at id t bytes w n e h = put-few _ us _ e h
 
 module _ (ws : List ℕ) (at id sent bytes : ℕ) (p : SchedulingParameters) (s : SchedulerState) (es : s ≡ schedulerAt ws) where
   module _ (h : s .active ≤ 256) where

@@ -1,18 +1,19 @@
 -- The ways out of the scheduler's functions, over plain values: a callee's result is a variable, what it ensures a hypothesis. Assumes nothing.
 use mathlib.Core.Path.{_≡_, refl, sym, _∙_}
 use mathlib.Core.Bool.{Bool, true, false}
-use mathlib.Core.List.{List}
-use Prim.Native.Nat.{ℕ, _+_, _-_, _*_, _/_, _≤_, _<_, min, max}
+use mathlib.Core.List.{List, [], _∷_}
+use Prim.Native.Nat.{ℕ, zero, suc, _+_, _-_, _*_, _/_, _≤_, _<_, min, max}
 use native.Mathlib.Nat.{div-one}
 use native.Mathlib.Omega.{arith}
 use lib.Dec.{eqb, ltb}
+use lib.ListN.{getD, set}
 use borrow.Author.Tests.{lt-ltb, le-ltb, le-leb, lt-leb, eq-eqb, ne-eqb, ltb-true, ltb-false}
 use Rattle.queue_model.specs.Logic.{if_then_else_}
 use Rattle.queue_model.specs.Scheduler.{cost, saturating}
 use Rattle.queue_model.specs.Types.{weighted}
 use Rattle.queue_model.proofs.Tests.{holds}
 use Rattle.queue_words.specs.Active.{activeAt, putActive, parametersOf, parametersWord}
-use Rattle.queue_words.specs.Header.{optionsAt, schedulerAt, putScheduler}
+use Rattle.queue_words.specs.Header.{optionsAt, schedulerAt, rememberedWord, putScheduler}
 use Rattle.queue_words.specs.declared.active.ActiveStreamInfo.{ActiveStreamInfo}
 use Rattle.queue_words.specs.declared.active.SchedulingParameters.{SchedulingParameters}
 use Rattle.queue_words.specs.declared.active.SchedulingParameters.the-variants.{RoundRobin, WeightedFairQueuing}
@@ -73,9 +74,6 @@ module _ (ws : List ℕ) (s : SchedulerState) (es : s ≡ schedulerAt ws) where
   pub peek-nothing : s .active ≤ 256 → s .active ≡ 0 → Nothing ≡ peekWords ws
   unfolding peekWords
   peek-nothing h z = rw (← es, le-ltb _ _ h, eq-eqb _ _ z)
-
-  pub few-rows : schedulerAt ws .active ≤ 256 → s .active ≤ 256
-  few-rows h = rw es h
 
   pub few-free : schedulerAt ws .active < 256 → s .active < 256
   few-free h = rw es h
@@ -229,6 +227,20 @@ unfolding beginWaiting
 begun ws id bytes p s es h l w ew el = rw (le-ltb 256 (schedulerAt ws .active) (omega arith), ← ew, ← es) el
 
 -- ------------------------------------------------------------------ handing out
+
+set-most : (ws : List ℕ) (i v : ℕ) → getD (set ws i v) i 0 ≤ v
+set-most [] i v = omega arith
+set-most (w ∷ ws) zero v = omega arith
+set-most (w ∷ ws) (suc i) v = set-most ws i v
+
+-- A state put down has no more rows than it says, however long the words are.
+pub put-few : (ws us : List ℕ) (v : SchedulerState) → us ≡ putScheduler ws v → v .active ≤ 256 → schedulerAt us .active ≤ 256
+unfolding schedulerAt putScheduler
+put-few ws us v e h = rw e (omega (arith, set-most (set (set ws 18 (rememberedWord (v .current))) 19 (v .«system_virtual_time»)) 20 (v .active)))
+
+pub dropped-few : (ws us : List ℕ) (at : ℕ) (c : Remembered) (t n : ℕ) → us ≡ droppedRow ws at c t n → n ≤ 256 → schedulerAt us .active ≤ 256
+unfolding droppedRow
+dropped-few ws us at c t n e h = put-few _ us _ e (omega arith)
 
 module _ (ws : List ℕ) (at bytes : ℕ) (s : SchedulerState) (es : s ≡ schedulerAt ws) where
   module _ (h : s .active ≤ 256) where

@@ -12,6 +12,7 @@ use Rattle.queue_words.specs.Active.{activeAt, putActive, parametersWord}
 use Rattle.queue_words.specs.Header.{optionsAt, totalsAt, schedulerAt, putScheduler}
 use Rattle.queue_words.specs.Items.{itemAt}
 use Rattle.queue_words.specs.Known.{knownAt}
+use Rattle.queue_words.specs.Leasts.{putLeast}
 use Rattle.queue_words.specs.Streams.{streamAt}
 use Rattle.queue_words.specs.declared.active.ActiveStreamInfo.{ActiveStreamInfo}
 use Rattle.queue_words.specs.declared.active.SchedulingParameters.{SchedulingParameters}
@@ -87,15 +88,18 @@ untouched-row ws i a = record {
   same-items = λ j h. item-put-active ws i a j h;
 }
 
--- A group made fresh changes no other part.
+-- Groups made fresh change no other part.
+untouched-least : (ws : List ℕ) (g v : ℕ) → g < 11 → Untouched ws (putLeast ws g v)
+untouched-least ws g v h = record {
+  same-options = options-put-least ws g v;
+  same-totals = totals-put-least ws g v;
+  same-known = λ j k. known-put-least ws g v j h;
+  same-streams = λ j k. stream-put-least ws g v j h;
+  same-items = λ j k. item-put-least ws g v j h;
+}
+
 pub untouched-refreshed : (ws us : List ℕ) (at : ℕ) → Untouched ws us → Untouched ws (refreshed us at)
-untouched-refreshed ws us at u = untouched-then ws us (refreshed us at) u (refreshed-puts us at (Untouched us) (untouched-same us) (λ g v h. record {
-  same-options = options-put-least us g v;
-  same-totals = totals-put-least us g v;
-  same-known = λ j k. known-put-least us g v j h;
-  same-streams = λ j k. stream-put-least us g v j h;
-  same-items = λ j k. item-put-least us g v j h;
-}))
+untouched-refreshed ws us at = refreshed-puts us at (Untouched ws) (λ vs g v h k. untouched-then ws vs (putLeast vs g v) k (untouched-least vs g v h))
 
 pub untouched-both : (ws : List ℕ) (i : ℕ) (a : ActiveStreamInfo) (s : SchedulerState) → Untouched ws (putScheduler (putActive ws i a) s)
 untouched-both ws i a s = untouched-then ws (putActive ws i a) (putScheduler (putActive ws i a) s) (untouched-row ws i a) (untouched-state (putActive ws i a) s)

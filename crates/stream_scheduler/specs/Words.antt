@@ -116,7 +116,7 @@ acceptRow ws at bytes n =
     let t = advanced (a .parameters) (a .«virtual_start_time») bytes in
     if leb (a .«bytes_remaining») bytes then droppedRow ws at NoStream t n else putScheduler (putActive ws at (partRow ws a t bytes)) (stateOf (rememberedBy (a .«stream_id» .0) (a .parameters)) t n)
 
--- The next choice finds one stale group fewer.
+-- The next choice finds the row's group fresh, and one stale group fewer.
 unfoldable pub acceptAt : List ℕ → ℕ → ℕ → Outcome
 unfolding acceptRow
 acceptAt ws at bytes = let n = (schedulerAt ws) .active in if ltb 256 n then outcome false ws else if leb n at then outcome false ws else outcome true (refreshed (acceptRow ws at bytes n) at)

@@ -1,6 +1,7 @@
 -- `stream_scheduler::own::accept_own` meets its contract: each way out is a case of `acceptAt` (proofs/Exits.antt). Assumes nothing.
 use borrow.Author.Needs.{needs}
-use Rattle.stream_scheduler.proofs.Exits.{few-rows, has-row, row-fits, accept-last, accept-part}
+use Rattle.active_table.proofs.Refresh.{few-rows}
+use Rattle.stream_scheduler.proofs.Exits.{has-row, row-fits, dropped-few, put-few, accept-last, accept-part}
 use Rattle.stream_scheduler.proofs.own.accept_own.Statement.{statement}
 use Rattle.stream_scheduler.proofs.own.accept_own.Tie as tie
 
@@ -10,12 +11,23 @@ load-active-requires c κs = row-fits _ _ (c .before .before .before .pre)
 drop-row-requires : tie.Need-drop-row-requires
 drop-row-requires c κs = (has-row _ _ (c .before .before .before .before .before .before .load-scheduler-state .ensures) _ (c .before .before .before .before .before .before .before .before .pre .1), few-rows _ _ (c .before .before .before .before .before .before .load-scheduler-state .ensures) (c .before .before .before .before .before .before .before .before .pre .0))
 
+refresh-requires : tie.Need-refresh-requires
+refresh-requires c κs =
+    dropped-few _ _ _ _ _ _ (c .before .drop-row .ensures) (few-rows _ _ (c .before .before .before .before .before .before .before .before .load-scheduler-state .ensures)
+    (c .before .before .before .before .before .before .before .before .before .before .pre .0))
+
 returns : tie.Need-returns
 returns c =
     accept-last _ _ _ _ (c .before .before .before .before .before .before .before .before .before .load-scheduler-state .ensures) (few-rows _ _ (c .before .before .before .before .before .before .before .before .before .load-scheduler-state .ensures) (c .before .before .before .before .before .before .before .before .before .before .before .pre .0)) (has-row _ _ (c .before .before .before .before .before .before .before .before .before .load-scheduler-state .ensures) _ (c .before .before .before .before .before .before .before .before .before .before .before .pre .1)) _ (c .before .before .before .before .before .before .before .load-active .ensures) _ (c .before .before .before .before .before .before .calculate-vt .ensures) _ _ (c .before .before .before .before .if1 .taken) (c .before .before .drop-row .ensures) (c .refresh .ensures)
 
 store-active-requires : tie.Need-store-active-requires
 store-active-requires c κs = row-fits _ _ (c .before .before .before .before .before .before .before .before .before .before .before .before .before .pre)
+
+refresh-requires-2 : tie.Need-refresh-requires-2
+refresh-requires-2 c κs =
+    put-few _ _ _ (c .before .store-scheduler-state .ensures)
+    (few-rows _ _ (c .before .before .before .before .before .before .before .before .before .before .before .before .before .before .before .before .load-scheduler-state .ensures)
+    (c .before .before .before .before .before .before .before .before .before .before .before .before .before .before .before .before .before .before .pre .0))
 
 returns-2 : tie.Need-returns-2
 returns-2 c =
@@ -30,7 +42,7 @@ accept-own-spec =
     load-active-requires
     (λ c κs. search needs)
     drop-row-requires
-    (λ c κs. search needs)
+    refresh-requires
     returns
     (λ c κs. search needs)
     (λ c. search needs)
@@ -39,5 +51,5 @@ accept-own-spec =
     store-active-requires
     (λ c κs. search needs)
     (λ c κs. search needs)
-    (λ c κs. search needs)
+    refresh-requires-2
     returns-2)

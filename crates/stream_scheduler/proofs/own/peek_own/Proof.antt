@@ -1,7 +1,8 @@
 -- `stream_scheduler::own::peek_own` meets its contract: each return is a case of `peekWords` (proofs/Exits.antt). Assumes nothing.
 use borrow.Author.Needs.{needs}
 use native.Mathlib.Omega.{arith}
-use Rattle.stream_scheduler.proofs.Exits.{few-rows, peek-nothing, peek-front}
+use Rattle.active_table.proofs.Refresh.{few-rows}
+use Rattle.stream_scheduler.proofs.Exits.{peek-nothing, peek-front}
 use Rattle.stream_scheduler.proofs.own.peek_own.Statement.{statement}
 use Rattle.stream_scheduler.proofs.own.peek_own.Tie as tie
 

@@ -1,6 +1,7 @@
 -- `stream_scheduler::own::remove_own` meets its contract: what it leaves is a case of `removeStream` (proofs/Exits.antt). Assumes nothing.
 use borrow.Author.Needs.{needs}
-use Rattle.stream_scheduler.proofs.Exits.{few-rows, remove-done}
+use Rattle.active_table.proofs.Refresh.{few-rows}
+use Rattle.stream_scheduler.proofs.Exits.{remove-done}
 use Rattle.stream_scheduler.proofs.own.remove_own.Statement.{statement}
 use Rattle.stream_scheduler.proofs.own.remove_own.Tie as tie
 

@@ -2,7 +2,8 @@
 use borrow.Author.Needs.{needs}
 use mathlib.Core.Path.{ap}
 use Rattle.queue_words.specs.declared.header.SchedulerState.{SchedulerState}
-use Rattle.stream_scheduler.proofs.Exits.{few-rows, set-few}
+use Rattle.active_table.proofs.Refresh.{few-rows}
+use Rattle.stream_scheduler.proofs.Exits.{set-few}
 use Rattle.stream_scheduler.proofs.own.set_own.Statement.{statement}
 use Rattle.stream_scheduler.proofs.own.set_own.Tie as tie
 
