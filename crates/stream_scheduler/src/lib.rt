@@ -288,20 +288,15 @@ fn set_new(queue: &mut [u64; QUEUE_WORDS], stream_id: u16, bytes: u64, parameter
     let o = load_options(&*queue);
     let s = load_scheduler_state(&*queue);
     let current = s.current;
-    let row = schedule_next_chunk(
-        o.payload_limit as u64,
-        stream_id,
-        parameters,
-        s.system_virtual_time,
-        bytes,
-    );
+    let start = s.system_virtual_time;
+    let row = schedule_next_chunk(o.payload_limit as u64, stream_id, parameters, start, bytes);
     store_active(queue, n, row);
     let more = (n + 1) as u64;
     store_scheduler_state(
         queue,
         SchedulerState {
             current: current,
-            system_virtual_time: s.system_virtual_time,
+            system_virtual_time: start,
             active: more,
         },
     );
