@@ -1,10 +1,10 @@
 -- Putting, reading, comparing and dropping where the payloads of the held rows are laid. Assumes nothing.
 use mathlib.Core.Path.{_≡_, refl, sym, ap, _∙_, subst}
 use mathlib.Core.List.{List, [], _∷_}
-use Prim.Native.Nat.{ℕ, suc, _+_, _-_, _≤_, _<_}
+use Prim.Native.Nat.{ℕ, _+_, _-_, _≤_, _<_}
 use native.Mathlib.Omega.{arith}
 use borrow.Author.Tests.{lt-ltb, le-ltb, le-leb, lt-leb, eq-eqb}
-use lib.ListN.{length, getD, take, drop, length-drop}
+use lib.ListN.{length, getD, drop, length-drop}
 use lib.Seq.{length-take-le}
 use Rattle.queue_words.specs.Flags.{pick}
 use Rattle.payload_store.specs.Putting.{Outcome, outcome, written}
@@ -15,11 +15,11 @@ use Rattle.receiver_words.specs.Tables.{Header, Links, wordAt, putWord}
 use Rattle.receiver_words.specs.Ages.{Aged, older, newer, without}
 use Rattle.receiver_words.specs.Frames.{Frame}
 use Rattle.receiver_words.proofs.Laws.{word-put-same, word-put-beside, word-put-other, word-put-table}
-use Rattle.receiver_words.proofs.Rows.{not-among, count-without-other}
+use Rattle.receiver_words.proofs.Rows.{not-among}
 use Rattle.receiver_words.proofs.Ages.{both-rows}
 use Rattle.receiver_words.proofs.Frames.{frame-both, frame-swap, frame-link, frame-header}
 use Rattle.receiver_store.specs.Words.{placeOf, sizeOf, newestOf, oldestOf, usedOf, endOf, payloadOf}
-use Rattle.receiver_store.specs.Packing.{packCode, packed}
+use Rattle.receiver_store.specs.Packing.{packed}
 use Rattle.receiver_store.specs.Putting.{roomCode, placed, putPayload}
 use Rattle.receiver_store.specs.Reading.{readCode, readPayload, sameCode}
 use Rattle.receiver_store.specs.Dropping.{dropCode, heldEnd, released, dropPayload}

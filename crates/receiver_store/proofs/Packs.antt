@@ -1,14 +1,13 @@
 -- Moving together keeps every payload, and leaves room at the end; where the payloads are laid, a start is found. Assumes nothing.
 use mathlib.Core.Path.{_≡_, refl, sym, ap, _∙_, subst}
-use mathlib.Core.Logic.{_⊎_, inl, inr}
+use mathlib.Core.Logic.{inl, inr}
 use mathlib.Core.Bool.{true, false}
 use mathlib.Core.List.{List, [], _∷_}
-use Prim.Native.Nat.{ℕ, zero, suc, _+_, _-_, _≤_, _<_}
+use Prim.Native.Nat.{ℕ, zero, suc, _+_, _≤_, _<_}
 use native.Mathlib.Omega.{arith}
 use borrow.Author.Tests.{le-leb, lt-leb, eq-eqb, ne-eqb}
 use lib.ListN.{length, getD}
 use Rattle.payload_store.specs.Moving.{moved, Pack, pack}
-use Rattle.payload_store.specs.Putting.{Outcome, outcome}
 use Rattle.payload_store.proofs.Moves.{moved-length, moved-other, moved-at, part-same}
 use Rattle.queue_model.specs.Table.{sum-by}
 use Rattle.receiver_model.specs.Lists.{count}
@@ -20,7 +19,7 @@ use Rattle.receiver_words.specs.Frames.{Frame}
 use Rattle.receiver_words.proofs.Laws.{word-put-same, word-put-beside, word-put-other, word-put-table}
 use Rattle.receiver_words.proofs.Linked.{linked-frame}
 use Rattle.receiver_words.proofs.Messages.{linked-rows}
-use Rattle.receiver_words.proofs.Rows.{stands-here, head-once, tail-once, not-among}
+use Rattle.receiver_words.proofs.Rows.{head-once, tail-once, not-among}
 use Rattle.receiver_words.proofs.Ages.{both-rows}
 use Rattle.receiver_words.proofs.Frames.{frame-none, frame-both, frame-swap, frame-link, frame-header}
 use Rattle.receiver_store.specs.Words.{placeOf, sizeOf, olderOf, newerOf, newestOf, oldestOf, usedOf, endOf, payloadOf}
