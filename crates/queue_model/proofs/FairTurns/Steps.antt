@@ -10,7 +10,7 @@ use lib.ListN.{length, drop, length-take, length-drop}
 use Rattle.queue_model.specs.Logic.{if_then_else_, any, is-some}
 use Rattle.queue_model.specs.Types.{Item, PauseState, Stream, Weight, weighted, Active, Scheduler, Options, Queue, Event, Message, done, fragment, nothing-waits, Step, remaining, expired, refuse, reply, with-items, with-pause, with-counters}
 use Rattle.queue_model.specs.Scheduler.{cost, moved, active-key, find-active, set-bytes-remaining, peek, accept}
-use Rattle.queue_model.specs.Streams.{stream-key, find-stream, put-stream, new-stream, at, stream-at, waiting, some-items, has-items, head-size, weight-of, reschedule, with-message}
+use Rattle.queue_model.specs.Streams.{stream-key, find-stream, put-stream, new-stream, at, stream-at, waiting, has-items, head-size, weight-of, reschedule, with-message}
 use Rattle.queue_model.specs.Refusals.{max-word, first-refusal, refused-or, checked, short-of-head}
 use Rattle.queue_model.specs.Amounts.{sent-events}
 use Rattle.queue_model.specs.Questions.{priority-of}
