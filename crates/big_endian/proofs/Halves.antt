@@ -1,16 +1,15 @@
 -- A wide number is two of half its width, in reading and in writing; what stands after two writes. Assumes nothing.
 use mathlib.Core.Path.{_≡_, sym, ap, _∙_}
 use mathlib.Core.List.{List, [], _∷_, _++_, append-assoc}
-use Prim.Native.Nat.{ℕ, zero, suc, _+_, _*_, _/_, _%_, _^_, _≤_, _<_}
-use native.Mathlib.Nat.{one-le-pow, zero-lt-suc, div-one, mod-eq-of-lt, mod-lt, mul-assoc, add-mul, add-assoc}
+use Prim.Native.Nat.{ℕ, suc, _+_, _*_, _/_, _%_, _^_, _≤_, _<_}
+use native.Mathlib.Nat.{div-one, mod-eq-of-lt, mod-lt, mul-assoc, add-mul, add-assoc}
 use native.Mathlib.Omega.{arith}
 use lib.Arith.{mod-mul}
-use lib.Dec.{T, ltb, lt→ltb}
-use lib.Pow.{pow-add, areBytes}
+use lib.Pow.{pow-add}
 use lib.ListN.{length, take, drop, getD, set, length-append, length-drop}
 use lib.Seq.{length-take-le, drop-drop, take-add, take-at, drop-cons, set-split, drop-append-add}
 use Rattle.queue_model.specs.Bytes.{number-bytes, bytes-number}
-use Rattle.queue_model.proofs.Image.ByteRows.{length-number-bytes, read-written, written-read, and-l, and-r, and-intro, pow-pos}
+use Rattle.queue_model.proofs.Image.ByteRows.{length-number-bytes, read-written, written-read, pow-pos}
 use Rattle.big_endian.specs.Numbers.{numberAt, wrote}
 use Rattle.queue_model.proofs.Demand2.Bytes.{number-are-bytes, append-bytes}
 

@@ -1,8 +1,7 @@
 -- A message by its numbers, and what a call tells in an array of 16 places: 0 the value, 1 the number of events, the others what goes with a fragment. Assumes nothing.
 use Prim.Native.Nat.{ℕ}
-use mathlib.Core.Bool.{Bool, true, false, not}
+use mathlib.Core.Bool.{Bool, true, false}
 use mathlib.Core.List.{List, _++_}
-use lib.Dec.{eqb}
 use lib.ListN.{set, take, drop}
 use Rattle.queue_words.specs.Flags.{bit}
 use Rattle.queue_words.specs.declared.items.Expiry.{Expiry}
@@ -20,12 +19,9 @@ use Rattle.queue_sending.specs.declared.data.Produced.{Produced}
 use Rattle.queue_sending.specs.declared.data.Produced.the-variants as produced
 use Rattle.saving.specs.declared.image.Saved.{Saved}
 use Rattle.saving.specs.declared.image.Saved.the-variants as saved
+pub use Rattle.out_array.specs.Flag.{isYes}
 
 -- ------------------------------------------------------------------ what is given
-
--- A flag: 0 for no, anything else for yes.
-abbrev pub isYes : ℕ → Bool
-isYes n = not (eqb n 0)
 
 abbrev pub lifetimeOf : Bool → ℕ → Lifetime
 lifetimeOf true n = life.Limited n

@@ -13,5 +13,5 @@ pub use ids::copy_first;
 pub use ids::tell_ids;
 pub use image::tell_saved;
 pub use layout::host_layout;
-pub use message::is_yes;
 pub use message::message_of;
+pub use out_array::is_yes;

@@ -1,17 +1,11 @@
 // A message by its numbers.
 ghost use mathlib.Core.Path.{_≡_};
 ghost use Rattle.host_numbers.specs.Numbers.{isYes, lifetimeOf, retransmissionsOf, messageOf};
+use out_array::is_yes;
 use queue_messages::Lifetime;
 use queue_messages::MaxRetransmissions;
 use queue_messages::Message;
 use types::StreamId;
-
-// A flag: 0 for no, anything else for yes.
-pub fn is_yes(flag: u8) -> bool
-    ensures { λ r. ⌜ r ≡ isYes flag ⌝ }
-{
-    flag != 0
-}
 
 fn lifetime_of(given: u8, nanoseconds: u64) -> Lifetime
     ensures { λ r. ⌜ r ≡ lifetimeOf (isYes given) nanoseconds ⌝ }

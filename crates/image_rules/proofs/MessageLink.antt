@@ -21,6 +21,7 @@ use Rattle.handover_records.specs.Positions.{recordAt, messagesFrom}
 use Rattle.handover_records.proofs.Steps.{messages-none, messages-step}
 use Rattle.image_rules.specs.Messages.{numbersRight, lifetimeRight, midRight, orderRight, messageRight, messagesRight}
 use Rattle.queue_words.proofs.Finds.{by-lt}
+use Rattle.handover_records.proofs.RecordRows.{message-width}
 
 -- ------------------------------------------------------------------ one record's rules
 
@@ -182,10 +183,6 @@ row-take [] left l h = refl
 row-take (w ∷ ws) left l h =
     ap₂ _∷_ (ap bytes-number (take-take w left l (omega (arith, h))))
     (ap (bytes-row ws) (drop-take w left l) ∙ row-take ws (left - w) (drop w l) (omega (arith, h)))
-
-message-width : width message-widths ≡ 44
-unfolding width
-message-width = refl
 
 -- The part of an image that is left.
 abbrev pub part : List ℕ → ℕ → ℕ → List ℕ

@@ -8,10 +8,11 @@ use Prim.Native.Nat.{ℕ, _≤_}
 use native.Mathlib.Omega.{arith}
 use lib.Dec.{eqb, ltb, eqb→eq}
 use lib.ListN.{length}
+use borrow.Author.Tests.{not-false}
 use Rattle.queue_model.specs.Logic.{outside, any, is-nil}
 use Rattle.queue_model.specs.Refusals.{limit-wrong, _when_, first-refusal, max-payload}
 use Rattle.queue_model.proofs.Tests.{holds}
-use Rattle.queue_model.proofs.Checks.{or-left, or-right, not-less, not-false}
+use Rattle.queue_model.proofs.Checks.{or-left, or-right, not-less}
 use Rattle.priority_plan.specs.declared.plan.PlannedPriorities.{PlannedPriorities}
 use Rattle.queue_streams.specs.Answers.{callNumber}
 use Rattle.queue_streams.specs.declared.answers.Call.the-variants.{Accepted, Refused}

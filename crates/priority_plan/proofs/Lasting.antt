@@ -1,14 +1,14 @@
 -- Messages that have not expired, as a test on the queue and stream by stream. Assumes nothing.
-use mathlib.Core.Path.{_≡_, refl, sym, ap, ap₂}
+use mathlib.Core.Path.{_≡_, refl, ap, ap₂}
 use mathlib.Core.Bool.{Bool, true, false, not, _||_}
 use mathlib.Core.List.{List, [], _∷_}
 use Prim.Native.Nat.{ℕ}
+use borrow.Author.Tests.{not-true}
 use Rattle.queue_model.specs.Logic.{any}
 use Rattle.queue_model.specs.Types.{Item, Stream, Queue, expired}
 use Rattle.queue_model.specs.FairTurns.{none-expired}
 use Rattle.queue_model.proofs.Checks.{or-left, or-right}
 use Rattle.priority_plan.specs.Works.{All}
-use Rattle.queue_model.proofs.FairTurns.Steps.{not-true}
 
 -- No waiting message is expired at this time.
 abbrev pub NoneExpired : ℕ → List Stream → Type 0

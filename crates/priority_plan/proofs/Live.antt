@@ -3,7 +3,7 @@ use mathlib.Core.Path.{_≡_, refl, sym, ap, ap₂, _∙_, subst}
 use mathlib.Core.Bool.{Bool, true, false, not, _||_}
 use mathlib.Core.List.{List, [], _∷_, _++_, map}
 use mathlib.Core.Option.{Option, none, some, Option·getD}
-use Prim.Native.Nat.{ℕ, suc, _+_, _-_, _≤_, _<_, min}
+use Prim.Native.Nat.{ℕ, suc, _-_, _≤_, _<_, min}
 use native.Mathlib.Omega.{arith}
 use lib.Dec.{eqb, ltb}
 use lib.ListN.{length}
@@ -25,6 +25,7 @@ use Rattle.priority_plan.specs.Turns.{says-nothing, ends}
 use Rattle.priority_plan.specs.Runs.{Accepts}
 use Rattle.priority_plan.proofs.Lasting.{NoneExpired}
 use Rattle.priority_plan.proofs.Sends.{Produced, stayed, sent, produced, Looked, idle, picked, looked}
+use Rattle.queue_model.proofs.Invariant.Closing.{handed-total}
 
 -- ---- one call
 
@@ -32,14 +33,6 @@ use Rattle.priority_plan.proofs.Sends.{Produced, stayed, sent, produced
 data Lively (q : Queue) (s : Step) : Type 0 where
   over : says-nothing (s .outcome .answer) ≡ true → Lively q s
   went : s .next .total < q .total → Lively q s
-
-handed-total : (q : Queue) (a : Active) (s : Stream) (i : Item) (is : List Item) (n : ℕ) → (handed-out q a s i is n) .total ≡ q .total - n
-unfolding handed-out handed-out-last handed-out-part
-handed-total q a s i is n = go (eqb n (remaining i))
-  where
-    go : (b : Bool) → (if b then handed-out-last q a s i is n else handed-out-part q a s i is n) .total ≡ q .total - n
-    go true = refl
-    go false = refl
 
 short-enough : (q : Queue) (s : Stream) (i : Item) (n : ℕ) → short-of-head q s i n ≡ false → n ≤ q .total
 unfolding short-of-head short-of

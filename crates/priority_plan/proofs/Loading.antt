@@ -2,15 +2,15 @@
 use mathlib.Core.Path.{_≡_, refl, sym, ap, ap₂, _∙_, subst}
 use mathlib.Core.Bool.{Bool, true, false, not, _&&_}
 use mathlib.Core.List.{List, [], _∷_, _++_, map}
-use mathlib.Core.Option.{Option, none, some, Option·getD}
-use Prim.Native.Nat.{ℕ, _+_, _-_, _≤_}
+use mathlib.Core.Option.{Option, none, some}
+use Prim.Native.Nat.{ℕ, _≤_}
 use native.Mathlib.Omega.{arith}
 use lib.Dec.{eqb, ltb, eqb→eq}
 use lib.ListN.{length}
 use Rattle.queue_model.specs.Logic.{if_then_else_, same-bool}
 use Rattle.queue_model.specs.Types.{Item, not-paused, Stream, Weight, weighted, Active, Scheduler, Options, Queue, Message, done, reply, remaining, expired, with-priority}
 use Rattle.queue_model.specs.Scheduler.{active-key, find-active, put-active, scheduled, new-scheduler, forget, rest-time, remove-stream, start-of, set-bytes-remaining}
-use Rattle.queue_model.specs.Streams.{stream-key, put-stream, new-stream, at, stream-at, with-message, know, some-items, has-items, head-size, weight-of, reschedule, reschedule-each, new-queue}
+use Rattle.queue_model.specs.Streams.{stream-key, put-stream, at, stream-at, with-message, know, some-items, has-items, head-size, weight-of, reschedule, reschedule-each, new-queue}
 use Rattle.queue_model.specs.Refusals.{Check, first-refusal, refused-or, checked, max-payload}
 use Rattle.queue_model.specs.Add.{new-item, starts-waiting, started, added, add-checks}
 use Rattle.queue_model.specs.Settings.{priority-checks, switched}
@@ -29,6 +29,7 @@ use Rattle.priority_plan.specs.Jobs.{Setting, priority, interleaving, se
 use Rattle.priority_plan.proofs.Lasting.{NoneExpired}
 use Rattle.queue_model.proofs.Demand3.Peel.{at-put-other}
 use Rattle.queue_model.proofs.Calm.Calm.{head-size-none}
+use Rattle.queue_model.proofs.FairTurns.Seen.{IsOpen}
 
 -- ---- accepted calls
 
@@ -166,9 +167,6 @@ fresh-new o c = record { well = well-new o c; options-same = refl; resting = rec
 
 -- ---- messages
 
-abbrev Opened : Stream → Type 0
-Opened s = s .pause-state ≡ not-paused
-
 -- An interleaving queue on which messages are added and none is sent yet.
 record Loading (o : Options) (q : Queue) : Type 0 where
   well : Well q
@@ -176,7 +174,7 @@ record Loading (o : Options) (q : Queue) : Type 0 where
   on : q .interleaving ≡ true
   free : q .scheduler .current ≡ none
   time-zero : q .scheduler .system-time ≡ 0
-  opened : Every Opened (q .streams)
+  opened : Every IsOpen (q .streams)
 
 -- A stream before its first message, and after it.
 record Before-first (k p : ℕ) (q : Queue) : Type 0 where
@@ -218,7 +216,7 @@ module _ (o : Options) (q : Queue) (l : Loading o q) (now : ℕ) (m : Message) (
   is-k = at-id (q .options) (q .streams) (m .stream-id)
 
   is-open : s .pause-state ≡ not-paused
-  is-open = every-at Opened (q .options) (m .stream-id) (q .streams) (l .opened) refl
+  is-open = every-at IsOpen (q .options) (m .stream-id) (q .streams) (l .opened) refl
 
   item-size : remaining (new-item now (q .next-message-id) m) ≡ length (m .payload)
   unfolding new-item
@@ -298,7 +296,7 @@ module _ (o : Options) (store now : ℕ) (m : Message) (q : Queue) (l : Loading 
       on = l .on;
       free = st .free;
       time-zero = st .time-zero;
-      opened = every-put stream-key Opened next-stream (q .streams) (is-open o q l now m h) (l .opened);
+      opened = every-put stream-key IsOpen next-stream (q .streams) (is-open o q l now m h) (l .opened);
     };
     before-others = λ k p n b. record {
       no-items = ap (λ (x : Stream). x .items) (other k n) ∙ b .no-items;
@@ -390,7 +388,7 @@ module _ (o : Options) (hs : List PlannedStream) (ps : List ℕ) (ss : List Sett
     on = up .choice ∙ j .interleaves;
     free = up .fresh .resting .free;
     time-zero = up .fresh .resting .time-zero;
-    opened = every-weaken Unused Opened ((set-up o ss) .streams) (λ s u. u .opened) (up .fresh .unused);
+    opened = every-weaken Unused IsOpen ((set-up o ss) .streams) (λ s u. u .opened) (up .fresh .unused);
   }
 
   loaded-full : Full o as′ (set-up o ss) (loaded o ss as′)

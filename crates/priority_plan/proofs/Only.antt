@@ -2,7 +2,7 @@
 use mathlib.Core.Path.{_≡_, refl, sym, ap, ap₂, _∙_, subst}
 use mathlib.Core.Logic.{_⊎_, inl, inr}
 use mathlib.Core.Bool.{Bool, true, false, _||_}
-use mathlib.Core.List.{List, [], _∷_, _++_, map}
+use mathlib.Core.List.{List, [], _∷_, _++_, map, append-nil}
 use mathlib.Core.Option.{Option, none, some}
 use Prim.Native.Nat.{ℕ, zero, suc, _+_}
 use native.Mathlib.Omega.{arith}
@@ -25,7 +25,7 @@ use Rattle.priority_plan.specs.Turns.{remove, streams-shown, firsts, sti
 use Rattle.priority_plan.specs.Runs.{Accepts, Request13-entries, Request13-order, Request13-served, Request13-only, Listed}
 use Rattle.priority_plan.proofs.Lasting.{all-last, none-expires}
 use Rattle.priority_plan.proofs.LeastSet.{Before, sooner, level, comes}
-use Rattle.priority_plan.proofs.Turns.{Ready, ids-of, Timely, turns}
+use Rattle.priority_plan.proofs.Turns.{Ready, ids-of, Timely, turns, In-turn}
 use Rattle.priority_plan.proofs.Loading.{loaded-well, loaded-on, loaded-free, loaded-options, up-lasting}
 use Rattle.priority_plan.proofs.Request.{request13-entries, request13-order, entries-listed, entries-ids}
 use Rattle.priority_plan.proofs.More.{lasting-adds}
@@ -53,10 +53,6 @@ timely-asks q xs n = record {
   added-last = subst (λ (l : List Adding). All (λ (t : ℕ). Lasting t l) (times (map ask xs))) (sym (none-added xs)) (nothing-lasts (times (map ask xs)));
 }
 
-append-nil : (xs : List ℕ) → xs ++ [] ≡ xs
-append-nil [] = refl
-append-nil (x ∷ xs) = ap (λ (l : List ℕ). x ∷ l) (append-nil xs)
-
 -- Enough calls serve every listed stream.
 pub request13-served : Request13-served
 unfolding Request13-served Request13-order
@@ -75,9 +71,6 @@ request13-served o hs ps ss as′ xs j w a n h =
 first-of : ℕ → ℕ → List ℕ → Option ℕ
 first-of i j [] = none
 first-of i j (s ∷ ss) = if eqb s i then some i else if eqb s j then some j else first-of i j ss
-
-abbrev In-turn : List ℕ → List ℕ → Type 0
-In-turn is ss = is ≡ firsts is ss ++ still-without is ss
 
 abbrev Has : ℕ → List ℕ → Type 0
 Has k is = any (eqb k) is ≡ true

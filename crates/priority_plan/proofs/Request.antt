@@ -2,7 +2,7 @@
 use mathlib.Core.Path.{_≡_, refl, ap, ap₂, _∙_, subst}
 use mathlib.Core.List.{List, [], _∷_, map}
 use mathlib.Core.Option.{some}
-use Prim.Native.Nat.{ℕ, _-_}
+use Prim.Native.Nat.{ℕ}
 use Rattle.queue_model.specs.Types.{Active, Queue}
 use Rattle.queue_model.specs.Scheduler.{find-active}
 use Rattle.queue_model.specs.Run.{run}

@@ -34,7 +34,7 @@ unfolding still-without remove
 still-nil [] = refl
 still-nil (s ∷ ss) = still-nil ss
 
-abbrev In-turn : List ℕ → List ℕ → Type 0
+abbrev pub In-turn : List ℕ → List ℕ → Type 0
 In-turn is ss = is ≡ firsts is ss ++ still-without is ss
 
 module _ (is : List ℕ) (o : Outcome) (os : List Outcome) (r : InTurn is os) where

@@ -6,6 +6,7 @@ use Prim.Native.Nat.{ℕ, _≤_}
 use lib.ListN.{length}
 use Rattle.queue_model.specs.Types.{weighted, Active}
 use Rattle.queue_model.specs.Scheduler.{scheduled, comes-before}
+pub use Rattle.queue_model.specs.Unbroken.{All}
 
 -- ------------------------------------------------------------------ the list
 
@@ -37,11 +38,6 @@ entries limit [] [] = []
 entries limit [] (p ∷ ps) = []
 entries limit (h ∷ hs) [] = []
 entries limit (h ∷ hs) (p ∷ ps) = first-entry limit h p ∷ entries limit hs ps
-
--- A property of every element.
-abbrev pub All : {A : Type 0} → (A → Type 0) → List A → Type 0
-All P [] = Unit {0}
-All P (x ∷ xs) = P x × All P xs
 
 -- "the scheduler's finish times and ids put those first fragments in that order": each entry comes before all that stand behind it.
 abbrev pub InOrder : List Active → Type 0

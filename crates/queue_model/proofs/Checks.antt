@@ -1,6 +1,6 @@
 -- Refusals: what an accepted call says of its checks, and restoring by its checks. Assumes nothing.
 use mathlib.Core.Path.{_≡_, refl, ap, _∙_}
-use mathlib.Core.Bool.{Bool, true, false, not, _||_}
+use mathlib.Core.Bool.{Bool, true, false, _||_}
 use mathlib.Core.List.{List, [], _∷_, _++_}
 use mathlib.Core.Option.{Option, none, some}
 use Prim.Native.Nat.{ℕ, _≤_, _<_}
@@ -23,10 +23,6 @@ or-left false y e = refl
 pub or-right : (x y : Bool) → (x || y) ≡ false → y ≡ false
 or-right true y e = let z : _≡_ {A = ℕ} 0 1 = cc in absurd (omega arith)
 or-right false y e = e
-
-pub not-false : (b : Bool) → not b ≡ false → b ≡ true
-not-false true e = refl
-not-false false e = let z : _≡_ {A = ℕ} 0 1 = cc in absurd (omega arith)
 
 pub not-less : (a b : ℕ) → ltb a b ≡ false → b ≤ a
 not-less a b e = nltb→le a b (fails (ltb a b) e)

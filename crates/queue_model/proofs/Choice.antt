@@ -2,7 +2,7 @@
 use mathlib.Core.Path.{_≡_, refl, sym, ap, ap₂, _∙_, subst}
 use mathlib.Core.Bool.{Bool, _&&_, _||_}
 use mathlib.Core.List.{List, [], _∷_}
-use mathlib.Core.Option.{none, some}
+use mathlib.Core.Option.{some}
 use Prim.Native.Nat.{ℕ, _≤_, _<_}
 use native.Mathlib.Omega.{arith}
 use lib.Dec.{ltb, eqb}
@@ -10,7 +10,7 @@ use Rattle.queue_model.specs.Logic.{if_then_else_}
 use Rattle.queue_model.specs.Types.{Active}
 use Rattle.queue_model.specs.Scheduler.{active-key, find-active, comes-before, earlier, least, least-of}
 use Rattle.queue_model.proofs.Tests.{ltb-true, ltb-false, eqb-true, eqb-false, less, same, more, tri}
-use Rattle.queue_model.proofs.Table.{find-nil, find-here, Every, every-find, Rising, every-own}
+use Rattle.queue_model.proofs.Table.{find-nil, Every, every-find, Rising, every-own}
 
 -- ---- the order of entries
 

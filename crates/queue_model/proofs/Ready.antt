@@ -1,7 +1,7 @@
 -- "Ready ids [..] come [..] in ascending order": those of a table of streams. Assumes nothing.
 use mathlib.Core.Bool.{Bool, true, false}
 use mathlib.Core.List.{List, [], _∷_}
-use Prim.Native.Nat.{ℕ, _<_}
+use Prim.Native.Nat.{ℕ}
 use Rattle.queue_model.specs.Logic.{if_then_else_}
 use Rattle.queue_model.specs.Types.{Stream}
 use Rattle.queue_model.specs.Streams.{stream-key}

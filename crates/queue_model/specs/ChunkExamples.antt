@@ -1,8 +1,7 @@
 -- Three chunks by their bytes (document 02, 1/13), by computation: "fragments become chunks". Numbers have their high byte first (RFC 9260, 3). Assumes
 -- nothing.
-use Prim.Native.Nat.{ℕ}
 use mathlib.Core.Bool.{Bool, true, false}
-use mathlib.Core.List.{List, [], _∷_}
+use mathlib.Core.List.{[], _∷_}
 use mathlib.Core.Path.{_≡_, refl}
 use Rattle.queue_model.specs.Bytes.{row-bytes}
 use Rattle.queue_model.specs.Chunks.{ChunkFields, padding, chunk-layout, chunk-bytes}

@@ -6,7 +6,7 @@ use mathlib.Core.List.{List, [], _∷_, _++_, map}
 use mathlib.Core.Option.{Option, none, some}
 use Prim.Native.Nat.{ℕ}
 use lib.ListN.{length, replicate}
-use Rattle.queue_model.specs.Types.{Item, Counters, round-robin, weighted, Queue, Event, Answer, refused, done, number, flag, ids, fragment, nothing-waits, filled, Outcome}
+use Rattle.queue_model.specs.Types.{round-robin, weighted, Queue, Event, Answer, refused, done, number, flag, ids, fragment, nothing-waits, filled, Outcome}
 use Rattle.queue_model.specs.Scheduler.{cost}
 use Rattle.queue_model.specs.Streams.{new-queue}
 use Rattle.queue_model.specs.Add.{expiry, new-item}

@@ -11,7 +11,7 @@ use lib.Dec.{ltb}
 use lib.ListN.{length}
 use Rattle.queue_model.specs.Logic.{if_then_else_}
 use Rattle.queue_model.specs.Table.{find, put}
-use Rattle.queue_model.specs.Types.{Item, not-paused, Counters, Stream, Options, Queue, with-state}
+use Rattle.queue_model.specs.Types.{Item, not-paused, Stream, Options, Queue, with-state}
 use Rattle.queue_model.specs.Streams.{put-stream, at, with-message, amounts, has-items, reschedule-each}
 
 -- ------------------------------------------------------------------ the record

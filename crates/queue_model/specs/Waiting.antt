@@ -8,7 +8,7 @@ use mathlib.Core.Path.{_≡_, refl}
 use lib.Dec.{ltb}
 use Rattle.queue_model.specs.Logic.{is-some}
 use Rattle.queue_model.specs.Table.{find}
-use Rattle.queue_model.specs.Types.{PauseState, not-paused, pending, paused, resetting, Options, Queue, Message}
+use Rattle.queue_model.specs.Types.{PauseState, not-paused, pending, paused, resetting, Options, Queue}
 use Rattle.queue_model.specs.Scheduler.{find-active}
 use Rattle.queue_model.specs.Streams.{stream-at, new-queue}
 use Rattle.queue_model.specs.Questions.{amount-of}

@@ -7,6 +7,7 @@ use Prim.Native.Nat.{ℕ}
 use native.Mathlib.Omega.{arith}
 use lib.Dec.{eqb, ltb, eqb→eq}
 use lib.ListN.{length, length-map}
+use borrow.Author.Tests.{not-false}
 use Rattle.queue_model.specs.Types as plain
 use Rattle.queue_model.specs.Types.{Queue, Outcome, Step}
 use Rattle.queue_model.specs.Run as run
@@ -14,7 +15,7 @@ use Rattle.queue_model.specs.FairTurns.{none-expired}
 use Rattle.queue_model.specs.Produce.{produce-checks, produce}
 use Rattle.queue_model.specs.Refusals.{Check, first-refusal, refused-or, checked, max-payload, max-time, event-places}
 use Rattle.queue_model.proofs.Tests.{holds}
-use Rattle.queue_model.proofs.Checks.{or-left, or-right, not-false, not-less, Passed, all-passed}
+use Rattle.queue_model.proofs.Checks.{or-left, or-right, not-less, Passed, all-passed}
 use Rattle.linked_streams.proofs.Asks.{total-asked}
 use Rattle.linked_sending.specs.Meaning.{producedOf}
 use Rattle.queue_runs.specs.Calls.{Call, sent, Shown}

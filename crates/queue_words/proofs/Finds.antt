@@ -6,13 +6,6 @@ use Prim.Native.Nat.{ℕ, zero, suc, _+_, _-_, _/_, _≤_, _<_}
 use native.Mathlib.Omega.{arith, ne-cases}
 use borrow.Author.Tests.{lt-ltb, le-ltb, eq-eqb, ne-eqb, ltb-true, ltb-false, eqb-true, eqb-false}
 use lib.Dec.{ltb, eqb}
-use lib.ListN.{length, getD}
-use Rattle.queue_words.specs.declared.header.Options.{Options}
-use Rattle.queue_words.specs.declared.header.Totals.{Totals}
-use Rattle.queue_words.specs.declared.header.SchedulerState.{SchedulerState}
-use Rattle.queue_words.specs.declared.streams.OutgoingStream.{OutgoingStream}
-use Rattle.queue_words.specs.declared.items.Item.{Item}
-use Rattle.queue_words.specs.declared.active.ActiveStreamInfo.{ActiveStreamInfo}
 use Rattle.queue_words.specs.declared.known.Known.{Known}
 use Rattle.queue_words.specs.declared.known.Probe.{Probe}
 use Rattle.queue_words.specs.declared.known.Found.{Found}
@@ -22,15 +15,6 @@ use Rattle.queue_words.specs.declared.known.Spot.the-variants as spot
 use Rattle.queue_words.specs.Flags.{pick}
 use Rattle.queue_words.specs.Known.{knownAt, idAt, knownCount, Rising, RisingKnown}
 use Rattle.queue_words.specs.Find.{probed, all, probes, foundAt, foundAmong, findStream, placeTested, foundBy, Findable}
-use Rattle.queue_words.specs.Header.{totalsWords, totalsAt, putOptions, putTotals, putScheduler}
-use Rattle.queue_words.specs.Streams.{putStream}
-use Rattle.queue_words.specs.Items.{putItem, putNext, putPlace, putLength}
-use Rattle.queue_words.specs.Active.{putActive}
-use Rattle.queue_words.proofs.Rows.{row-put-same}
-use Rattle.queue_words.proofs.Laws.{known-put-options, known-put-totals, known-put-scheduler, known-put-stream, known-put-item}
-use Rattle.queue_words.proofs.Laws.{known-put-active, known-put-next, known-put-place, known-put-length}
-use Rattle.queue_words.proofs.Laws.{totals-put-options, totals-put-scheduler, totals-put-stream, totals-put-item}
-use Rattle.queue_words.proofs.Laws.{totals-put-active, totals-put-next, totals-put-place, totals-put-length}
 
 -- what holds of both choices holds of the one that is picked
 by-pick : {A : Type 0} (P : A → Type 0) (b : Bool) {x y : A} → (b ≡ true → P x) → (b ≡ false → P y) → P (pick b x y)
@@ -254,17 +238,6 @@ find-gap ws id fits none = record { at = x; found = gap; missed = find-missed ws
     gap = by-lt x (knownCount ws)
         (λ k. rw (le-ltb 256 (knownCount ws) fits, lt-ltb x (knownCount ws) k, ne-eqb (idAt ws x) id (none x k)))
         (λ k. rw (le-ltb 256 (knownCount ws) fits, le-ltb x (knownCount ws) k))
-
--- and it is the one position with smaller ids before it and larger ones from it on
-pub find-gap-at : (ws : List ℕ) (id p : ℕ) → RisingKnown ws → knownCount ws ≤ 256 → p ≤ knownCount ws → ((j : ℕ) → j < p → idAt ws j < id)
-    → ((j : ℕ) → p ≤ j → j < knownCount ws → id < idAt ws j) → findStream ws id ≡ Gap p
-find-gap-at ws id p r fits h lo hi =
-    let n = find-gap ws id fits (λ j k e. by-lt j p (λ l. omega (arith, lo j l)) (λ l. omega (arith, hi j l k))) in
-    n .found ∙ ap Gap (same (n .at) (n .missed))
-  where
-    same : (q : ℕ) → Missed ws id q → q ≡ p
-    same q m = by-lt q p (λ l. absurd (omega (arith, lo q l, m .above r q (omega arith) (omega arith))))
-        (λ l. by-lt p q (λ l′. absurd (omega (arith, hi p (omega arith) (omega (arith, m .among)), m .below r p l′))) (λ l′. omega arith))
 
 -- WHAT THE SEARCH READS: the count, and the rows below 256
 

@@ -2,10 +2,10 @@
 -- X-put-Y: X, another part of the words than Y, is as it was before a store of Y. X-at-put: the row that was stored is read back.
 -- X-at-put-other: the other rows of its table are as they were. whole-put-Y: so is the number of words. Side conditions stand last, so that
 -- `rw` finds them.
-use mathlib.Core.Path.{_≡_, refl, ap, _∙_}
+use mathlib.Core.Path.{_≡_, ap, _∙_}
 use mathlib.Core.Logic.{inl, inr}
 use mathlib.Core.List.{List}
-use Prim.Native.Nat.{ℕ, _+_, _*_, _/_, _<_, min}
+use Prim.Native.Nat.{ℕ, _+_, _*_, _/_, _<_}
 use native.Mathlib.Omega.{arith, ne-cases}
 use native.Mathlib.Nat.{mod-eq-of-lt, mod-lt}
 use lib.ListN.{length, length-set, getD, set}
@@ -263,14 +263,6 @@ active-at-put-other ws i a j ne =
     ap activeOf (row-put-active ws i a (19488 + j * 5) 5 (inl (omega arith)) (rows-apart 19488 5 5 5 i j (omega arith) (omega arith) ne))
 
 -- AFTER A STORE OF THE OPTIONS
-
-pub totals-put-options : (ws : List ℕ) (o : Options) → totalsAt (putOptions ws o) ≡ totalsAt ws
-unfolding totalsAt putOptions
-totals-put-options ws o = ap totalsOf (row-put-other ws 0 (optionsWords o) 7 11 (inl (omega arith)))
-
-pub known-put-options : (ws : List ℕ) (o : Options) (j : ℕ) → knownAt (putOptions ws o) j ≡ knownAt ws j
-unfolding knownAt putOptions
-known-put-options ws o j = ap knownOf (row-put-other ws 0 (optionsWords o) (32 + j * 2) 2 (inl (omega arith)))
 
 -- AFTER A STORE OF THE TOTALS
 

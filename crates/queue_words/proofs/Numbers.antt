@@ -8,8 +8,6 @@ use lib.Dec.{ltb}
 use borrow.Author.Tests.{lt-ltb, ltb-true}
 use Rattle.queue_words.specs.declared.streams.PauseState.{PauseState}
 use Rattle.queue_words.specs.declared.streams.PauseState.the-variants.{NotPaused, Pending, Paused, Resetting}
-use Rattle.queue_words.specs.declared.active.SchedulingParameters.{SchedulingParameters}
-use Rattle.queue_words.specs.declared.active.SchedulingParameters.the-variants.{RoundRobin, WeightedFairQueuing}
 use Rattle.queue_words.specs.declared.header.Remembered.{Remembered}
 use Rattle.queue_words.specs.declared.header.Remembered.the-variants.{NoStream, Stream}
 use Rattle.queue_words.specs.declared.items.Expiry.{Expiry}
@@ -20,7 +18,6 @@ use Rattle.queue_words.specs.Flags.{bit, flag, pick}
 use Rattle.queue_words.specs.Header.{rememberedOf, rememberedWord, FitsRemembered}
 use Rattle.queue_words.specs.Items.{expiryOf, hasExpiry, expiryAt, numbersOf, areGiven, midIn, ssnIn}
 use Rattle.queue_words.specs.Streams.{pauseStateOf, pauseStateWord}
-use Rattle.queue_words.specs.Active.{parametersOf, parametersWord}
 
 pub flag-bit : (b : Bool) → flag (bit b) ≡ b
 flag-bit true = refl
@@ -31,11 +28,6 @@ pause-state-of-word NotPaused = refl
 pause-state-of-word Pending = refl
 pause-state-of-word Paused = refl
 pause-state-of-word Resetting = refl
-
--- a weight is a number of 16 bits
-pub parameters-of-word : (p : SchedulingParameters) → ((w : ℕ) → p ≡ WeightedFairQueuing w → w < 65536) → parametersOf (parametersWord p) ≡ p
-parameters-of-word RoundRobin f = refl
-parameters-of-word (WeightedFairQueuing w) f = rw (lt-ltb _ _ (f w refl))
 
 -- ---- the remembered stream
 

@@ -69,8 +69,8 @@ itemWords m = ssnIn (m .numbers) .0 ∷ m .«max_retransmissions» ∷ bit (m .u
 abbrev pub itemOut : List ℕ → ℕ → Item
 itemOut ws i = itemOf (row ws (3104 + i * 16) 15)
 
-abbrev pub itemIn : List ℕ → ℕ → Item → List ℕ
-itemIn ws i m = putRow ws (3104 + i * 16) (itemWords m)
+abbrev pub itemRowIn : List ℕ → ℕ → Item → List ℕ
+itemRowIn ws i m = putRow ws (3104 + i * 16) (itemWords m)
 
 -- the message in row i
 unfoldable pub itemAt : List ℕ → ℕ → Item
@@ -78,7 +78,7 @@ itemAt ws i = itemOut ws i
 
 -- the words with m in row i
 unfoldable pub putItem : List ℕ → ℕ → Item → List ℕ
-putItem ws i m = itemIn ws i m
+putItem ws i m = itemRowIn ws i m
 
 -- every narrow field is a value of its type
 pub record FitsItem (m : Item) : Type 0 where

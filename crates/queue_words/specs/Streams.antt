@@ -69,8 +69,8 @@ streamWords s = s .priority ∷ pauseStateWord (s .«pause_state») ∷ s .«nex
 abbrev pub streamOut : List ℕ → ℕ → OutgoingStream
 streamOut ws i = streamOf (row ws (544 + i * 10) 9)
 
-abbrev pub streamIn : List ℕ → ℕ → OutgoingStream → List ℕ
-streamIn ws i s = putRow ws (544 + i * 10) (streamWords s)
+abbrev pub streamRowIn : List ℕ → ℕ → OutgoingStream → List ℕ
+streamRowIn ws i s = putRow ws (544 + i * 10) (streamWords s)
 
 -- the stream in row i
 unfoldable pub streamAt : List ℕ → ℕ → OutgoingStream
@@ -78,7 +78,7 @@ streamAt ws i = streamOut ws i
 
 -- the words with s in row i
 unfoldable pub putStream : List ℕ → ℕ → OutgoingStream → List ℕ
-putStream ws i s = streamIn ws i s
+putStream ws i s = streamRowIn ws i s
 
 -- three words of row i: the amount and the ends of the chain
 unfoldable pub putChain : List ℕ → ℕ → ℕ → ℕ → ℕ → List ℕ

@@ -2,7 +2,7 @@
 ghost use mathlib.Core.Path.{_≡_};
 ghost use Prim.Native.Nat.{_<_};
 ghost use Rattle.queue_words.specs.Items.{expiryOf, hasExpiry, expiryAt, numbersOf, areGiven, midIn, ssnIn};
-ghost use Rattle.queue_words.specs.Items.{itemOut, itemIn, itemAt, putItem};
+ghost use Rattle.queue_words.specs.Items.{itemOut, itemRowIn, itemAt, putItem};
 ghost use Rattle.queue_words.specs.Items.{putNext, putPlace, putLength};
 use crate::QUEUE_WORDS;
 use types::Fsn;
@@ -135,7 +135,7 @@ fn item_out(queue: &[u64; QUEUE_WORDS], i: usize) -> Item
 
 fn item_in(queue: &mut [u64; QUEUE_WORDS], i: usize, m: Item)
     requires { ⌜ i < 1024 ⌝ }
-    ensures { λ _. ⌜ now (queue .exit) ≡ itemIn (now (queue .entry)) i m ⌝ }
+    ensures { λ _. ⌜ now (queue .exit) ≡ itemRowIn (now (queue .entry)) i m ⌝ }
 {
     // The cast of the innermost field stands first: after the stores the check does not find its bound.
     let fsn = m.fsn.0 as u64;

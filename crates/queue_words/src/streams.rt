@@ -2,7 +2,7 @@
 ghost use mathlib.Core.Path.{_≡_};
 ghost use Prim.Native.Nat.{_<_};
 ghost use Rattle.queue_words.specs.Streams.{pauseStateOf, pauseStateWord, isOpen, isPending, isPaused, isResetting};
-ghost use Rattle.queue_words.specs.Streams.{streamOut, streamIn, streamAt, putStream, putChain, withPause};
+ghost use Rattle.queue_words.specs.Streams.{streamOut, streamRowIn, streamAt, putStream, putChain, withPause};
 use crate::QUEUE_WORDS;
 use types::Mid;
 use types::Ssn;
@@ -120,7 +120,7 @@ fn stream_out(queue: &[u64; QUEUE_WORDS], i: usize) -> OutgoingStream
 
 fn stream_in(queue: &mut [u64; QUEUE_WORDS], i: usize, s: OutgoingStream)
     requires { ⌜ i < 256 ⌝ }
-    ensures { λ _. ⌜ now (queue .exit) ≡ streamIn (now (queue .entry)) i s ⌝ }
+    ensures { λ _. ⌜ now (queue .exit) ≡ streamRowIn (now (queue .entry)) i s ⌝ }
 {
     let state = s.pause_state;
     let word = pause_state_word(state);

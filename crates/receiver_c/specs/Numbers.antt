@@ -1,9 +1,7 @@
 -- "If an answer is an enum, a definition states this paper's number and values for each case of the enum." The number is what a call returns (receiver_calls: specs/Answers). For C the
 -- values stand in an array of 5 places: 0 the value, the others what goes with a message. Assumes nothing.
 use Prim.Native.Nat.{ℕ}
-use mathlib.Core.Bool.{Bool, not}
 use mathlib.Core.List.{List}
-use lib.Dec.{eqb}
 use lib.ListN.{set}
 use Rattle.queue_words.specs.Flags.{bit}
 use Rattle.receiver_fragments.specs.declared.answers.Delivery.{Delivery}
@@ -11,10 +9,6 @@ use Rattle.receiver_fragments.specs.declared.answers.Received.{Received}
 use Rattle.receiver_fragments.specs.declared.answers.Received.the-variants as received
 use Rattle.receiver_fragments.specs.declared.answers.Fetched.{Fetched}
 use Rattle.receiver_fragments.specs.declared.answers.Fetched.the-variants as fetched
-
--- A flag: 0 for no, anything else for yes.
-abbrev pub isYes : ℕ → Bool
-isYes n = not (eqb n 0)
 
 -- 1 for accepted, 0 for a repeat
 abbrev pub receivedOut : List ℕ → Received → List ℕ

@@ -1,14 +1,13 @@
 // The calls.
-ghost use mathlib.Core.Path.{_≡_};
 ghost use Rattle.receiver_fragments.specs.Creating.{create};
 ghost use Rattle.receiver_fragments.specs.Fetching.{fetch};
 ghost use Rattle.receiver_calls.specs.Receiving.{receive};
-ghost use Rattle.receiver_c.specs.Numbers.{isYes};
+ghost use Rattle.out_array.specs.Flag.{isYes};
 ghost use Rattle.receiver_c.specs.Given.{GivesCreated, GivesReceived, GivesFetched};
 use crate::numbers::OUT_WORDS;
-use crate::numbers::is_yes;
 use crate::numbers::tell_fetched;
 use crate::numbers::tell_received;
+use out_array::is_yes;
 use receiver_calls::create;
 use receiver_calls::fetch;
 use receiver_calls::receive;

@@ -1,7 +1,7 @@
 // Answers as numbers, with what goes with them in named places of an array.
 ghost use mathlib.Core.Path.{_≡_};
 ghost use Rattle.receiver_calls.specs.Answers.{receivedNumber, fetchedNumber};
-ghost use Rattle.receiver_c.specs.Numbers.{isYes, receivedOut, messageOut, fetchedOut};
+ghost use Rattle.receiver_c.specs.Numbers.{receivedOut, messageOut, fetchedOut};
 use receiver_calls::Delivery;
 use receiver_calls::Fetched;
 use receiver_calls::Received;
@@ -18,13 +18,6 @@ pub const STREAM_ID: usize = 2;
 pub const UNORDERED: usize = 3;
 
 pub const PPID: usize = 4;
-
-// A flag: 0 for no, anything else for yes.
-pub fn is_yes(flag: u8) -> bool
-    ensures { λ r. ⌜ r ≡ isYes flag ⌝ }
-{
-    flag != 0
-}
 
 pub fn tell_received(out: &mut [u64; OUT_WORDS], a: Received) -> u32
     ensures { λ r. ⌜ (r ≡ receivedNumber a) × (now (out .exit) ≡ receivedOut (now (out .entry)) a) ⌝ }

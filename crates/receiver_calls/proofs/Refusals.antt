@@ -1,8 +1,8 @@
 -- Refused calls and repeats change nothing, and the numbers are listed ones. Assumes nothing.
-use mathlib.Core.Path.{_≡_, refl, sym, ap, _∙_, subst}
+use mathlib.Core.Path.{_≡_, refl, sym, ap, subst}
 use mathlib.Core.Logic.{_⊎_, inl, inr}
 use mathlib.Core.Bool.{Bool, true, false}
-use mathlib.Core.List.{List, [], _∷_}
+use mathlib.Core.List.{List}
 use Prim.Native.Nat.{ℕ, _-_, _<_}
 use native.Mathlib.Omega.{arith}
 use lib.Dec.{eqb, ltb, leb}
@@ -44,7 +44,7 @@ use Rattle.receiver_fragments.specs.Receiving.{receiveNew, receiveFragment}
 use Rattle.receiver_fragments.specs.Fetching as fetching
 use Rattle.receiver_fragments.specs.Fetching.{takeOut, sizeBy, fetchFirst, fetch}
 use Rattle.receiver_fragments.specs.Freeing.{measured}
-use Rattle.receiver_calls.specs.Answers.{receivedNumber, receivedValue, fetchedNumber, fetchedValue}
+use Rattle.receiver_calls.specs.Answers.{receivedNumber, fetchedNumber}
 use Rattle.receiver_calls.specs.Receiving.{fragmentOf, ofKind, receiveRead, receiveAs, receive}
 use Rattle.receiver_calls.specs.Promise.{creationNumbers, receivingNumbers, fetchingNumbers, CallsRefused}
 

@@ -12,12 +12,6 @@ receivedNumber (received.Refused n) = n
 receivedNumber received.Repeated = 0
 receivedNumber received.Accepted = 0
 
--- the value: 1 for accepted, 0 for a repeat: "Repeats change nothing and are answered so"
-abbrev pub receivedValue : Received → ℕ
-receivedValue (received.Refused n) = 0
-receivedValue received.Repeated = 0
-receivedValue received.Accepted = 1
-
 -- fetching a message
 abbrev pub fetchedNumber : Fetched → ℕ
 fetchedNumber (fetched.Refused n) = n

@@ -4,7 +4,7 @@ use mathlib.Core.Bool.{Bool, true, false}
 use mathlib.Core.List.{List}
 use lib.Dec.{ltb, leb}
 use Rattle.queue_words.specs.Flags.{pick}
-use Rattle.receiver_words.specs.Tables.{Header, Links, wordAt, putWord}
+use Rattle.receiver_words.specs.Tables.{Header, wordAt, putWord}
 use Rattle.receiver_words.specs.Fragments.{fragmentAt}
 use Rattle.receiver_words.specs.Chains.{unlinkRow, giveFree}
 use Rattle.receiver_words.specs.Index.{bucketOf, unindexRow}

@@ -1,7 +1,7 @@
 // A message's rows, one after another: measured, handed out and freed.
 ghost use mathlib.Core.Path.{_≡_};
 ghost use Prim.Native.Nat.{_-_, _≤_, _<_};
-ghost use Rattle.receiver_fragments.specs.Freeing.{measure, measured, unindexHeld, freeRow, handedOut, handOut};
+ghost use Rattle.receiver_fragments.specs.Freeing.{measured, unindexHeld, freeRow, handedOut, handOut};
 use receiver_messages::walks::part_after;
 use receiver_store::drop_payload;
 use receiver_store::places::misplaced;

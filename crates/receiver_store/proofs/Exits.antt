@@ -17,7 +17,8 @@ use Rattle.payload_store.proofs.Puts.{written-length}
 use Rattle.receiver_model.specs.Lists.{same-list}
 use Rattle.receiver_words.specs.Tables.{Header, Links, wordAt, putWord}
 use Rattle.receiver_words.proofs.Laws.{whole-put-word, word-put-same, word-put-beside, word-put-table}
-use Rattle.receiver_store.specs.Words.{placeOf, sizeOf, olderOf, newestOf, usedOf, endOf, payloadOf}
+use Rattle.receiver_words.specs.Ages.{older, newest}
+use Rattle.receiver_store.specs.Words.{placeOf, sizeOf, usedOf, endOf, payloadOf}
 use Rattle.receiver_store.specs.Packing.{misplaced, start, nowhere, goalOf, startFrom, startOf, packCode, moveRow, packFrom, packed}
 use Rattle.receiver_store.specs.declared.packing.Start.{Start}
 use Rattle.receiver_store.specs.Putting.{roomCode, placed, putPayload}
@@ -105,12 +106,12 @@ module _ (ws : List ℕ) (goal : ℕ) where
   start-ends zero p row high sum = λ f. false-true f
   start-ends (suc n) p row high sum =
       let top = placeOf ws p + sizeOf ws p in
-      let on = startFrom n ws goal (olderOf ws p) p (placeOf ws p) (sum + sizeOf ws p) in
+      let on = startFrom n ws goal (older ws p) p (placeOf ws p) (sum + sizeOf ws p) in
       let here = pick (leb (top + sum) goal) (start true row top (top + sum)) on in
       either (leb 4096 p) (start (leb sum goal) row 0 sum) (pick (misplaced 0 high (placeOf ws p) (sizeOf ws p)) nowhere here)
       (λ f. leb-true sum goal f)
       (either (misplaced 0 high (placeOf ws p) (sizeOf ws p)) nowhere here (λ f. false-true f)
-      (reached (leb (top + sum) goal) row top (top + sum) on refl (start-ends n (olderOf ws p) p (placeOf ws p) (sum + sizeOf ws p))))
+      (reached (leb (top + sum) goal) row top (top + sum) on refl (start-ends n (older ws p) p (placeOf ws p) (sum + sizeOf ws p))))
 
 -- the goal is at or above the used bytes, and leaves room
 pub goal-above : (used len n : ℕ) → used ≤ goalOf used len n
@@ -217,7 +218,7 @@ room-packed ws st bs ws1 st1 i code end hi l ec h ee a em =
     let b = together-kept ws st ws1 st1 (length bs) em in
     let r = put-room ws (length st) (length bs) code ec h in
     let f = room-found ws (length st) (length bs) (omega arith) (rw ee at a) in
-    let g = start-ends ws (goalOf (usedOf ws) (length st) (length bs)) 4097 (newestOf ws) 4096 (endOf ws) 0 f in
+    let g = start-ends ws (goalOf (usedOf ws) (length st) (length bs)) 4097 (newest ws) 4096 (endOf ws) 0 f in
     let w = goal-room (usedOf ws) (length st) (length bs) (r .0) in
     (hi, omega (arith, t .0, b .1, g, w), omega (arith, t .1, b .1, r .0))
 

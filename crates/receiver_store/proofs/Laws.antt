@@ -1,10 +1,10 @@
 -- Putting, reading, comparing and dropping where the payloads of the held rows are laid. Assumes nothing.
 use mathlib.Core.Path.{_≡_, refl, sym, ap, _∙_, subst}
 use mathlib.Core.List.{List, [], _∷_}
-use Prim.Native.Nat.{ℕ, suc, _+_, _-_, _≤_, _<_}
+use Prim.Native.Nat.{ℕ, _+_, _-_, _≤_, _<_}
 use native.Mathlib.Omega.{arith}
 use borrow.Author.Tests.{lt-ltb, le-ltb, le-leb, lt-leb, eq-eqb}
-use lib.ListN.{length, getD, take, drop, length-drop}
+use lib.ListN.{length, getD, drop, length-drop}
 use lib.Seq.{length-take-le}
 use Rattle.queue_words.specs.Flags.{pick}
 use Rattle.payload_store.specs.Putting.{Outcome, outcome, written}
@@ -12,14 +12,14 @@ use Rattle.payload_store.proofs.Puts.{written-length, written-below, written-pa
 use Rattle.queue_model.specs.Table.{sum-by}
 use Rattle.receiver_model.specs.Lists.{count, same-list}
 use Rattle.receiver_words.specs.Tables.{Header, Links, wordAt, putWord}
-use Rattle.receiver_words.specs.Ages.{Aged, older, newer, without}
+use Rattle.receiver_words.specs.Ages.{Aged, older, newer, without, newest, oldest}
 use Rattle.receiver_words.specs.Frames.{Frame}
 use Rattle.receiver_words.proofs.Laws.{word-put-same, word-put-beside, word-put-other, word-put-table}
-use Rattle.receiver_words.proofs.Rows.{not-among, count-without-other}
+use Rattle.receiver_words.proofs.Rows.{not-among}
 use Rattle.receiver_words.proofs.Ages.{both-rows}
 use Rattle.receiver_words.proofs.Frames.{frame-both, frame-swap, frame-link, frame-header}
-use Rattle.receiver_store.specs.Words.{placeOf, sizeOf, newestOf, oldestOf, usedOf, endOf, payloadOf}
-use Rattle.receiver_store.specs.Packing.{packCode, packed}
+use Rattle.receiver_store.specs.Words.{placeOf, sizeOf, usedOf, endOf, payloadOf}
+use Rattle.receiver_store.specs.Packing.{packed}
 use Rattle.receiver_store.specs.Putting.{roomCode, placed, putPayload}
 use Rattle.receiver_store.specs.Reading.{readCode, readPayload, sameCode}
 use Rattle.receiver_store.specs.Dropping.{dropCode, heldEnd, released, dropPayload}
@@ -171,7 +171,7 @@ module _ (ws st held : List ℕ) (l : Laid ws st held) (aged : Aged ws held) (on
   -- THE THEOREM of putting
   pub put-law : (i : ℕ) (bs : List ℕ) → i < 4096 → count i held ≡ 0 → usedOf ws + length bs ≤ length st → Put ws st held i bs (putPayload ws st i bs)
   put-law i bs hi new fits =
-      let rows : (x : ℕ) → 0 < count x held → x < 4096 = both-rows (older ws) (newer ws) (oldestOf ws) 4096 (newestOf ws) held aged in
+      let rows : (x : ℕ) → 0 < count x held → x < 4096 = both-rows (older ws) (newer ws) (oldest ws) 4096 (newest ws) held aged in
       let code = room-law (length bs) fits in
       by-lt (length st - endOf ws) (length bs)
       (λ a. let q = packed-law ws st held l aged once short (length bs) fits in
@@ -216,13 +216,13 @@ module _ (ws st held : List ℕ) (i : ℕ) (l : Laid ws st held) (h : 0 < count 
 -- ------------------------------------------------------------------ dropping
 
 -- the used part falls back to the end of the newest row: no lower than the payloads
-held-end-row : (ws : List ℕ) (x : ℕ) → newestOf ws ≡ x → x < 4096 → placeOf ws x + sizeOf ws x ≤ endOf ws → heldEnd ws ≡ placeOf ws x + sizeOf ws x
+held-end-row : (ws : List ℕ) (x : ℕ) → newest ws ≡ x → x < 4096 → placeOf ws x + sizeOf ws x ≤ endOf ws → heldEnd ws ≡ placeOf ws x + sizeOf ws x
 unfolding heldEnd
 held-end-row ws x e h inside = rw (e, lt-leb 4096 x h, in-lies 0 (endOf ws) (placeOf ws x) (sizeOf ws x) (omega arith) inside)
 
-held-end-none : (ws : List ℕ) → newestOf ws ≡ 4096 → heldEnd ws ≡ 0
+held-end-none : (ws : List ℕ) → newest ws ≡ 4096 → heldEnd ws ≡ 0
 unfolding heldEnd
-held-end-none ws e = rw (le-leb 4096 (newestOf ws) (omega (arith, e)))
+held-end-none ws e = rw (le-leb 4096 (newest ws) (omega (arith, e)))
 
 held-end : (ws xs : List ℕ) → Aged ws xs → Below ws (endOf ws) xs → (heldEnd ws ≤ endOf ws) × Below ws (heldEnd ws) xs
 held-end ws [] (e, d) b = (omega (arith, held-end-none ws e), tt)
@@ -258,7 +258,7 @@ module _ (ws st held : List ℕ) (i : ℕ) (l : Laid ws st held) (once : (y : �
   link-kept x k hx hk = gone-frame .links x k hx hk (λ z. omega arith) (λ z. omega arith)
 
   rows : (x : ℕ) → 0 < count x (without i held) → x < 4096
-  rows = both-rows (older ws) (newer ws) (oldestOf ws) 4096 (newestOf ws) (without i held) aged
+  rows = both-rows (older ws) (newer ws) (oldest ws) 4096 (newest ws) (without i held) aged
 
   falls : (heldEnd ws ≤ endOf ws) × Below ws (heldEnd ws) (without i held)
   falls = held-end ws (without i held) aged (below-without ws (endOf ws) i held (l .below))

@@ -1,29 +1,28 @@
 -- Moving together keeps every payload, and leaves room at the end; where the payloads are laid, a start is found. Assumes nothing.
 use mathlib.Core.Path.{_≡_, refl, sym, ap, _∙_, subst}
-use mathlib.Core.Logic.{_⊎_, inl, inr}
+use mathlib.Core.Logic.{inl, inr}
 use mathlib.Core.Bool.{true, false}
 use mathlib.Core.List.{List, [], _∷_}
-use Prim.Native.Nat.{ℕ, zero, suc, _+_, _-_, _≤_, _<_}
+use Prim.Native.Nat.{ℕ, zero, suc, _+_, _≤_, _<_}
 use native.Mathlib.Omega.{arith}
 use borrow.Author.Tests.{le-leb, lt-leb, eq-eqb, ne-eqb}
 use lib.ListN.{length, getD}
 use Rattle.payload_store.specs.Moving.{moved, Pack, pack}
-use Rattle.payload_store.specs.Putting.{Outcome, outcome}
 use Rattle.payload_store.proofs.Moves.{moved-length, moved-other, moved-at, part-same}
 use Rattle.queue_model.specs.Table.{sum-by}
 use Rattle.receiver_model.specs.Lists.{count}
 use Rattle.receiver_model.proofs.Lists.{count-here, count-there, count-cons, equal, other, compare-same}
 use Rattle.receiver_words.specs.Tables.{Header, Links, wordAt, putWord}
 use Rattle.receiver_words.specs.Link.{Linked}
-use Rattle.receiver_words.specs.Ages.{Both, Aged, older, newer}
+use Rattle.receiver_words.specs.Ages.{Both, Aged, older, newer, newest, oldest}
 use Rattle.receiver_words.specs.Frames.{Frame}
 use Rattle.receiver_words.proofs.Laws.{word-put-same, word-put-beside, word-put-other, word-put-table}
 use Rattle.receiver_words.proofs.Linked.{linked-frame}
 use Rattle.receiver_words.proofs.Messages.{linked-rows}
-use Rattle.receiver_words.proofs.Rows.{stands-here, head-once, tail-once, not-among}
+use Rattle.receiver_words.proofs.Rows.{head-once, tail-once, not-among}
 use Rattle.receiver_words.proofs.Ages.{both-rows}
 use Rattle.receiver_words.proofs.Frames.{frame-none, frame-both, frame-swap, frame-link, frame-header}
-use Rattle.receiver_store.specs.Words.{placeOf, sizeOf, olderOf, newerOf, newestOf, oldestOf, usedOf, endOf, payloadOf}
+use Rattle.receiver_store.specs.Words.{placeOf, sizeOf, usedOf, endOf, payloadOf}
 use Rattle.receiver_store.specs.Packing.{misplaced, start, goalOf, startFrom, startOf, packCode, moveRow, packFrom, packed}
 use Rattle.receiver_store.specs.declared.packing.Start.{Start}
 use Rattle.receiver_store.specs.Good.{Below, Laid}
@@ -122,7 +121,7 @@ unfolding packFrom
 pack-stops zero s p h = refl
 pack-stops (suc n) s p h = rw (le-leb 4096 p h)
 
-pack-goes : (n : ℕ) (s : Pack) (p : ℕ) → p < 4096 → packFrom (suc n) s p ≡ packFrom n (moveRow s p) (newerOf (s .words) p)
+pack-goes : (n : ℕ) (s : Pack) (p : ℕ) → p < 4096 → packFrom (suc n) s p ≡ packFrom n (moveRow s p) (newer (s .words) p)
 unfolding packFrom
 pack-goes n s p h = rw (lt-leb 4096 p h)
 
@@ -170,7 +169,7 @@ module _ (s s₁ t : Pack) (x : ℕ) (zs : List ℕ) (e : ℕ) (hx : x < 4096) (
     ];
   }
 
-packs : (zs : List ℕ) (n : ℕ) (s : Pack) (p e : ℕ) → length (s .words) ≡ 83472 → Linked (newerOf (s .words)) p zs → ((y : ℕ) → count y zs ≤ 1) → length zs ≤ n
+packs : (zs : List ℕ) (n : ℕ) (s : Pack) (p e : ℕ) → length (s .words) ≡ 83472 → Linked (newer (s .words)) p zs → ((y : ℕ) → count y zs ≤ 1) → length zs ≤ n
     → Rising (s .words) (s .cursor) zs e → e ≤ length (s .store) → Packs s zs (packFrom n s p)
 packs [] n s p e long c once short r inside = subst (λ (t : Pack). Packs s [] t) (sym (pack-stops n s p (omega (arith, c)))) (record {
   frame = frame-none (s .words) 5 6 0 1;
@@ -187,16 +186,16 @@ packs (x ∷ zs) (suc n) s p e long (ep, hx, c) once short (above, r) inside =
     let ends : placeOf (s .words) x + sizeOf (s .words) x ≤ e = rising-end (s .words) (placeOf (s .words) x + sizeOf (s .words) x) zs e r in
     let m : Moved s x (moveRow s x) = row-moved s x long hx above (omega (arith, ends, inside)) in
     let new : count x zs ≡ 0 = head-once x zs once in
-    let rows : (y : ℕ) → 0 < count y zs → y < 4096 = linked-rows (newerOf (s .words)) (newerOf (s .words) x) zs c in
-    let q : Packs (moveRow s x) zs (packFrom n (moveRow s x) (newerOf (s .words) x)) =
-    packs zs n (moveRow s x) (newerOf (s .words) x) e (m .frame .long ∙ long)
-    (linked-frame (newerOf (s .words)) (newerOf (moveRow s x .words)) (newerOf (s .words) x) zs (λ y h hy. m .frame .links y 4 hy (omega arith) (λ z. omega arith) (λ z. omega arith)) c)
+    let rows : (y : ℕ) → 0 < count y zs → y < 4096 = linked-rows (newer (s .words)) (newer (s .words) x) zs c in
+    let q : Packs (moveRow s x) zs (packFrom n (moveRow s x) (newer (s .words) x)) =
+    packs zs n (moveRow s x) (newer (s .words) x) e (m .frame .long ∙ long)
+    (linked-frame (newer (s .words)) (newer (moveRow s x .words)) (newer (s .words) x) zs (λ y h hy. m .frame .links y 4 hy (omega arith) (λ z. omega arith) (λ z. omega arith)) c)
     (tail-once x zs once) (omega arith)
     (rising-frame (s .words) (moveRow s x .words) (moveRow s x .cursor) zs e (λ y h. m .others y (not-among x y zs new h)) (λ y h. m .sizes y (rows y h))
     (rising-low (s .words) (placeOf (s .words) x + sizeOf (s .words) x) (moveRow s x .cursor) zs e (omega (arith, m .cursor-is, above)) r))
     (omega (arith, inside, m .same)) in
     subst (λ (t : Pack). Packs s (x ∷ zs) t) (sym (ap (packFrom (suc n) s) ep ∙ pack-goes n s x hx))
-    (joined s (moveRow s x) (packFrom n (moveRow s x) (newerOf (s .words) x)) x zs e hx rows new r above inside m q)
+    (joined s (moveRow s x) (packFrom n (moveRow s x) (newer (s .words) x)) x zs e hx rows new r above inside m q)
 
 -- ------------------------------------------------------------------ where it begins
 
@@ -215,7 +214,7 @@ module _ (n : ℕ) (ws : List ℕ) (goal x row high sum : ℕ) (hx : x < 4096) (
   unfolding startFrom
   start-stops g = rw (lt-leb 4096 x hx, lies-below, le-leb (top + sum) goal g)
 
-  start-goes : goal < top + sum → startFrom (suc n) ws goal x row high sum ≡ startFrom n ws goal (olderOf ws x) x (placeOf ws x) (sum + sizeOf ws x)
+  start-goes : goal < top + sum → startFrom (suc n) ws goal x row high sum ≡ startFrom n ws goal (older ws x) x (placeOf ws x) (sum + sizeOf ws x)
   unfolding startFrom
   start-goes g = rw (lt-leb 4096 x hx, lies-below, lt-leb (top + sum) goal g)
 
@@ -225,14 +224,14 @@ record Begins (ws held : List ℕ) (goal e : ℕ) (s : Start) : Type 0 where
   staying : List ℕ
   found : s .found ≡ true
   split : onto moving staying ≡ held
-  chain : Linked (newerOf ws) (s .row) moving
+  chain : Linked (newer ws) (s .row) moving
   climbs : Rising ws (s .cursor) moving e
   under : Below ws (s .cursor) staying
   end-is : s .end ≡ s .cursor + sum-by (sizeOf ws) moving
   low : s .end ≤ goal
 
 module _ (ws held : List ℕ) (goal e : ℕ) where
-  begins : (n : ℕ) (xs zs : List ℕ) (p row high sum last : ℕ) → Both (older ws) (newer ws) row p last xs → Linked (newerOf ws) row zs → Below ws high xs → Rising ws high zs e
+  begins : (n : ℕ) (xs zs : List ℕ) (p row high sum last : ℕ) → Both (older ws) (newer ws) row p last xs → Linked (newer ws) row zs → Below ws high xs → Rising ws high zs e
       → sum ≡ sum-by (sizeOf ws) zs → onto zs xs ≡ held → sum-by (sizeOf ws) xs + sum ≤ goal → length xs < n → Begins ws held goal e (startFrom n ws goal p row high sum)
   begins zero xs zs p row high sum last c k b r es eh g short = absurd (omega arith)
   begins (suc n) [] zs p row high sum last c k b r es eh g short =
@@ -251,7 +250,7 @@ module _ (ws held : List ℕ) (goal e : ℕ) where
       ap-p
       (by-lt goal (placeOf ws x + sizeOf ws x + sum)
       (λ f. subst (λ (s : Start). Begins ws held goal e s) (sym (start-goes n ws goal x row high sum hx a f))
-      (begins n xs (x ∷ zs) (older ws x) x (placeOf ws x) (sum + sizeOf ws x) last c (refl, hx, subst (λ (q : ℕ). Linked (newerOf ws) q zs) (sym up) k) b
+      (begins n xs (x ∷ zs) (older ws x) x (placeOf ws x) (sum + sizeOf ws x) last c (refl, hx, subst (λ (q : ℕ). Linked (newer ws) q zs) (sym up) k) b
       (omega arith, rising-low ws high (placeOf ws x + sizeOf ws x) zs e a r) (omega arith) eh (omega arith) (omega arith)))
       (λ f. subst (λ (s : Start). Begins ws held goal e s) (sym (start-stops n ws goal x row high sum hx a f)) (record {
         moving = zs;
@@ -284,7 +283,7 @@ module _ (ws st held : List ℕ) (l : Laid ws st held) (aged : Aged ws held) (on
     started : Begins ws held goal (endOf ws) b
     unfolding startOf
     started =
-        begins ws held goal (endOf ws) 4097 held [] (newestOf ws) 4096 (endOf ws) 0 (oldestOf ws) aged refl (l .below) (omega arith) refl refl
+        begins ws held goal (endOf ws) 4097 held [] (newest ws) 4096 (endOf ws) 0 (oldest ws) aged refl (l .below) (omega arith) refl refl
         (omega (arith, l .used-is, goal-above (usedOf ws) (length st) n)) (omega arith)
 
     abbrev zs : List ℕ
@@ -300,7 +299,7 @@ module _ (ws st held : List ℕ) (l : Laid ws st held) (aged : Aged ws held) (on
     counted y = sym (count-onto y zs xs) ∙ ap (count y) (started .split)
 
     row : (x : ℕ) → 0 < count x held → x < 4096
-    row x h = both-rows (older ws) (newer ws) (oldestOf ws) 4096 (newestOf ws) held aged x h
+    row x h = both-rows (older ws) (newer ws) (oldest ws) 4096 (newest ws) held aged x h
 
     few : length zs ≤ 4096
     few = let a = length-onto zs xs in let e = ap length (started .split) in omega (arith, a, e, short)

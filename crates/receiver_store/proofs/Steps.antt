@@ -2,15 +2,16 @@
 use mathlib.Core.Path.{_≡_, refl, sym, ap, _∙_}
 use mathlib.Core.Bool.{Bool, true, false, _&&_}
 use mathlib.Core.List.{List, [], _∷_}
-use Prim.Native.Nat.{ℕ, zero, suc, _+_, _-_, _≤_, _<_}
+use Prim.Native.Nat.{ℕ, suc, _+_, _-_, _≤_, _<_}
 use native.Mathlib.Omega.{arith}
-use borrow.Author.Tests.{le-leb, lt-leb, lt-ltb, le-ltb, eq-eqb, ne-eqb}
+use borrow.Author.Tests.{le-leb, lt-leb, eq-eqb, ne-eqb}
 use lib.Dec.{leb, eqb}
 use lib.ListN.{length, getD, drop, drop-of-length-le}
 use lib.Seq.{drop-cons}
 use Rattle.receiver_model.specs.Lists.{same-list}
 use Rattle.payload_store.specs.Moving.{Pack}
-use Rattle.receiver_store.specs.Words.{placeOf, sizeOf, olderOf, newerOf}
+use Rattle.receiver_words.specs.Ages.{older, newer}
+use Rattle.receiver_store.specs.Words.{placeOf, sizeOf}
 use Rattle.receiver_store.specs.Packing.{misplaced, start, nowhere, startFrom, moveRow, packFrom}
 use Rattle.receiver_store.specs.declared.packing.Start.{Start}
 
@@ -43,10 +44,10 @@ module _ (ws : List ℕ) (goal p row high sum n : ℕ) (r : Start) (h : n < 4097
         rw (s, lt-leb _ _ g, m, t, le-leb _ _ (rw (ep, es) at o)) in
         rw (ep, es) (sym w ∙ inv)
 
-    pub start-next : (v : ℕ) → out ≡ false → goal < place + size + sum → v ≡ olderOf ws p → startFrom (4097 - (n + 1)) ws goal v p place (sum + size) ≡ r
+    pub start-next : (v : ℕ) → out ≡ false → goal < place + size + sum → v ≡ older ws p → startFrom (4097 - (n + 1)) ws goal v p place (sum + size) ≡ r
     unfolding startFrom
     start-next v t o ev =
-        let w : startFrom (4097 - n) ws goal p row high sum ≡ startFrom (4097 - (n + 1)) ws goal (olderOf ws p) p (placeOf ws p) (sum + sizeOf ws p) =
+        let w : startFrom (4097 - n) ws goal p row high sum ≡ startFrom (4097 - (n + 1)) ws goal (older ws p) p (placeOf ws p) (sum + sizeOf ws p) =
         rw (s, lt-leb _ _ g, m, t, lt-leb _ _ (rw (ep, es) at o)) in
         rw (ev, ep, es) (sym w ∙ inv)
 
@@ -66,11 +67,11 @@ pack-none s p n r h g inv =
     let w : packFrom (4096 - n) s p ≡ s = rw (k, le-leb _ _ g) in
     sym w ∙ inv
 
-pub pack-next : (s : Pack) (p n : ℕ) (r s′ : Pack) (v : ℕ) → n < 4096 → p < 4096 → v ≡ newerOf (s .words) p → s′ ≡ moveRow s p → packFrom (4096 - n) s p ≡ r → packFrom (4096 - (n + 1)) s′ v ≡ r
+pub pack-next : (s : Pack) (p n : ℕ) (r s′ : Pack) (v : ℕ) → n < 4096 → p < 4096 → v ≡ newer (s .words) p → s′ ≡ moveRow s p → packFrom (4096 - n) s p ≡ r → packFrom (4096 - (n + 1)) s′ v ≡ r
 unfolding packFrom
 pack-next s p n r s′ v h g ev es inv =
     let k : 4096 - n ≡ suc (4096 - (n + 1)) = omega arith in
-    let w : packFrom (4096 - n) s p ≡ packFrom (4096 - (n + 1)) (moveRow s p) (newerOf (s .words) p) = rw (k, lt-leb _ _ g) in
+    let w : packFrom (4096 - n) s p ≡ packFrom (4096 - (n + 1)) (moveRow s p) (newer (s .words) p) = rw (k, lt-leb _ _ g) in
     rw (es, ev) (sym w ∙ inv)
 
 pub pack-end : (s : Pack) (p n : ℕ) (r : Pack) → 4096 ≤ n → packFrom (4096 - n) s p ≡ r → s ≡ r

@@ -4,7 +4,8 @@ use Prim.Native.Nat.{ℕ, _+_, _-_}
 use lib.Dec.{ltb, leb}
 use Rattle.queue_words.specs.Flags.{pick}
 use Rattle.receiver_words.specs.Tables.{Header, putWord}
-use Rattle.receiver_store.specs.Words.{placeOf, sizeOf, newestOf, usedOf, endOf}
+use Rattle.receiver_words.specs.Ages.{newest}
+use Rattle.receiver_store.specs.Words.{placeOf, sizeOf, usedOf, endOf}
 use Rattle.receiver_store.specs.Packing.{misplaced}
 
 -- 16: "an amount would fall below 0".
@@ -15,9 +16,9 @@ dropCode ws i = pick (ltb (usedOf ws) (sizeOf ws i)) 16 0
 -- where the payload of the newest held row ends: 0 where none is held; the end stays where that is not in the used part
 unfoldable pub heldEnd : List ℕ → ℕ
 heldEnd ws =
-    pick (leb 4096 (newestOf ws)) 0
-    (pick (misplaced 0 (endOf ws) (placeOf ws (newestOf ws)) (sizeOf ws (newestOf ws))) (endOf ws)
-    (placeOf ws (newestOf ws) + sizeOf ws (newestOf ws)))
+    pick (leb 4096 (newest ws)) 0
+    (pick (misplaced 0 (endOf ws) (placeOf ws (newest ws)) (sizeOf ws (newest ws))) (endOf ws)
+    (placeOf ws (newest ws) + sizeOf ws (newest ws)))
 
 -- row i's bytes are free, and the used part ends with the newest row
 unfoldable pub released : List ℕ → ℕ → List ℕ

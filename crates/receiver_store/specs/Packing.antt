@@ -8,7 +8,8 @@ use Rattle.queue_words.specs.Flags.{pick}
 use Rattle.payload_store.specs.Moving.{moved, Pack, pack}
 use Rattle.payload_store.specs.Putting.{Outcome, outcome}
 use Rattle.receiver_words.specs.Tables.{Header, Links, putWord}
-use Rattle.receiver_store.specs.Words.{placeOf, sizeOf, olderOf, newerOf, newestOf, usedOf, endOf}
+use Rattle.receiver_words.specs.Ages.{older, newer, newest}
+use Rattle.receiver_store.specs.Words.{placeOf, sizeOf, usedOf, endOf}
 use Rattle.receiver_store.specs.declared.packing.Start.{Start}
 
 -- 16: "a place kept in the state lies outside its table".
@@ -35,11 +36,11 @@ startFrom (suc n) ws goal p row high sum =
     pick (leb 4096 p) (start (leb sum goal) row 0 sum)
     (pick (misplaced 0 high (placeOf ws p) (sizeOf ws p)) nowhere
     (pick (leb (placeOf ws p + sizeOf ws p + sum) goal) (start true row (placeOf ws p + sizeOf ws p) (placeOf ws p + sizeOf ws p + sum))
-    (startFrom n ws goal (olderOf ws p) p (placeOf ws p) (sum + sizeOf ws p))))
+    (startFrom n ws goal (older ws p) p (placeOf ws p) (sum + sizeOf ws p))))
 
 -- from the newest row down
 unfoldable pub startOf : List ℕ → ℕ → ℕ → Start
-startOf ws len n = startFrom 4097 ws (goalOf (usedOf ws) len n) (newestOf ws) 4096 (endOf ws) 0
+startOf ws len n = startFrom 4097 ws (goalOf (usedOf ws) len n) (newest ws) 4096 (endOf ws) 0
 
 -- may the payloads be moved together for one of n bytes
 unfoldable pub packCode : List ℕ → ℕ → ℕ → ℕ
@@ -58,7 +59,7 @@ moveRow s p =
 -- the rows from p on, at most n of them, one after another
 unfoldable pub packFrom : ℕ → Pack → ℕ → Pack
 packFrom zero s p = s
-packFrom (suc n) s p = pick (leb 4096 p) s (packFrom n (moveRow s p) (newerOf (s .words) p))
+packFrom (suc n) s p = pick (leb 4096 p) s (packFrom n (moveRow s p) (newer (s .words) p))
 
 -- the rows from the start on, as many as the table has; the used part then ends where they do: "free bytes count together, however scattered"
 unfoldable pub packed : List ℕ → List ℕ → ℕ → Outcome

@@ -1,4 +1,4 @@
--- The words that the store of the held fragments uses: each row's place and length, the used bytes, the end of the used part, the age chain. Assumes nothing.
+-- The words that the store of the held fragments uses: each row's place and length, the used bytes, the end of the used part. Assumes nothing.
 use Prim.Native.Nat.{ℕ}
 use mathlib.Core.List.{List}
 use lib.ListN.{take, drop}
@@ -10,19 +10,6 @@ placeOf ws i = wordAt Links ws i 0
 
 abbrev pub sizeOf : List ℕ → ℕ → ℕ
 sizeOf ws i = wordAt Links ws i 1
-
--- the held row accepted before row i, and after it; the newest and the oldest held row: 4096 for none
-abbrev pub olderOf : List ℕ → ℕ → ℕ
-olderOf ws i = wordAt Links ws i 3
-
-abbrev pub newerOf : List ℕ → ℕ → ℕ
-newerOf ws i = wordAt Links ws i 4
-
-abbrev pub newestOf : List ℕ → ℕ
-newestOf ws = wordAt Header ws 0 8
-
-abbrev pub oldestOf : List ℕ → ℕ
-oldestOf ws = wordAt Header ws 0 9
 
 -- the used bytes, and the end of the used part
 abbrev pub usedOf : List ℕ → ℕ

@@ -2,7 +2,7 @@
 use mathlib.Core.Path.{_≡_, refl, sym, ap, _∙_, subst}
 use mathlib.Core.Logic.{_⊎_, inl, inr, ⊎-elim}
 use mathlib.Core.List.{List, [], _∷_}
-use Prim.Native.Nat.{ℕ, suc, _+_, _≤_, _<_}
+use Prim.Native.Nat.{ℕ, _≤_, _<_}
 use native.Mathlib.Omega.{arith}
 use lib.ListN.{length}
 use Rattle.receiver_model.specs.Lists.{count}
@@ -12,7 +12,7 @@ use Rattle.receiver_words.specs.Chains.{putEnd, linkNewest, unlinkRow}
 use Rattle.receiver_words.specs.Link.{Linked}
 use Rattle.receiver_words.specs.Ages.{without, Both, older, newer, newest, oldest, Aged}
 use Rattle.receiver_words.proofs.Laws.{whole-put-word, word-put-same, word-put-beside, word-put-other, word-put-table}
-use Rattle.receiver_words.proofs.Rows.{by-row, stands-here, head-once, tail-once, unlike-head, not-among, without-here, without-there, without-absent}
+use Rattle.receiver_words.proofs.Rows.{stands-here, head-once, tail-once, unlike-head, not-among, without-here, without-there, without-absent}
 use Rattle.receiver_words.proofs.Ends.{link-beside, end-long, link-end-same, link-end-other, link-end-beside, head-end-same, head-end-row, head-end-beside}
 
 -- ------------------------------------------------------------------ chains both ways

@@ -1,9 +1,8 @@
 -- What each change of a chain leaves alone. Assumes nothing.
-use mathlib.Core.Path.{_≡_, refl, sym, ap, _∙_, subst}
+use mathlib.Core.Path.{refl, sym, _∙_, subst}
 use mathlib.Core.List.{List}
 use Prim.Native.Nat.{ℕ, _+_, _<_}
 use native.Mathlib.Omega.{arith}
-use lib.ListN.{length}
 use Rattle.receiver_words.specs.Tables.{Header, Links, wordAt, putWord}
 use Rattle.receiver_words.specs.Chains.{putEnd, giveFree, linkNewest, unlinkRow, appendMessage}
 use Rattle.receiver_words.specs.Frames.{Frame}

@@ -1,19 +1,18 @@
 -- The chain of messages after one is put at its end, and after its first is taken. Assumes nothing.
 use mathlib.Core.Path.{_≡_, refl, sym, ap, _∙_, subst}
 use mathlib.Core.List.{List, [], _∷_, _++_}
-use Prim.Native.Nat.{ℕ, suc, _+_, _≤_, _<_}
+use Prim.Native.Nat.{ℕ, _+_, _≤_, _<_}
 use native.Mathlib.Omega.{arith}
 use lib.ListN.{length}
 use Rattle.receiver_model.specs.Lists.{count}
-use Rattle.receiver_model.proofs.Lists.{count-nil, count-here, count-there, count-cons, equal, other, compare-same}
+use Rattle.receiver_model.proofs.Lists.{count-nil, count-there, count-cons, equal, other, compare-same}
 use Rattle.receiver_words.specs.Tables.{Header, Links, wordAt, putWord}
 use Rattle.receiver_words.specs.Chains.{putEnd, appendMessage}
 use Rattle.receiver_words.specs.Link.{Linked}
 use Rattle.receiver_words.specs.Ages.{last-row, Lined}
 use Rattle.receiver_words.proofs.Laws.{whole-put-word, word-put-same, word-put-beside, word-put-other, word-put-table}
-use Rattle.receiver_words.proofs.Linked.{linked-frame}
-use Rattle.receiver_words.proofs.Rows.{by-row, stands-here, head-once, tail-once, unlike-head, not-among}
-use Rattle.receiver_words.proofs.Ends.{end-long, link-end-same, link-end-other, head-end-same, head-end-row, head-end-beside}
+use Rattle.receiver_words.proofs.Rows.{stands-here, tail-once, unlike-head, not-among}
+use Rattle.receiver_words.proofs.Ends.{end-long, link-end-same, link-end-other, head-end-same, head-end-row}
 
 -- ------------------------------------------------------------------ the last of a chain
 

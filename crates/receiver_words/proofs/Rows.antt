@@ -1,13 +1,13 @@
 -- Lists of rows: a list without a row, rows that stand once. Assumes nothing.
-use mathlib.Core.Path.{_≡_, refl, sym, ap, _∙_}
+use mathlib.Core.Path.{_≡_, refl, ap, _∙_}
 use mathlib.Core.Bool.{Bool, true, false, not}
 use mathlib.Core.List.{List, [], _∷_}
-use Prim.Native.Nat.{ℕ, suc, _≤_, _<_}
+use Prim.Native.Nat.{ℕ, _≤_, _<_}
 use native.Mathlib.Omega.{arith}
 use borrow.Author.Tests.{eq-eqb, ne-eqb, ltb-true, ltb-false}
 use lib.Dec.{eqb, ltb}
 use Rattle.receiver_model.specs.Lists.{keep, count}
-use Rattle.receiver_model.proofs.Lists.{count-nil, count-here, count-there, count-cons, keep-yes, keep-no, count-keep-yes, count-keep-no, equal, other, compare-same}
+use Rattle.receiver_model.proofs.Lists.{count-here, count-there, count-cons, keep-yes, keep-no, count-keep-yes, count-keep-no, equal, other, compare-same}
 use Rattle.receiver_words.specs.Ages.{without}
 
 pub by-row : {G : Type 0} (p : ℕ) → (p < 4096 → G) → (4096 ≤ p → G) → G

@@ -1,6 +1,5 @@
 -- The chains of the indexes after a row is taken out, and after one is put at the end. Assumes nothing.
 use mathlib.Core.Path.{_≡_, refl, sym, ap, _∙_, subst}
-use mathlib.Core.Bool.{Bool, true, false}
 use mathlib.Core.List.{List, [], _∷_, _++_}
 use Prim.Native.Nat.{ℕ, zero, suc, _+_, _≤_, _<_}
 use native.Mathlib.Omega.{arith}
@@ -12,7 +11,7 @@ use Rattle.receiver_words.specs.Tables.{Buckets, Links, wordAt, putWord}
 use Rattle.receiver_words.specs.Index.{beforeFrom, follow, unindexRow, indexLast}
 use Rattle.receiver_words.specs.Link.{Linked}
 use Rattle.receiver_words.specs.Ages.{without, last-row}
-use Rattle.receiver_words.proofs.Laws.{whole-put-word, word-put-same, word-put-beside, word-put-other, word-put-table}
+use Rattle.receiver_words.proofs.Laws.{whole-put-word, word-put-same, word-put-other, word-put-table}
 use Rattle.receiver_words.proofs.Linked.{next-by, linked-frame}
 use Rattle.receiver_words.proofs.Rows.{by-row, stands-here, head-once, tail-once, unlike-head, not-among, without-here, without-there, without-absent}
 use Rattle.receiver_words.proofs.Messages.{last-in, linked-rows, linked-snoc}

@@ -5,13 +5,11 @@ use mathlib.Core.List.{List, [], _∷_}
 use mathlib.Core.Option.{none, some}
 use Prim.Native.Nat.{ℕ}
 use Rattle.queue_model.specs.Bytes.{bytes-number}
-use Rattle.queue_model.specs.Logic.{only-if, and-then}
 use Rattle.queue_model.specs.Types.{Queue}
 use Rattle.queue_model.specs.Streams.{new-queue}
-use Rattle.queue_model.specs.Chunks.{padding}
 use Rattle.queue_model.specs.Run as run
 use Rattle.reset_model.specs.Handler.{Handler, Effect, effect, start, refused, none-ready, written, ignored, still-waiting, make-request, handle-response, whole-reset}
-use Rattle.reset_model.specs.Wire.{request-bytes, read-response, is-response, verdict-of, commits, rolls-back, keeps-waiting}
+use Rattle.reset_model.specs.Wire.{request-bytes, read-response, commits, rolls-back, keeps-waiting}
 
 -- Three ids, so two bytes of padding.
 request-example : request-bytes 4294967295 9 16909060 (1 ∷ 5 ∷ 258 ∷ [])

@@ -8,10 +8,9 @@ use native.Mathlib.Omega.{arith}
 use lib.Dec.{eqb}
 use borrow.Author.Tests.{not-false}
 use Rattle.queue_model.specs.Logic.{if_then_else_, is-nil, same-bool}
-use Rattle.queue_model.specs.Table.{find}
 use Rattle.queue_model.specs.Types.{Item, Packet, PauseState, not-paused, pending, paused, resetting, Stream, Active, Options, Queue, Event, Message, done, Step, remaining, expired, with-items, with-pause, with-threshold, with-priority, refuse, reply}
 use Rattle.queue_model.specs.Scheduler.{peek}
-use Rattle.queue_model.specs.Streams.{find-stream, put-stream, new-stream, stream-at, waiting, stream-key, at, with-message, know}
+use Rattle.queue_model.specs.Streams.{find-stream, put-stream, stream-at, waiting, stream-key, at, with-message, know}
 use Rattle.queue_model.specs.Refusals.{Check, first-refusal, short-of, refused-or, checked, short-of-head}
 use Rattle.queue_model.specs.Add.{added, add-checks, new-item}
 use Rattle.queue_model.specs.Amounts.{drop-head-events}
@@ -24,7 +23,7 @@ use Rattle.queue_model.specs.Image.{MessageRecord, StreamRecord, Handover}
 use Rattle.queue_model.specs.Reader.{read-image}
 use Rattle.queue_model.specs.Restore.{restored-stream, restored-item, restore-streams, restore-message, restore-messages, restored, record-checks, restore-checks, restore-read}
 use Rattle.queue_model.specs.Run.{Call, add, produce, fill, discard, close, ready-ids, commit, rollback, reset, set-threshold, set-priority, set-interleaving, restore, ask-priority, ask-amount, ask-threshold, ask-total, ask-empty, ask-has-data, ask-streams-ready, ask-ready-count, ask-readiness, ask-room, step}
-use Rattle.queue_model.proofs.Table.{Rising, Every, every-put, find-key}
+use Rattle.queue_model.proofs.Table.{Every, every-put, find-key}
 use Rattle.queue_model.proofs.Checks.{or-left, nil-of, Passed, all-passed, restore-of}
 use Rattle.queue_model.proofs.Streams.{at-found, at-id, every-at}
 use Rattle.queue_model.proofs.Invariant.Well.{Well}
@@ -35,7 +34,7 @@ use Rattle.queue_model.specs.Calls
 use Rattle.queue_model.specs.Restore
 use Rattle.reset_model.specs.Handler.{resetting-ids}
 use Rattle.reset_model.specs.Uses.{only-by-it}
-use Rattle.reset_model.proofs.Resetting.{by-state, new-not, put-same, none-resetting}
+use Rattle.reset_model.proofs.Resetting.{by-state, put-same, none-resetting}
 
 -- The same streams are resetting.
 abbrev pub Same : Queue → Queue → Type 0

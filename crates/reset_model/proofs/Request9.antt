@@ -9,24 +9,23 @@ use lib.Dec.{eqb, ltb}
 use lib.ListN.{length}
 use Rattle.queue_model.specs.Logic.{if_then_else_}
 use Rattle.queue_model.specs.Types as queue
-use Rattle.queue_model.specs.Types.{Options, Queue, Stream, Step, done, reply, with-state}
+use Rattle.queue_model.specs.Types.{Options, Queue, Step, done, reply, with-state}
 use Rattle.queue_model.specs.Streams.{new-queue, has-items, reschedule-each}
 use Rattle.queue_model.specs.Refusals.{first-refusal, refused-or, checked}
-use Rattle.queue_model.specs.Reset.{paused-ids, paused-to-resetting, reopen, reopened, reset-stream, all-put-back, reset-checks}
+use Rattle.queue_model.specs.Reset.{paused-ids, paused-to-resetting, reopen, reset-stream, all-put-back, reset-checks}
 use Rattle.queue_model.specs.Run as run
 use Rattle.queue_model.specs.Calls
-use Rattle.queue_model.specs.Restore
 use Rattle.queue_model.specs.Image.{Handover}
 use Rattle.queue_model.specs.Reader.{read-image}
 use Rattle.queue_model.specs.Restore.{restored, restore-read, restore-checks, record-checks}
-use Rattle.queue_model.specs.Demands.{Created, Reachable, Restores}
+use Rattle.queue_model.specs.Demands.{Restores}
 use Rattle.queue_model.specs.Ascending.{Ascending}
 use Rattle.queue_model.proofs.Ready.{paused-ascending}
-use Rattle.queue_model.proofs.Checks.{past, restore-of, read-none, read-some, checked-past}
+use Rattle.queue_model.proofs.Checks.{past, restore-of, read-none, read-some}
 use Rattle.queue_model.proofs.Invariant.Well.{Well, well-new, room}
 use Rattle.queue_model.proofs.Invariant.Sixteen.{fine-step, reachable-well}
 use Rattle.reset_model.specs.Wire.{request-size, request-bytes, Response, read-response, Verdict, commits, rolls-back, keeps-waiting}
-use Rattle.reset_model.specs.Handler.{Request, Handler, start, ended, Effect, refused, ignored, effect, made, request-for, request-in, make-request, decided, answered, received, handle-response, restarted, whole-reset, resetting-ids, streams-underway}
+use Rattle.reset_model.specs.Handler.{Request, Handler, start, ended, refused, ignored, effect, made, request-for, request-in, make-request, decided, answered, received, handle-response, restarted, whole-reset, resetting-ids, streams-underway}
 use Rattle.reset_model.specs.Uses.{Use, request, response, reset, other, AllAllowed, Allowed, Pair, pair, pair-of, used, after, Starts, new, restored-from, last-written, message-after, last-message, Named, NamedIn, Exact, Request9, Request9-message}
 use Rattle.reset_model.proofs.Resetting.{marked-ids, none-reopened, none-reset}
 use Rattle.reset_model.proofs.Others.{same-other, restored-none}

@@ -1,12 +1,12 @@
 -- The ids of the resetting streams (specs/Handler), as streams are put in their place and the handler's calls change states. Assumes nothing.
-use mathlib.Core.Path.{_≡_, refl, sym, ap, _∙_, subst}
+use mathlib.Core.Path.{_≡_, refl, sym, ap, _∙_}
 use mathlib.Core.Bool.{Bool, true, false}
 use mathlib.Core.List.{List, [], _∷_, map}
 use mathlib.Core.Option.{none, some}
-use Prim.Native.Nat.{ℕ, _<_}
+use Prim.Native.Nat.{ℕ}
 use native.Mathlib.Omega.{arith}
 use Rattle.queue_model.specs.Logic.{if_then_else_}
-use Rattle.queue_model.specs.Types.{PauseState, not-paused, pending, paused, resetting, Stream, Options, with-pause}
+use Rattle.queue_model.specs.Types.{PauseState, resetting, Stream, Options, with-pause}
 use Rattle.queue_model.specs.Streams.{find-stream, put-stream, new-stream, at, stream-key}
 use Rattle.queue_model.specs.Reset.{is-paused, is-resetting, paused-ids, paused-to-resetting, opened, reopened, reset-stream}
 use Rattle.queue_model.proofs.Tests.{less, same, more, tri}

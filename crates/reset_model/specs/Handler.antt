@@ -1,6 +1,5 @@
 -- The stream reset handler beside a queue: making a request, receiving a response, the whole-queue reset. Document 02, 9/13. Assumes nothing.
 use Prim.Native.Nat.{ℕ}
-use mathlib.Core.Bool.{Bool}
 use mathlib.Core.List.{List, [], _∷_}
 use mathlib.Core.Option.{Option, none, some}
 use lib.Dec.{eqb, ltb}

@@ -4,15 +4,15 @@ use mathlib.Core.List.{List, [], _∷_, _++_, append-assoc}
 use Prim.Native.Nat.{ℕ, zero, suc, _+_, _-_, _*_, _/_, _%_, _≤_, _<_}
 use native.Mathlib.Omega.{arith}
 use native.Mathlib.Numerals.{add-one}
-use lib.ListN.{length, take, drop, getD, replicate, length-append, length-replicate, take-append-drop}
+use lib.ListN.{length, take, getD, replicate, length-append, length-replicate}
 use lib.Seq.{take-suc, length-take-le}
-use Rattle.queue_model.specs.Bytes.{number-bytes, row-bytes, width}
+use Rattle.queue_model.specs.Bytes.{number-bytes, width}
 use Rattle.queue_model.proofs.Image.ByteRows.{length-number-bytes}
 use Rattle.big_endian.specs.Numbers.{wrote}
-use Rattle.big_endian.proofs.Halves.{wrote-length, wrote-twice}
+use Rattle.big_endian.proofs.Halves.{wrote-twice}
 use Rattle.big_endian.proofs.Rows.{row-wrote, row-length, wrote-none}
 use Rattle.queue_model.specs.Chunks.{padding}
-use Rattle.reset_model.specs.Wire.{re-config, outgoing-request, parameter-length, chunk-length, request-size, id-bytes, request-widths, request-head, request-bytes}
+use Rattle.reset_model.specs.Wire.{parameter-length, chunk-length, request-size, id-bytes, request-widths, request-head, request-bytes}
 
 -- ---- sizes
 

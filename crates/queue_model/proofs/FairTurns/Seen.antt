@@ -1,10 +1,9 @@
 -- Fair turns by what a host sees: streams that are open at the start stay open through adds and next fragments, and wait exactly while their amounts are above 0. Assumes nothing.
-use mathlib.Core.Path.{_≡_, refl, sym, ap, _∙_, subst}
+use mathlib.Core.Path.{_≡_, sym, ap, _∙_, subst}
 use mathlib.Core.Bool.{Bool, true, false}
 use mathlib.Core.List.{List, [], _∷_, _++_}
-use mathlib.Core.Option.{Option, none, some, Option·getD}
+use mathlib.Core.Option.{Option, some, Option·getD}
 use Prim.Native.Nat.{ℕ, _-_, _<_, min}
-use native.Mathlib.Omega.{arith}
 use lib.Dec.{eqb, ltb}
 use Rattle.queue_model.specs.Logic.{if_then_else_}
 use Rattle.queue_model.specs.Types.{Item, PauseState, not-paused, Stream, Active, Options, Queue, Message, done, Step, remaining, reply, with-items, with-pause, with-counters}
@@ -24,7 +23,7 @@ use Rattle.queue_model.proofs.Invariant.Well.{Well}
 use Rattle.queue_model.proofs.Invariant.Sends.{Chosen}
 use Rattle.queue_model.proofs.Invariant.Sixteen.{reachable-well}
 use Rattle.queue_model.proofs.Invariant.Serving.{waiting-seen}
-use Rattle.queue_model.proofs.FairTurns.Steps.{produce-is, sent-step}
+use Rattle.queue_model.proofs.FairTurns.Steps.{produce-is}
 use Rattle.queue_model.proofs.FairTurns.Theorem.{request11-turns}
 use Rattle.queue_model.specs.Calls
 

@@ -7,10 +7,11 @@ use Prim.Native.Nat.{ℕ, suc, _+_, _-_, _≤_, _<_, min}
 use native.Mathlib.Omega.{arith}
 use lib.Dec.{leb, eqb, eqb→eq}
 use lib.ListN.{length, drop, length-take, length-drop}
+use borrow.Author.Tests.{not-true}
 use Rattle.queue_model.specs.Logic.{if_then_else_, any, is-some}
 use Rattle.queue_model.specs.Types.{Item, PauseState, Stream, Weight, weighted, Active, Scheduler, Options, Queue, Event, Message, done, fragment, nothing-waits, Step, remaining, expired, refuse, reply, with-items, with-pause, with-counters}
 use Rattle.queue_model.specs.Scheduler.{cost, moved, active-key, find-active, set-bytes-remaining, peek, accept}
-use Rattle.queue_model.specs.Streams.{stream-key, find-stream, put-stream, new-stream, at, stream-at, waiting, some-items, has-items, head-size, weight-of, reschedule, with-message}
+use Rattle.queue_model.specs.Streams.{stream-key, find-stream, put-stream, new-stream, at, stream-at, waiting, has-items, head-size, weight-of, reschedule, with-message}
 use Rattle.queue_model.specs.Refusals.{max-word, first-refusal, refused-or, checked, short-of-head}
 use Rattle.queue_model.specs.Amounts.{sent-events}
 use Rattle.queue_model.specs.Questions.{priority-of}
@@ -128,10 +129,6 @@ any-false : {A : Type 0} (test : A → Bool) (xs : List A) → any test xs ≡ f
 unfolding any
 any-false test [] e = tt
 any-false test (x ∷ xs) e = (or-left (test x) (any test xs) e, any-false test xs (or-right (test x) (any test xs) e))
-
-pub not-true : (b : Bool) → not b ≡ true → b ≡ false
-not-true true e = sym e
-not-true false e = refl
 
 -- A head has not expired.
 head-fresh : (now : ℕ) (q : Queue) (k : ℕ) (s : Stream) (i : Item) (is : List Item) → none-expired now q ≡ true → HeadAt (q .streams) k s i is → expired now (i .expires-at) ≡ false

@@ -5,11 +5,10 @@ use mathlib.Core.List.{List, _++_, append-assoc}
 use mathlib.Core.Option.{Option, none, some}
 use Prim.Native.Nat.{ℕ, zero, suc, min}
 use Rattle.queue_model.specs.Logic.{if_then_else_}
-use Rattle.queue_model.specs.Types.{Queue, Event, fragment, Step, expired, reply}
+use Rattle.queue_model.specs.Types.{Queue, Event, fragment, Step, reply}
 use Rattle.queue_model.specs.Refusals.{short-of-head}
 use Rattle.queue_model.specs.Amounts.{sent-events}
 use Rattle.queue_model.specs.Produce.{Look, nothing, broken, dropped, chosen, look, numbered, make-fragment, handed-out, hand-out, after-look, pass-over}
-use Rattle.queue_model.specs.Calls
 
 -- ---- the next fragment after events of earlier calls
 

@@ -1,9 +1,9 @@
 -- The fragments of a filling's calls stand in the list of those sent: request 10/13 holds over packets. Assumes nothing.
 use mathlib.Core.Path.{_≡_, refl, sym, ap, _∙_, subst}
-use mathlib.Core.Bool.{Bool, true, false}
+use mathlib.Core.Bool.{Bool, false}
 use mathlib.Core.List.{List, [], _∷_, _++_, append-nil, append-assoc}
 use mathlib.Core.Option.{Option, none, some}
-use Prim.Native.Nat.{ℕ, suc, _≤_, _<_, _^_}
+use Prim.Native.Nat.{ℕ, suc, _<_, _^_}
 use native.Mathlib.Omega.{arith}
 use Rattle.queue_model.specs.Types.{Packet, Options, Queue, Fragment, Answer, refused, done, number, flag, ids, fragment, nothing-waits, filled}
 use Rattle.queue_model.specs.Answers.{is-refused, fragments-in, fragment-in}
@@ -12,7 +12,7 @@ use Rattle.queue_model.specs.Produce.{produce}
 use Rattle.queue_model.specs.Fill.{Filling, no-calls, size-asked, one-more, common-header-length, filling, filled-with, fill-checks}
 use Rattle.queue_model.specs.Packets.{before}
 use Rattle.queue_model.specs.Run.{step}
-use Rattle.queue_model.specs.Demands.{Typed, PacketTyped}
+use Rattle.queue_model.specs.Demands.{Typed}
 use Rattle.queue_model.specs.Unbroken.{Sends, goes-on, Request10-packets}
 use Rattle.queue_model.proofs.Fill.Calls.{fill-induct}
 use Rattle.queue_model.proofs.Fill.Sizes.{size-within}

@@ -19,7 +19,6 @@ use Rattle.queue_model.proofs.Image.ByteRows.{and-intro, length-row-byt
 use Rattle.queue_model.proofs.Image.ReadWrite.{read-image-bytes, length-streams-bytes, messages-bytes-cons, message-bytes-of, messages-bytes-nil}
 use Rattle.queue_model.proofs.Invariant.Messages.{WellItem, WellRest, WellItems, WellStream, AllWell, WellQueue}
 use Rattle.queue_model.proofs.Demand3.Restored.{message-records-cons, message-records-nil, Each}
-use Rattle.queue_model.proofs.Tests.{holds}
 
 -- ---- the flags
 

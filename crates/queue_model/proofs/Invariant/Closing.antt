@@ -8,7 +8,7 @@ use Prim.Native.Nat.{ℕ, _-_, _≤_, _<_}
 use native.Mathlib.Omega.{arith}
 use lib.Dec.{eqb}
 use Rattle.queue_model.specs.Logic.{if_then_else_, is-some, any}
-use Rattle.queue_model.specs.Types.{Item, PauseState, not-paused, pending, paused, resetting, Stream, Active, Options, Queue, refused, done, fragment, nothing-waits, Step, remaining, with-items, with-pause}
+use Rattle.queue_model.specs.Types.{Item, PauseState, not-paused, pending, paused, resetting, Stream, Active, Options, Queue, refused, done, nothing-waits, Step, remaining, with-items, with-pause}
 use Rattle.queue_model.specs.Scheduler.{active-key, find-active, least-of, or-else, remembered, peek}
 use Rattle.queue_model.specs.Streams.{find-stream, put-stream, stream-at, stream-key}
 use Rattle.queue_model.specs.Refusals.{first-refusal, refused-or, checked}

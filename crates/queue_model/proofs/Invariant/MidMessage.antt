@@ -21,7 +21,7 @@ use Rattle.queue_model.specs.Amounts.{drop-head-events}
 use Rattle.queue_model.specs.Add.{added, add-checks, new-item, started, starts-waiting}
 use Rattle.queue_model.specs.Produce.{Head, head-of, drop-head, drop-in, handed-out-last, handed-out-part, handed-out}
 use Rattle.queue_model.specs.Discard.{discarded, discard-at, discard-checks}
-use Rattle.queue_model.specs.Close.{kept, swept-bytes, closed-state, closed-scheduler, closed, close-in, close-checks}
+use Rattle.queue_model.specs.Close.{swept-bytes, closed-state, closed-scheduler, closed, close-in, close-checks}
 use Rattle.queue_model.specs.Reset.{is-resetting, paused-to-resetting, reopened, reopen, whole-item, whole-head, reset-stream, reset-checks}
 use Rattle.queue_model.specs.Settings.{threshold-checks, priority-checks, raised-event, switched}
 use Rattle.queue_model.specs.Image.{StreamRecord, MessageRecord, Handover}

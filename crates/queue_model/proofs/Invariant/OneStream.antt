@@ -22,7 +22,7 @@ use Rattle.queue_model.specs.Run.{Call, add, produce, fill, discard, clo
 use Rattle.queue_model.proofs.Table.{find-put-same, find-put-other, own, other, is-own, not-in-nil}
 use Rattle.queue_model.proofs.Checks.{Passed, all-passed, or-left, nil-of}
 use Rattle.queue_model.proofs.Streams.{at-found, at-id}
-use Rattle.queue_model.proofs.Invariant.Fine.{Alike, reopened-alike}
+use Rattle.queue_model.proofs.Invariant.Fine.{reopened-alike}
 use Rattle.queue_model.proofs.Invariant.Serving.{found-map}
 use Rattle.queue_model.specs.Calls
 use Rattle.queue_model.specs.Restore

@@ -35,7 +35,7 @@ use Rattle.queue_model.proofs.Streams.{at-found, at-new, at-id, unsent-
 use Rattle.queue_model.proofs.Invariant.Messages.{WellItems}
 use Rattle.queue_model.proofs.Invariant.Waits.{Listed, Holds, holds-put-own, holds-put, scheduled-id}
 use Rattle.queue_model.proofs.Invariant.Well.{Kept, Well, inside, kept-at, well-tail}
-use Rattle.queue_model.proofs.Invariant.Fine.{Alike, paused-alike, reopened-alike, keeps-none, keeps-first, keeps}
+use Rattle.queue_model.proofs.Invariant.Fine.{paused-alike, reopened-alike, keeps-none, keeps-first, keeps}
 use Rattle.queue_model.proofs.Invariant.Sends.{FineLook, Chosen, headless, headed, heads, head-of-at, head-well, head-for, fine-look, fine-produce}
 use Rattle.queue_model.proofs.Fill.Calls.{fill-keeps}
 use Rattle.queue_model.proofs.Invariant.Sixteen.{fine-step, reachable-well}

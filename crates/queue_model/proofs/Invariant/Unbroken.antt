@@ -14,7 +14,6 @@ use Rattle.queue_model.specs.Streams.{waiting, stream-key, new-queue}
 use Rattle.queue_model.specs.Refusals.{max-time, short-of-head}
 use Rattle.queue_model.specs.Amounts.{sent-events}
 use Rattle.queue_model.specs.Produce.{chosen, look-expired, look-at, look-for, look, hand-out, after-look, pass-over, produce-checks, numbered, make-fragment, handed-out}
-use Rattle.queue_model.specs.Close.{kept}
 use Rattle.queue_model.specs.Image.{MessageRecord, Handover, message-record, message-records, handover, write-image}
 use Rattle.queue_model.specs.Reader.{has-flag, read-image}
 use Rattle.queue_model.specs.Restore.{restored-item, half-sent-first}

@@ -7,7 +7,7 @@ use Prim.Native.Nat.{ℕ, zero, suc, _^_, _≤_, _<_}
 use native.Mathlib.Omega.{arith}
 use lib.Dec.{eqb}
 use Rattle.queue_model.specs.Logic.{if_then_else_, any}
-use Rattle.queue_model.specs.Types.{Stream, Weight, round-robin, weighted, Active, Scheduler}
+use Rattle.queue_model.specs.Types.{Stream, Weight, Active, Scheduler}
 use Rattle.queue_model.specs.Scheduler.{scheduled, find-active, put-active, without-active, forget, rest-time, remove-stream, start-of, set-bytes-remaining, least, least-of, or-else, remembered, peek, active-key}
 use Rattle.queue_model.specs.Streams.{put-stream, weight-of, head-size, reschedule, reschedule-each, stream-key}
 use Rattle.queue_model.specs.Refusals.{max-word}

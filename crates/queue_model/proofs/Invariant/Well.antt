@@ -11,12 +11,12 @@ use Rattle.queue_model.specs.Logic.{outside, is-some}
 use Rattle.queue_model.specs.Table.{sum-by}
 use Rattle.queue_model.specs.Types.{Item, PauseState, Counters, Stream, Scheduler, Options, Queue, with-items, with-pause, with-counters}
 use Rattle.queue_model.specs.Scheduler.{new-scheduler}
-use Rattle.queue_model.specs.Streams.{max-streams, max-messages, find-stream, put-stream, new-stream, zero-counters, stream-at, too-many, waiting, payload-bytes, occupied, new-queue, amounts, stream-key}
+use Rattle.queue_model.specs.Streams.{max-streams, max-messages, find-stream, put-stream, new-stream, zero-counters, stream-at, too-many, waiting, payload-bytes, occupied, new-queue, stream-key}
 use Rattle.queue_model.specs.Refusals.{Check, limit-wrong, store-wrong, create-refusal}
 use Rattle.queue_model.specs.Image.{stream-record}
 use Rattle.queue_model.specs.Demands.{Created}
 pub use Rattle.queue_model.specs.Well.{CountersFit, Kept, Well}
-use Rattle.queue_model.proofs.Table.{found, missing, look-up, Rising, rising-put, sum-put-new, sum-put-old, sum-find, Every, every-put, every-weaken, length-sum}
+use Rattle.queue_model.proofs.Table.{found, missing, look-up, Rising, rising-put, sum-put-new, sum-put-old, sum-find, every-put, every-weaken, length-sum}
 use Rattle.queue_model.proofs.Checks.{all-passed, or-left, or-right, not-less, not-most}
 use Rattle.queue_model.proofs.Streams.{at-found, at-new, at-id, every-at, sum-put-at, unsent-bytes}
 use Rattle.queue_model.proofs.Invariant.Messages.{WellItem, WellRest, WellItems, WellStream, WellQueue}

@@ -1,6 +1,5 @@
 -- `receiver_store::drop_payload` meets its contract: each way out is a case of `dropPayload`. Assumes nothing.
 use borrow.Author.Needs.{needs}
-use native.Mathlib.Omega.{arith}
 use Rattle.receiver_store.proofs.Exits.{drop-refused, drop-held, drop-done}
 use Rattle.receiver_store.proofs.drop_payload.Statement.{statement}
 use Rattle.receiver_store.proofs.drop_payload.Tie as tie

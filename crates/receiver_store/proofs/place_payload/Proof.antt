@@ -1,9 +1,6 @@
 -- `receiver_store::place_payload` meets its contract: the five stores are those of `placed`. Assumes nothing.
 use borrow.Author.Needs.{needs}
 use native.Mathlib.Omega.{arith}
-use mathlib.Core.Path.{_≡_, ap, _∙_}
-use lib.ListN.{length}
-use Rattle.payload_store.proofs.Puts.{written-length}
 use Rattle.receiver_store.proofs.Exits.{placed-is, put-length}
 use Rattle.receiver_store.proofs.place_payload.Statement.{statement}
 use Rattle.receiver_store.proofs.place_payload.Tie as tie

@@ -1,7 +1,6 @@
 -- `receiver_store::put_payload` meets its contract: each way out is a case of `putPayload`. Assumes nothing.
 use borrow.Author.Needs.{needs}
-use native.Mathlib.Omega.{arith}
-use mathlib.Core.Path.{_≡_, ap, _∙_}
+use mathlib.Core.Path.{_∙_}
 use Rattle.receiver_store.proofs.Exits.{put-room, put-refused, put-at-end, put-packed, room-at-end, room-packed, placed-length, together-kept, sub-end}
 use Rattle.receiver_store.proofs.put_payload.Statement.{statement}
 use Rattle.receiver_store.proofs.put_payload.Tie as tie

@@ -1,7 +1,6 @@
 -- `receiver_store::read_payload` meets its contract: each way out is a case of `readPayload`. Assumes nothing.
 use borrow.Author.Needs.{needs}
 use native.Mathlib.Omega.{arith}
-use mathlib.Core.Path.{_≡_, ap, _∙_}
 use Rattle.receiver_store.proofs.Exits.{read-refused, read-held, read-done, read-fits, read-length}
 use Rattle.receiver_store.proofs.read_payload.Statement.{statement}
 use Rattle.receiver_store.proofs.read_payload.Tie as tie

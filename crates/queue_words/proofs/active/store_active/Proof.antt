@@ -1,6 +1,5 @@
 -- `queue_words::active::store_active` meets its contract: it is what `active_in` does, and the row's group is stale. Assumes nothing.
 use borrow.Author.Needs.{needs}
-use native.Mathlib.Omega.{arith}
 use Rattle.queue_words.proofs.Laws.{active-stored}
 use Rattle.queue_words.proofs.active.store_active.Statement.{statement}
 use Rattle.queue_words.proofs.active.store_active.Tie as tie

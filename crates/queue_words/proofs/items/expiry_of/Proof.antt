@@ -1,6 +1,5 @@
 -- Written by scripts/auto-proof; again, after `rt goals queue_words`: scripts/auto-proof --again queue_words items/expiry_of
 -- `queue_words::items::expiry_of` meets its contract: each return is what its definition says, by what the calls ensure and the tests taken. Assumes nothing.
-use borrow.Author.Needs.{needs}
 use borrow.Author.Tests.{eq-eqb, ne-eqb}
 use Rattle.queue_words.proofs.items.expiry_of.Statement.{statement}
 use Rattle.queue_words.proofs.items.expiry_of.Tie as tie

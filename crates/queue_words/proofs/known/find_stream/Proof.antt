@@ -1,5 +1,5 @@
 -- `queue_words::known::find_stream` meets its contract: each return is a case of `findStream`. Assumes nothing.
-use mathlib.Core.Path.{_≡_, sym, ap, subst, _∙_}
+use mathlib.Core.Path.{sym, ap, subst, _∙_}
 use Prim.Native.Nat.{_≤_, _<_}
 use borrow.Author.Needs.{needs}
 use Rattle.queue_words.specs.Find.{placeTested}

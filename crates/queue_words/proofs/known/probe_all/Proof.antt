@@ -1,8 +1,7 @@
 -- `queue_words::known::probe_all` meets its contract. Invariant: the steps left lead where all of them do. Assumes nothing.
-use mathlib.Core.Path.{_≡_, refl, sym, ap, _∙_}
+use mathlib.Core.Path.{_≡_, refl, sym, _∙_}
 use Prim.Native.Nat.{_+_, _≤_}
 use native.Mathlib.Omega.{arith}
-use Rattle.queue_words.specs.declared.known.Probe.{Probe}
 use Rattle.queue_words.specs.Find.{all, probes}
 use Rattle.queue_words.proofs.Finds.{shrinks, one-more, no-more, stays-within}
 use Rattle.queue_words.proofs.known.probe_all.Statement.{statement}

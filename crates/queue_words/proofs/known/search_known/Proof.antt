@@ -1,6 +1,5 @@
 -- `queue_words::known::search_known` meets its contract: each return is a case of `foundAt`. Assumes nothing.
-use mathlib.Core.Path.{_≡_, sym, ap}
-use Prim.Native.Nat.{ℕ}
+use mathlib.Core.Path.{sym, ap}
 use borrow.Author.Needs.{needs}
 use borrow.Author.Tests.{lt-ltb, le-ltb, eq-eqb, ne-eqb}
 use Rattle.queue_words.specs.declared.known.Known.{Known}

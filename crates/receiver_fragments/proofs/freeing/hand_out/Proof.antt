@@ -2,7 +2,6 @@
 use mathlib.Core.Path.{_≡_, refl}
 use Prim.Native.Nat.{_*_, _≤_, _<_, _-_}
 use native.Mathlib.Omega.{arith}
-use borrow.Author.Needs.{needs}
 use lib.ListN.{length}
 use Rattle.receiver_fragments.specs.Freeing.{handOut}
 use Rattle.receiver_fragments.proofs.Steps.{hand-kept, hand-last, hand-none, hand-long, hand-next, hand-end}

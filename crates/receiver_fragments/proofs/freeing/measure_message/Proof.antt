@@ -1,6 +1,6 @@
 -- `receiver_fragments::freeing::measure_message` meets its contract: what is left to measure from here is what was to measure. Assumes nothing.
 use mathlib.Core.Path.{_≡_, refl}
-use Prim.Native.Nat.{_*_, _≤_, _<_, _-_}
+use Prim.Native.Nat.{_≤_, _<_, _-_}
 use native.Mathlib.Omega.{arith}
 use borrow.Author.Needs.{needs}
 use Rattle.receiver_fragments.specs.Freeing.{measured}

@@ -1,7 +1,6 @@
 -- Written by scripts/auto-proof; again, after `rt goals receiver_messages`: scripts/auto-proof --again receiver_messages keys/part_index
 -- `receiver_messages::keys::part_index` meets its contract: each return is what its definition says, by what the calls ensure and the tests taken.
 -- Assumes nothing.
-use borrow.Author.Needs.{needs}
 use mathlib.Core.Path.{refl}
 use native.Mathlib.Omega.{arith}
 use Rattle.receiver_messages.proofs.keys.part_index.Statement.{statement}

@@ -1,6 +1,6 @@
 -- `receiver_messages::readiness::promote` meets its contract: what is left to promote from here is what was to promote. Assumes nothing.
 use mathlib.Core.Path.{_≡_, refl}
-use Prim.Native.Nat.{_≤_, _<_, _-_}
+use Prim.Native.Nat.{_≤_, _-_}
 use native.Mathlib.Omega.{arith}
 use borrow.Author.Needs.{needs}
 use Rattle.receiver_messages.specs.Readiness.{promote}

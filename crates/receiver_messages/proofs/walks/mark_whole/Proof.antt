@@ -2,7 +2,6 @@
 use mathlib.Core.Path.{_≡_, refl}
 use Prim.Native.Nat.{_≤_, _<_, _-_}
 use native.Mathlib.Omega.{arith}
-use borrow.Author.Needs.{needs}
 use Rattle.receiver_messages.specs.Walks.{markWhole}
 use Rattle.receiver_messages.proofs.Steps.{mark-last, mark-none, mark-next, mark-end}
 use Rattle.receiver_messages.proofs.walks.mark_whole.Statement.{statement}

@@ -2,7 +2,6 @@
 use mathlib.Core.Path.{_≡_, refl}
 use Prim.Native.Nat.{_≤_, _<_, _-_}
 use native.Mathlib.Omega.{arith}
-use borrow.Author.Needs.{needs}
 use Rattle.receiver_messages.specs.Walks.{reachesLast}
 use Rattle.receiver_messages.proofs.Steps.{reach-last, reach-none, reach-next, reach-end}
 use Rattle.receiver_messages.proofs.walks.reaches_last.Statement.{statement}

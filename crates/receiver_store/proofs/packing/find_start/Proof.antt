@@ -1,5 +1,5 @@
 -- `receiver_store::packing::find_start` meets its contract: what is left to find from here is what was to find. Assumes nothing.
-use mathlib.Core.Path.{_≡_, refl, _∙_}
+use mathlib.Core.Path.{_≡_, refl}
 use Prim.Native.Nat.{_+_, _≤_, _-_}
 use native.Mathlib.Omega.{arith}
 use Rattle.receiver_store.specs.Packing.{startFrom}

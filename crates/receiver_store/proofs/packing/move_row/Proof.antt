@@ -1,7 +1,7 @@
 -- `receiver_store::packing::move_row` meets its contract: each way out is a case of `moveRow`. Assumes nothing.
 use borrow.Author.Needs.{needs}
 use native.Mathlib.Omega.{arith}
-use mathlib.Core.Path.{_≡_, ap, _∙_}
+use mathlib.Core.Path.{ap, _∙_}
 use Rattle.payload_store.proofs.Moves.{moved-length}
 use lib.ListN.{length}
 use Rattle.receiver_store.proofs.Exits.{row-in, row-stays, row-there, row-goes}

@@ -1,9 +1,9 @@
 -- `receiver_store::packing::move_rows` meets its contract: what is left to move from here is what was to move. Assumes nothing.
-use mathlib.Core.Path.{_≡_, refl, ap, _∙_}
+use mathlib.Core.Path.{_≡_, refl, _∙_}
 use Prim.Native.Nat.{_≤_, _-_}
 use native.Mathlib.Omega.{arith}
 use lib.ListN.{length}
-use Rattle.payload_store.specs.Moving.{Pack, pack}
+use Rattle.payload_store.specs.Moving.{pack}
 use Rattle.receiver_store.specs.Packing.{packFrom}
 use Rattle.receiver_store.proofs.Steps.{pack-none, pack-next, pack-end}
 use Rattle.receiver_store.proofs.Exits.{row-same-length}

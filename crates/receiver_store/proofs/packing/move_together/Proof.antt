@@ -1,6 +1,5 @@
 -- `receiver_store::packing::move_together` meets its contract. Assumes nothing.
 use borrow.Author.Needs.{needs}
-use mathlib.Core.Path.{_≡_, ap, _∙_}
 use Rattle.receiver_store.proofs.Exits.{rows-same-length, all-moved}
 use Rattle.receiver_store.proofs.packing.move_together.Statement.{statement}
 use Rattle.receiver_store.proofs.packing.move_together.Tie as tie

@@ -1,7 +1,6 @@
 -- Written by scripts/auto-proof; again, after `rt goals receiver_store`: scripts/auto-proof --again receiver_store places/misplaced
 -- `receiver_store::places::misplaced` meets its contract: each return is what its definition says, by what the calls ensure and the tests taken. Assumes
 -- nothing.
-use borrow.Author.Needs.{needs}
 use borrow.Author.Tests.{le-ltb, lt-ltb}
 use Rattle.receiver_store.specs.Packing.{misplaced}
 use Rattle.receiver_store.proofs.places.misplaced.Statement.{statement}

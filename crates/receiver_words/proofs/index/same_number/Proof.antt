@@ -1,7 +1,6 @@
 -- Written by scripts/auto-proof; again, after `rt goals receiver_words`: scripts/auto-proof --again receiver_words index/same_number
 -- `receiver_words::index::same_number` meets its contract: each return is what its definition says, by what the calls ensure and the tests taken.
 -- Assumes nothing.
-use borrow.Author.Needs.{needs}
 use borrow.Author.Tests.{eq-eqb, ne-eqb}
 use Rattle.receiver_words.specs.Index.{sameNumber}
 use Rattle.receiver_words.proofs.index.same_number.Statement.{statement}

@@ -1,0 +1,2 @@
+-- A flag as a host gives it. Assumes nothing.
+pub mod Flag
