@@ -7,10 +7,9 @@ use Rattle.message_chains.proofs.dropping.parameters_in.Tie as tie
 
 returns : tie.Need-returns
 returns c =
-    rw
-    (
-    ← (c .before .load-totals .ensures),
-    ← (c .parameters-for .ensures)
+    rw (
+      ← (c .before .load-totals .ensures),
+      ← (c .parameters-for .ensures),
     )
 
 pub parameters-in-spec : {M : Type 1} → statement M

@@ -9,19 +9,21 @@ use Rattle.message_chains.proofs.dropping.schedule_behind.Tie as tie
 returns : tie.Need-returns
 unfolding scheduledBehind
 returns c =
-    rw
-    (
-    ← (c .before .before .before .is-pending .ensures),
-    (c .before .before .if1 .taken),
-    ← (c .remove-stream .ensures)
+    rw (
+      ← (c .before .before .before .is-pending .ensures),
+      (c .before .before .if1 .taken),
+      ← (c .remove-stream .ensures),
     )
 
 returns-2 : tie.Need-returns-2
 unfolding scheduledBehind
 returns-2 c =
-    rw
-    (
-    ← (c .set-bytes-remaining .ensures)
+    rw (
+      ← (c .before .before .before .before .before .before .before .is-pending .ensures),
+      (c .before .before .before .before .before .before .if1 .left),
+      ← (c .before .before .before .before .head-size .ensures),
+      ← (c .before .before .parameters-in .ensures),
+      ← (c .set-bytes-remaining .ensures),
     )
 
 pub schedule-behind-spec : {M : Type 1} → statement M

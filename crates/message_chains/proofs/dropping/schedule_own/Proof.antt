@@ -3,7 +3,7 @@
 -- Assumes nothing.
 use borrow.Author.Needs.{needs}
 use Rattle.message_chains.specs.Dropping.{scheduledBehind}
-use Rattle.message_chains.proofs.Own.{own-ends,own-waits}
+use Rattle.message_chains.proofs.Own.{own-ends, own-waits}
 use Rattle.message_chains.proofs.dropping.schedule_own.Statement.{statement}
 use Rattle.message_chains.proofs.dropping.schedule_own.Tie as tie
 
@@ -13,11 +13,10 @@ remove-own-requires c κs = own-ends _ _ _ _ (c .before .before .before .pre) _ 
 returns : tie.Need-returns
 unfolding scheduledBehind
 returns c =
-    rw
-    (
-    ← (c .before .before .before .is-pending .ensures),
-    (c .before .before .if1 .taken),
-    ← (c .remove-own .ensures)
+    rw (
+      ← (c .before .before .before .is-pending .ensures),
+      (c .before .before .if1 .taken),
+      ← (c .remove-own .ensures),
     )
 
 set-own-requires : tie.Need-set-own-requires
@@ -26,13 +25,12 @@ set-own-requires c κs = own-waits _ _ _ _ (c .before .before .before .before .b
 returns-2 : tie.Need-returns-2
 unfolding scheduledBehind
 returns-2 c =
-    rw
-    (
-    ← (c .before .before .before .before .before .before .before .is-pending .ensures),
-    (c .before .before .before .before .before .before .if1 .left),
-    ← (c .before .before .before .before .head-size .ensures),
-    ← (c .before .before .parameters-in .ensures),
-    ← (c .set-own .ensures)
+    rw (
+      ← (c .before .before .before .before .before .before .before .is-pending .ensures),
+      (c .before .before .before .before .before .before .if1 .left),
+      ← (c .before .before .before .before .head-size .ensures),
+      ← (c .before .before .parameters-in .ensures),
+      ← (c .set-own .ensures),
     )
 
 pub schedule-own-spec : {M : Type 1} → statement M
