@@ -1,6 +1,7 @@
 // The head of a stream: its first message.
 ghost use mathlib.Core.Path.{_≡_};
 ghost use Prim.Native.Nat.{_<_};
+ghost use Rattle.payload_store.specs.Dropping.{dropCode};
 ghost use Rattle.message_chains.specs.Notes.{notes};
 ghost use Rattle.message_chains.specs.Amounts.{rest};
 ghost use Rattle.message_chains.specs.Heads.{headCode, released, lastBehind, withoutHead, sentNotes, dropNotes, headDropped};
@@ -48,9 +49,10 @@ pub fn head_code(
     drop_code(queue, place)
 }
 
-// A message that is gone: its payload is dropped, its place comes first among the free ones, one message and n bytes fewer wait.
+// A message that is gone: its payload is dropped, its place comes first among the free ones, one message and n bytes fewer wait. Its
+// test (`drop_code`) has passed.
 pub fn release(queue: &mut [u64; QUEUE_WORDS], place: usize, n: u64)
-    requires { ⌜ place < 1024 ⌝ }
+    requires { ⌜ (place < 1024) × (dropCode (now queue) place ≡ 0) ⌝ }
     ensures { λ _. ⌜ now (queue .exit) ≡ released (now (queue .entry)) place n ⌝ }
 {
     drop_payload(queue, place);
@@ -110,7 +112,7 @@ pub fn sent_events(
     )
 }
 
-// Drops the head m of the stream s, which is left in a state: its events, its place, the stream without it.
+// Drops the head m of the stream s, which is left in a state: its events, its place, the stream without it. It may go.
 pub fn drop_head(
     queue: &mut [u64; QUEUE_WORDS],
     events: &mut [u64],
@@ -121,7 +123,7 @@ pub fn drop_head(
     state: PauseState,
     m: Item,
 ) -> usize
-    requires { ⌜ (row < 256) × (s .first < 1024) ⌝ }
+    requires { ⌜ (row < 256) × (s .first < 1024) × (dropCode (now queue) (s .first) ≡ 0) ⌝ }
     ensures { λ r. ⌜ (now (queue .exit) ≡ headDropped (now (queue .entry)) row s state m) × (notes (now (events .exit)) r ≡ dropNotes (now (queue .entry)) (now (events .entry)) k id s (rest m) (m .«lifecycle_id»)) ⌝ }
 {
     let n = remaining(m);

@@ -1,5 +1,5 @@
 -- A look in words that are not broken, and the parts of a fragment whose test has passed. Assumes nothing.
-use mathlib.Core.Path.{_≡_, sym, ap, _∙_}
+use mathlib.Core.Path.{_≡_, refl, sym, ap, _∙_, subst}
 use mathlib.Core.Bool.{Bool, true, false}
 use mathlib.Core.List.{List}
 use Prim.Native.Nat.{ℕ, _≤_, _<_}
@@ -14,27 +14,44 @@ use Rattle.queue_words.specs.Items.{itemAt}
 use Rattle.queue_words.specs.Streams.{streamAt}
 use Rattle.queue_words.specs.declared.active.ActiveStreamInfo.{ActiveStreamInfo}
 use Rattle.queue_words.specs.declared.items.Item.{Item}
+use Rattle.queue_words.specs.declared.known.Found.{Found}
 use Rattle.queue_words.specs.declared.known.Found.the-variants as found
 use Rattle.queue_words.specs.declared.streams.OutgoingStream.{OutgoingStream}
 use Rattle.queue_words.proofs.Finds.{find-hit, by-lt}
+use Rattle.payload_store.specs.Dropping.{dropCode}
 use Rattle.payload_store.specs.Reading.{readCode}
 use Rattle.payload_store.proofs.Cases.{pick-else}
+use Rattle.stream_scheduler.specs.Own.{HasRow}
 use Rattle.stream_scheduler.specs.Words.{peekWords}
+use Rattle.stream_scheduler.specs.declared.Peeked.{Peeked}
 use Rattle.stream_scheduler.specs.declared.Peeked.the-variants as peeked
+use Rattle.stream_scheduler.proofs.Peeks.{peek-in}
 use Rattle.message_chains.specs.Amounts.{rest}
-use Rattle.queue_sending.specs.Choice.{expiredBy, lookAt, lookFor, lookAhead}
+use Rattle.message_chains.specs.Heads.{headCode}
+use Rattle.message_chains.proofs.Goes.{head-may}
+use Rattle.queue_sending.specs.Choice.{expiredBy, lookAt, lookIn, lookFor, lookPeeked, lookAhead}
 use Rattle.queue_sending.specs.Fragment.{sendCode}
 use Rattle.queue_sending.specs.Own.{Unbroken}
 use Rattle.queue_sending.specs.declared.choice.Look.{Look}
 use Rattle.queue_sending.specs.declared.choice.Look.the-variants as look
 
--- the bytes of a fragment that may be sent may be read
-pub send-reads : (ws : List ℕ) (len : ℕ) (s : OutgoingStream) (m : Item) (n room : ℕ) → sendCode ws len s m n room ≡ 0 → readCode ws len (s .first) (m .offset) n room ≡ 0
-unfolding sendCode
-send-reads ws len s m n room e =
-    let t1 = pick-else (ltb (rest m) n) 16 _ 0 (λ z. omega arith) e in
-    let t2 = pick-else (ltb 0 (readCode ws len (s .first) (m .offset) n room)) 16 _ 0 (λ z. omega arith) (t1 .1) in
-    omega (arith, ltb-false 0 (readCode ws len (s .first) (m .offset) n room) (t2 .0))
+-- ---- a fragment that may be sent
+
+module _ (ws : List ℕ) (len : ℕ) (s : OutgoingStream) (m : Item) (n room : ℕ) (e : sendCode ws len s m n room ≡ 0) where
+  send-parts : (readCode ws len (s .first) (m .offset) n room ≡ 0) × (headCode ws s (s .first) (m .next) n ≡ 0)
+  unfolding sendCode
+  send-parts =
+      let t1 = pick-else (ltb (rest m) n) 16 _ 0 (λ z. omega arith) e in
+      let t2 = pick-else (ltb 0 (readCode ws len (s .first) (m .offset) n room)) 16 _ 0 (λ z. omega arith) (t1 .1) in
+      (omega (arith, ltb-false 0 (readCode ws len (s .first) (m .offset) n room) (t2 .0)), t2 .1)
+
+  -- its bytes may be read
+  pub send-reads : readCode ws len (s .first) (m .offset) n room ≡ 0
+  send-reads = send-parts .0
+
+  -- the message may go with it
+  pub send-goes : dropCode ws (s .first) ≡ 0
+  send-goes = head-may ws s (s .first) (m .next) n (send-parts .1)
 
 -- ---- the head of the stream in a row
 
@@ -107,3 +124,45 @@ module _ (ws : List ℕ) (time : ℕ) (y : Unbroken (lookAhead ws time)) where
   pub none-looked : peeked.Nothing ≡ peekWords ws → look.Nothing ≡ lookAhead ws time
   unfolding lookAhead
   none-looked e = rw (← e)
+
+-- ---- the row of a head to send
+
+-- a head to send is that of the row a
+abbrev OfRow : ℕ → Look → Type 0
+OfRow a look.Nothing = Unit {0}
+OfRow a look.Broken = Unit {0}
+OfRow a (look.Expired id row) = Unit {0}
+OfRow a (look.Chosen at id row) = at ≡ a
+
+either : (a : ℕ) (b : Bool) (x y : Look) → OfRow a x → OfRow a y → OfRow a (pick b x y)
+either a true x y h k = h
+either a false x y h k = k
+
+for-row : (ws : List ℕ) (time a id : ℕ) → OfRow a (lookFor ws time a id)
+unfolding lookFor lookAt
+for-row ws time a id = by (findStream ws id)
+  where
+    by : (f : Found) → OfRow a (lookIn ws time a id f)
+    by (found.At p row) = either a (ltb 1023 (streamAt ws row .first)) _ _ tt (either a (expiredBy (itemAt ws (streamAt ws row .first)) time) _ _ tt refl)
+    by (found.Gap p) = tt
+    by found.Broken = tt
+
+module _ (ws : List ℕ) (time at id row : ℕ) (e : look.Chosen at id row ≡ lookAhead ws time) where
+  chosen-unbroken : Unbroken (lookAhead ws time)
+  chosen-unbroken z = let q : _≡_ {A = ℕ} 0 1 = cc (e, z) in omega arith
+
+  chosen-in : at < schedulerAt ws .active
+  unfolding lookAhead
+  chosen-in = by (peekWords ws) refl e
+    where
+      by : (p : Peeked) → p ≡ peekWords ws → look.Chosen at id row ≡ lookPeeked ws time p → at < schedulerAt ws .active
+      by (peeked.At a) f g =
+          let x : ℕ = activeAt ws a .«stream_id» .0 in
+          let h : at ≡ a = subst (OfRow a) (sym g) (either a (ltb 255 a) look.Broken (lookFor ws time a x) tt (for-row ws time a x)) in
+          omega (arith, h, peek-in ws a f)
+      by peeked.Nothing f g = let z : _≡_ {A = ℕ} 0 1 = cc g in absurd (omega arith)
+      by peeked.Broken f g = let z : _≡_ {A = ℕ} 0 1 = cc g in absurd (omega arith)
+
+  -- A head to send is that of a row that the scheduler has.
+  pub chosen-row : HasRow ws at
+  chosen-row = (rows-few ws time chosen-unbroken, chosen-in)

@@ -15,6 +15,7 @@ use Rattle.queue_words.specs.Streams.{streamAt}
 use Rattle.queue_words.specs.declared.active.ActiveStreamInfo.{ActiveStreamInfo}
 use Rattle.queue_words.specs.declared.items.Item.{Item}
 use Rattle.queue_words.specs.declared.streams.OutgoingStream.{OutgoingStream}
+use Rattle.stream_scheduler.specs.Own.{HasRow}
 use Rattle.queue_streams.specs.Events.{placeWords, eventWords}
 use Rattle.queue_streams.specs.Settings.{CalledWith, calledWith}
 use Rattle.queue_streams.specs.declared.answers.Call.{Call}
@@ -23,7 +24,7 @@ use Rattle.undo_log.specs.Log.{header, undone}
 use Rattle.queue_sending.specs.Choice.{lookAhead}
 use Rattle.queue_sending.specs.Data.{ProducedWith, producedWith, refusedWith}
 use Rattle.queue_sending.specs.Fragment.{leastOf, sendCode, sent, chosenCode, handedOut}
-use Rattle.queue_sending.specs.Next.{sentNext, refusedNext, nextFound, nextPassed, Leads}
+use Rattle.queue_sending.specs.Next.{sentNext, refusedNext, nextFound, nextPassed, FromRow, Leads}
 use Rattle.queue_sending.specs.Passing.{Kept}
 use Rattle.queue_sending.specs.Produce.{passed, sentFound, sentChosen, sentAfter, refusal, copied, pastFrom, producedPast}
 use Rattle.queue_sending.specs.declared.choice.Look.{Look}
@@ -32,6 +33,7 @@ use Rattle.queue_sending.specs.declared.data.DataToSend.{DataToSend}
 use Rattle.queue_sending.specs.declared.data.Produced.the-variants as produced
 use Rattle.queue_sending.specs.declared.next.Next.{Next}
 use Rattle.queue_sending.specs.declared.next.Next.the-variants as next
+use Rattle.queue_sending.proofs.Ahead.{chosen-row}
 use Rattle.queue_sending.proofs.Passes.{true-false, expiredFound, both-parts, past-refused, past-kept, logged-refused, logged-kept, found-past}
 
 -- ------------------------------------------------------------------ handing out and its test
@@ -101,40 +103,42 @@ module _ (ws st es bs : List ℕ) (size k at id row : ℕ) where
 -- ------------------------------------------------------------------ what follows a look
 
 refuses : (code : ℕ) (ws st es bs : List ℕ) (size : ℕ) → Leads (next.Refused code) ws st es bs size (refusedWith code ws es bs)
-refuses code ws st es bs size = record { sends = refl; tells = refl }
+refuses code ws st es bs size = record { sends = refl; tells = refl; in-row = tt }
 
 module _ (ws st es bs : List ℕ) (size k : ℕ) where
   nothing-leads : (b : Bool) → Leads (pick b (next.Refused 16) (next.Nothing k)) ws st es bs size (pick b (refusedWith 16 ws es bs) (producedWith (produced.Nothing k) ws es bs))
   nothing-leads true = refuses 16 ws st es bs size
-  nothing-leads false = record { sends = refl; tells = refl }
+  nothing-leads false = record { sends = refl; tells = refl; in-row = tt }
 
-  chosen-leads : (at id row : ℕ) (b : Bool) → ltb 0 (chosenCode ws (length st) (length bs) size k at row) ≡ b
+  chosen-leads : (at id row : ℕ) → HasRow ws at → (b : Bool) → ltb 0 (chosenCode ws (length st) (length bs) size k at row) ≡ b
       → Leads (pick b (next.Refused (chosenCode ws (length st) (length bs) size k at row)) (next.Chosen k at id row)) ws st es bs size (handedOut ws st es bs size k at id row)
-  chosen-leads at id row true h =
+  chosen-leads at id row i true h =
       let e = hand-refused ws st es bs size k at id row (chosenCode ws (length st) (length bs) size k at row) refl (ltb-true 0 (chosenCode ws (length st) (length bs) size k at row) h) in
-      record { sends = e; tells = ap (λ (p : ProducedWith). refusal (p .answer)) e }
-  chosen-leads at id row false h =
-      record { sends = refl; tells = sym (hand-told ws st es bs size k at id row (omega (arith, ltb-false 0 (chosenCode ws (length st) (length bs) size k at row) h))) }
+      record { sends = e; tells = ap (λ (p : ProducedWith). refusal (p .answer)) e; in-row = tt }
+  chosen-leads at id row i false h =
+      let z : chosenCode ws (length st) (length bs) size k at row ≡ 0 = omega (arith, ltb-false 0 (chosenCode ws (length st) (length bs) size k at row) h) in
+      record { sends = refl; tells = sym (hand-told ws st es bs size k at id row z); in-row = i }
 
-  found-leads : (f : Look) (n : Next) → n ≡ nextFound ws (length st) (length bs) size k f → Leads n ws st es bs size (sentFound ws st es bs size k f)
-  found-leads f n e = subst (λ (x : Next). Leads x ws st es bs size (sentFound ws st es bs size k f)) (sym e) (by f)
+  found-leads : (time : ℕ) (f : Look) (n : Next) → f ≡ lookAhead ws time → n ≡ nextFound ws (length st) (length bs) size k f
+      → Leads n ws st es bs size (sentFound ws st es bs size k f)
+  found-leads time f n ef e = subst (λ (x : Next). Leads x ws st es bs size (sentFound ws st es bs size k f)) (sym e) (by f ef)
     where
-      by : (f : Look) → Leads (nextFound ws (length st) (length bs) size k f) ws st es bs size (sentFound ws st es bs size k f)
-      by look.Nothing = nothing-leads (ltb 2305 k)
-      by look.Broken = refuses 16 ws st es bs size
-      by (look.Expired id row) = refuses 16 ws st es bs size
-      by (look.Chosen at id row) = chosen-leads at id row (ltb 0 (chosenCode ws (length st) (length bs) size k at row)) refl
+      by : (f : Look) → f ≡ lookAhead ws time → Leads (nextFound ws (length st) (length bs) size k f) ws st es bs size (sentFound ws st es bs size k f)
+      by look.Nothing g = nothing-leads (ltb 2305 k)
+      by look.Broken g = refuses 16 ws st es bs size
+      by (look.Expired id row) g = refuses 16 ws st es bs size
+      by (look.Chosen at id row) g = chosen-leads at id row (chosen-row ws time at id row g) (ltb 0 (chosenCode ws (length st) (length bs) size k at row)) refl
 
   -- Where nothing has expired any more, that is all that is left of passing over.
   pub found-ends : (time m : ℕ) (f : Look) (n : Next) → f ≡ lookAhead ws time → expiredFound f ≡ false → n ≡ nextFound ws (length st) (length bs) size k f → Leads n ws st es bs size (pastFrom ws st es bs time size m k)
-  found-ends time m f n ef g e = subst (λ (p : ProducedWith). Leads n ws st es bs size p) (found-past ws st es bs time size m k f ef g) (found-leads f n e)
+  found-ends time m f n ef g e = subst (λ (p : ProducedWith). Leads n ws st es bs size p) (found-past ws st es bs time size m k f ef g) (found-leads time f n ef e)
 
 passed-leads : (ws st es bs : List ℕ) (time size : ℕ) (d : Call) (n : Next) → n ≡ nextPassed ws (length st) (length bs) time size d → Leads n ws st es bs size (sentAfter ws st es bs time size d)
 unfolding sentChosen
 passed-leads ws st es bs time size d n e = subst (λ (x : Next). Leads x ws st es bs size (sentAfter ws st es bs time size d)) (sym e) (by d)
   where
     by : (d : Call) → Leads (nextPassed ws (length st) (length bs) time size d) ws st es bs size (sentAfter ws st es bs time size d)
-    by (call.Accepted k) = found-leads ws st es bs size k (lookAhead ws time) (nextFound ws (length st) (length bs) size k (lookAhead ws time)) refl
+    by (call.Accepted k) = found-leads ws st es bs size k time (lookAhead ws time) (nextFound ws (length st) (length bs) size k (lookAhead ws time)) refl refl
     by (call.Refused code) = refuses code ws st es bs size
 
 -- ------------------------------------------------------------------ kept or put back
@@ -143,8 +147,9 @@ passed-leads ws st es bs time size d n e = subst (λ (x : Next). Leads x ws st e
 says : (n : Next) (ws st es bs : List ℕ) (size : ℕ) (p : ProducedWith) → Leads n ws st es bs size p → refusedNext n ≡ refusal (sentNext ws st es bs size n .answer)
 says n ws st es bs size p g = g .tells ∙ ap (λ (x : ProducedWith). refusal (x .answer)) (sym (g .sends))
 
-led : (n : Next) (ws st es bs : List ℕ) (size : ℕ) (p : ProducedWith) → refusedNext n ≡ refusal (sentNext ws st es bs size n .answer) → sentNext ws st es bs size n ≡ p → Leads n ws st es bs size p
-led n ws st es bs size p g e = record { sends = e; tells = g ∙ ap (λ (x : ProducedWith). refusal (x .answer)) e }
+led : (n : Next) (ws st es bs : List ℕ) (size : ℕ) (p : ProducedWith) → refusedNext n ≡ refusal (sentNext ws st es bs size n .answer) → FromRow ws n
+    → sentNext ws st es bs size n ≡ p → Leads n ws st es bs size p
+led n ws st es bs size p g i e = record { sends = e; tells = g ∙ ap (λ (x : ProducedWith). refusal (x .answer)) e; in-row = i }
 
 -- after a copy of the words
 module _ (ws st es bs : List ℕ) (time size m k : ℕ) (d : Call) (l v : List ℕ) (ed : calledWith d l v ≡ passed m ws es time k) (n : Next) (en : n ≡ nextPassed l (length st) (length bs) time size d) where
@@ -154,7 +159,7 @@ module _ (ws st es bs : List ℕ) (time size m k : ℕ) (d : Call) (l v : List �
   pub copied-kept : refusedNext n ≡ false → Leads n l st v bs size (pastFrom ws st es bs time size m k)
   copied-kept h =
       let s = sentNext l st v bs size n in
-      led n l st v bs size (pastFrom ws st es bs time size m k) (says n l st v bs size (sentAfter l st v bs time size d) there)
+      led n l st v bs size (pastFrom ws st es bs time size m k) (says n l st v bs size (sentAfter l st v bs time size d) there) (there .in-row)
       (past-kept ws st es bs time size m k (s .answer) (s .words) (s .events) (s .buffer) (both-parts m ws st es bs time size k d l v s ed (there .sends)) (refusedNext n) (says n l st v bs size (sentAfter l st v bs time size d) there) h)
 
   pub copied-back : refusedNext n ≡ true → (zs saved w : List ℕ) → eventWords ≤ length es → saved ≡ copied zs es eventWords → w ≡ copied v saved eventWords → Leads n ws st w bs size (pastFrom ws st es bs time size m k)
@@ -163,7 +168,7 @@ module _ (ws st es bs : List ℕ) (time size m k : ℕ) (d : Call) (l v : List �
       by : (x : Next) → n ≡ x → Leads x ws st w bs size (pastFrom ws st es bs time size m k)
       by (next.Refused code) e =
           let s : refusedWith code l v bs ≡ sentAfter l st v bs time size d = ap (λ (x : Next). sentNext l st v bs size x) (sym e) ∙ there .sends in
-          led (next.Refused code) ws st w bs size (pastFrom ws st es bs time size m k) refl
+          led (next.Refused code) ws st w bs size (pastFrom ws st es bs time size m k) refl tt
           (past-refused ws st es bs time size m k (produced.Refused code) l v bs (both-parts m ws st es bs time size k d l v (refusedWith code l v bs) ed s) true refl refl zs saved w long esaved ew)
       by (next.Nothing j) e = let z : true ≡ false = sym h ∙ ap refusedNext e in absurd (true-false z)
       by (next.Chosen j at id row) e = let z : true ≡ false = sym h ∙ ap refusedNext e in absurd (true-false z)
@@ -174,7 +179,7 @@ module _ (room : ℕ) (ws st es bs : List ℕ) (time size m k : ℕ) (log us vs 
   pub log-kept : q ≡ false → Leads n l st v bs size (pastFrom ws st es bs time size m k)
   log-kept h =
       let s = sentNext l st v bs size n in
-      led n l st v bs size (pastFrom ws st es bs time size m k) (says n l st v bs size (pastFrom us st vs bs time size left count) p)
+      led n l st v bs size (pastFrom ws st es bs time size m k) (says n l st v bs size (pastFrom us st vs bs time size left count) p) (p .in-row)
       (logged-kept room ws st es bs time size m k log us vs left count drops g (s .answer) (s .words) (s .events) (s .buffer) (p .sends) q (eq ∙ says n l st v bs size (pastFrom us st vs bs time size left count) p) h)
 
   pub log-back : q ≡ true → (zs xs saved head w x : List ℕ) (few : ℕ) → (k + room * 4) * placeWords ≤ few → few ≤ length es → header ≤ length ws
@@ -185,7 +190,7 @@ module _ (room : ℕ) (ws st es bs : List ℕ) (time size m k : ℕ) (log us vs 
       by : (y : Next) → n ≡ y → Leads y w st x bs size (pastFrom ws st es bs time size m k)
       by (next.Refused code) e =
           let s : refusedWith code l v bs ≡ pastFrom us st vs bs time size left count = ap (λ (y : Next). sentNext l st v bs size y) (sym e) ∙ p .sends in
-          led (next.Refused code) w st x bs size (pastFrom ws st es bs time size m k) refl
+          led (next.Refused code) w st x bs size (pastFrom ws st es bs time size m k) refl tt
           (logged-refused room ws st es bs time size m k log us vs left count drops g (produced.Refused code) l v bs s true refl refl zs xs saved head w x few fits le lw eh es′ ew ls ex)
       by (next.Nothing j) e = let z : true ≡ false = sym h ∙ eq ∙ ap refusedNext e in absurd (true-false z)
       by (next.Chosen j at id row) e = let z : true ≡ false = sym h ∙ eq ∙ ap refusedNext e in absurd (true-false z)

@@ -51,8 +51,8 @@ numbered-first s m = by (areGiven (m .numbers)) (m .unordered) _ _ refl refl
     by false true x y e g = e
     by false false x y e g = g
 
-pub first-fits : (s : OutgoingStream) (m : Item) (o : OutgoingStream) → o ≡ numberedStream s m → s .first < 1024 → o .first < 1024
-first-fits s m o e h = subst (λ (x : ℕ). x < 1024) (sym (ap (λ (x : OutgoingStream). x .first) e ∙ numbered-first s m)) h
+pub first-same : (s : OutgoingStream) (m : Item) (o : OutgoingStream) → o ≡ numberedStream s m → o .first ≡ s .first
+first-same s m o e = ap (λ (x : OutgoingStream). x .first) e ∙ numbered-first s m
 
 -- ------------------------------------------------------------------ passing over
 

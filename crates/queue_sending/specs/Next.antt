@@ -5,6 +5,7 @@ use mathlib.Core.Bool.{Bool, true, false}
 use mathlib.Core.List.{List}
 use lib.Dec.{ltb}
 use Rattle.queue_words.specs.Flags.{pick}
+use Rattle.stream_scheduler.specs.Own.{HasRow}
 use Rattle.queue_streams.specs.declared.answers.Call.{Call}
 use Rattle.queue_streams.specs.declared.answers.Call.the-variants as call
 use Rattle.queue_sending.specs.Choice.{lookAhead}
@@ -42,7 +43,14 @@ abbrev pub nextPassed : List ℕ → ℕ → ℕ → ℕ → ℕ → Call → Ne
 nextPassed ws len room time size (call.Accepted k) = nextFound ws len room size k (lookAhead ws time)
 nextPassed ws len room time size (call.Refused code) = next.Refused code
 
--- What is next leads to p: doing it leaves p, and it says whether p is a refusal.
+-- a head is handed out from a row that the scheduler has
+abbrev pub FromRow : List ℕ → Next → Type 0
+FromRow ws (next.Refused code) = Unit {0}
+FromRow ws (next.Nothing k) = Unit {0}
+FromRow ws (next.Chosen k at id row) = HasRow ws at
+
+-- What is next leads to p: doing it leaves p, it says whether p is a refusal, and the row that it hands out from is one of the scheduler's.
 pub record Leads (n : Next) (ws st es bs : List ℕ) (size : ℕ) (p : ProducedWith) : Type 0 where
   pub sends : sentNext ws st es bs size n ≡ p
   pub tells : refusedNext n ≡ refusal (p .answer)
+  pub in-row : FromRow ws n

@@ -2,6 +2,8 @@
 ghost use mathlib.Core.Path.{_≡_};
 ghost use Prim.Native.Nat.{_<_};
 ghost use lib.ListN.{length};
+ghost use Rattle.payload_store.specs.Dropping.{dropCode};
+ghost use Rattle.stream_scheduler.specs.Own.{HasRow};
 ghost use Rattle.queue_sending.specs.Data.{producedWith};
 ghost use Rattle.queue_sending.specs.declared.data.Produced.the-variants.{Fragment};
 ghost use Rattle.queue_sending.specs.Fragment.{leastOf, sendCode, nextFirst, finished, wentOn, wentFurther, writtenSent, sent, chosenCode, handedOut};
@@ -38,8 +40,8 @@ use queue_words::streams::OutgoingStream;
 use queue_words::streams::PauseState;
 use queue_words::streams::load_stream;
 use queue_words::streams::store_stream;
-use stream_scheduler::accept;
-use stream_scheduler::anew::accept_last;
+use stream_scheduler::anew::accept_last_own;
+use stream_scheduler::own::accept_own;
 
 // The most events before a fragment, which adds two at most.
 const MOST_BEFORE_FRAGMENT: usize = EVENT_PLACES - 2;
@@ -88,6 +90,7 @@ fn next_first(state: PauseState, next: u64) -> u64
 }
 
 // After a last fragment of n bytes: the message m is gone from the stream s, which has given its numbers and waits with what is behind.
+// It may go: nothing is tested.
 fn finish(
     queue: &mut [u64; QUEUE_WORDS],
     at: usize,
@@ -97,7 +100,7 @@ fn finish(
     m: Item,
     n: u64,
 )
-    requires { ⌜ (row < 256) × (s .first < 1024) ⌝ }
+    requires { ⌜ (row < 256) × (s .first < 1024) × HasRow (now queue) at × (dropCode (now queue) (s .first) ≡ 0) ⌝ }
     ensures { λ _. ⌜ now (queue .exit) ≡ finished (now (queue .entry)) at id row s m n ⌝ }
 {
     let state = s.pause_state;
@@ -106,7 +109,7 @@ fn finish(
     let first = next_first(after, m.next);
     let bytes = head_size(&*queue, first);
     let p = parameters_for(t.interleaving, s.priority);
-    accept_last(queue, at, id, n, bytes, p);
+    accept_last_own(queue, at, id, n, bytes, p);
     release(queue, s.first as usize, n);
     let o = without_head(s, after, m.next, n);
     store_stream(queue, row, o);
@@ -149,7 +152,7 @@ fn go_further(queue: &mut [u64; QUEUE_WORDS], row: usize, s: OutgoingStream, m: 
 }
 
 // The words after a fragment of n bytes of the numbered message m of the stream s, which has given its numbers; `had` says whether the
-// message had them before.
+// message had them before. It may go.
 fn write_sent(
     queue: &mut [u64; QUEUE_WORDS],
     at: usize,
@@ -160,7 +163,7 @@ fn write_sent(
     n: u64,
     had: bool,
 )
-    requires { ⌜ (row < 256) × (s .first < 1024) ⌝ }
+    requires { ⌜ (row < 256) × (s .first < 1024) × HasRow (now queue) at × (dropCode (now queue) (s .first) ≡ 0) ⌝ }
     ensures { λ _. ⌜ now (queue .exit) ≡ writtenSent (now (queue .entry)) at id row s m n had ⌝ }
 {
     let left = remaining(m);
@@ -168,7 +171,7 @@ fn write_sent(
         finish(queue, at, id, row, s, m, n);
         return;
     }
-    accept(queue, at, n);
+    accept_own(queue, at, n);
     if had {
         go_further(queue, row, s, m, n);
         return;
@@ -196,7 +199,7 @@ fn send(
     m: Item,
     n: u64,
 ) -> Handed
-    requires { ⌜ (row < 256) × (s .first < 1024) × (sendCode (now queue) (length (now store)) s m n (length (now buffer)) ≡ 0) ⌝ }
+    requires { ⌜ (row < 256) × (s .first < 1024) × (sendCode (now queue) (length (now store)) s m n (length (now buffer)) ≡ 0) × HasRow (now queue) at ⌝ }
     ensures { λ r. ⌜ producedWith (Fragment (r .count) (r .fragment)) (now (queue .exit)) (now (events .exit)) (now (buffer .exit)) ≡ sent (now (queue .entry)) (now (store .entry)) (now (events .entry)) (now (buffer .entry)) k at id row s m n ⌝ }
 {
     read_own(&*queue, store, s.first as usize, m.offset, n, buffer);
@@ -257,7 +260,7 @@ pub fn hand_own(
     id: u16,
     row: usize,
 ) -> Handed
-    requires { ⌜ chosenCode (now queue) (length (now store)) (length (now buffer)) size k at row ≡ 0 ⌝ }
+    requires { ⌜ (chosenCode (now queue) (length (now store)) (length (now buffer)) size k at row ≡ 0) × HasRow (now queue) at ⌝ }
     ensures { λ r. ⌜ producedWith (Fragment (r .count) (r .fragment)) (now (queue .exit)) (now (events .exit)) (now (buffer .exit)) ≡ handedOut (now (queue .entry)) (now (store .entry)) (now (events .entry)) (now (buffer .entry)) size k at id row ⌝ }
 {
     let s = load_stream(&*queue, row);
@@ -267,8 +270,8 @@ pub fn hand_own(
     send(queue, store, events, buffer, k, at, id, row, s, m, n)
 }
 
-// Hands out at most `size` bytes of the chosen head, after k events. It has one caller, which answers what it answers: so what goes with
-// a fragment is written once.
+// Hands out at most `size` bytes of the chosen head, after k events; a look has found the row. It has one caller, which answers what it
+// answers: so what goes with a fragment is written once.
 pub fn hand_out(
     queue: &mut [u64; QUEUE_WORDS],
     store: &[u8],
@@ -280,6 +283,7 @@ pub fn hand_out(
     id: u16,
     row: usize,
 ) -> Produced
+    requires { ⌜ HasRow (now queue) at ⌝ }
     ensures { λ r. ⌜ producedWith r (now (queue .exit)) (now (events .exit)) (now (buffer .exit)) ≡ handedOut (now (queue .entry)) (now (store .entry)) (now (events .entry)) (now (buffer .entry)) size k at id row ⌝ }
 {
     let code = chosen_code(

@@ -5,7 +5,7 @@ ghost use lib.ListN.{length};
 ghost use Rattle.queue_streams.specs.Events.{eventWords};
 ghost use Rattle.queue_sending.specs.Choice.{lookAhead};
 ghost use Rattle.queue_sending.specs.Data.{producedWith};
-ghost use Rattle.queue_sending.specs.Next.{sentNext, Leads};
+ghost use Rattle.queue_sending.specs.Next.{sentNext, FromRow, Leads};
 ghost use Rattle.queue_sending.specs.Produce.{lentCode, produceCode, producedPast, afterLook, producedAfter, produceNext};
 ghost use Rattle.queue_sending.specs.declared.choice.Look.the-variants.{Expired};
 use crate::choice::Look;
@@ -108,7 +108,7 @@ fn next_looked(
     found: Look,
 ) -> Next
     requires { ⌜ (eventWords ≤ length (now events)) × (found ≡ lookAhead (now queue) time) ⌝ }
-    ensures { λ r. ⌜ sentNext (now (queue .exit)) (now (store .entry)) (now (events .exit)) (now (buffer .entry)) size r ≡ afterLook (λ (id row : ℕ). producedPast (now (queue .entry)) (now (store .entry)) (now (events .entry)) (now (buffer .entry)) time size k) (now (queue .entry)) (now (store .entry)) (now (events .entry)) (now (buffer .entry)) size k found ⌝ }
+    ensures { λ r. ⌜ (sentNext (now (queue .exit)) (now (store .entry)) (now (events .exit)) (now (buffer .entry)) size r ≡ afterLook (λ (id row : ℕ). producedPast (now (queue .entry)) (now (store .entry)) (now (events .entry)) (now (buffer .entry)) time size k) (now (queue .entry)) (now (store .entry)) (now (events .entry)) (now (buffer .entry)) size k found) × FromRow (now (queue .exit)) r ⌝ }
 {
     match found {
         Look::Expired(id, row) => pass_waiting(

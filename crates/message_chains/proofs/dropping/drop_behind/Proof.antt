@@ -3,9 +3,13 @@
 -- Assumes nothing.
 use borrow.Author.Needs.{needs}
 use Rattle.message_chains.specs.Dropping.{behindDropped}
+use Rattle.message_chains.proofs.Goes.{behind-may}
 use Rattle.message_chains.proofs.Lemmas.{behind-refused}
 use Rattle.message_chains.proofs.dropping.drop_behind.Statement.{statement}
 use Rattle.message_chains.proofs.dropping.drop_behind.Tie as tie
+
+drop-head-requires : tie.Need-drop-head-requires
+drop-head-requires c κs = ((c .before .before .before .before .before .before .before .pre .0), (c .before .before .before .before .before .before .before .pre .1), behind-may _ _ _ _ _ _ _ (c .before .before .before .before .before .before .before .pre .1) (c .before .before .before .before .schedule-behind .ensures) (c .before .before .before .before .before .before .before .pre .2))
 
 returns : tie.Need-returns
 unfolding behindDropped
@@ -33,7 +37,7 @@ drop-behind-spec =
     (tie.spec
     (λ c. search needs)
     (λ c. search needs)
-    (λ c. search needs)
+    drop-head-requires
     (λ c. search needs)
     returns
     returns-2)

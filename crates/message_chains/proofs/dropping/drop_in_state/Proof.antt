@@ -4,8 +4,12 @@
 use borrow.Author.Needs.{needs}
 use borrow.Author.Tests.{le-ltb, lt-ltb}
 use Rattle.message_chains.specs.Dropping.{droppedInState}
+use Rattle.message_chains.proofs.Goes.{head-passed}
 use Rattle.message_chains.proofs.dropping.drop_in_state.Statement.{statement}
 use Rattle.message_chains.proofs.dropping.drop_in_state.Tie as tie
+
+drop-behind-requires : tie.Need-drop-behind-requires
+drop-behind-requires c κs = ((c .before .before .before .before .before .before .before .pre .0), (c .before .before .before .before .before .before .before .pre .1), head-passed _ _ _ _ _ _ (c .before .before .before .head-code .ensures) (c .before .before .if1 .left))
 
 returns : tie.Need-returns
 unfolding droppedInState
@@ -33,6 +37,6 @@ drop-in-state-spec =
     (λ c. search needs)
     (λ c. search needs)
     returns
-    (λ c. search needs)
+    drop-behind-requires
     (λ c. search needs)
     returns-2)

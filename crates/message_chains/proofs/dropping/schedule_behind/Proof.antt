@@ -19,11 +19,10 @@ returns-2 : tie.Need-returns-2
 unfolding scheduledBehind
 returns-2 c =
     rw (
-      ← (c .before .before .before .before .before .before .before .before .is-pending .ensures),
-      (c .before .before .before .before .before .before .before .if1 .left),
-      ← (c .before .before .before .before .before .load-totals .ensures),
-      ← (c .before .before .before .head-size .ensures),
-      ← (c .before .before .parameters-for .ensures),
+      ← (c .before .before .before .before .before .before .before .is-pending .ensures),
+      (c .before .before .before .before .before .before .if1 .left),
+      ← (c .before .before .before .before .head-size .ensures),
+      ← (c .before .before .parameters-in .ensures),
       ← (c .set-bytes-remaining .ensures),
     )
 
@@ -34,7 +33,6 @@ schedule-behind-spec =
     (λ c. search needs)
     (λ c. search needs)
     returns
-    (λ c. search needs)
     (λ c. search needs)
     (λ c. search needs)
     (λ c. search needs)

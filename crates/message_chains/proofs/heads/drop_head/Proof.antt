@@ -7,6 +7,9 @@ use Rattle.message_chains.specs.Heads.{headDropped, dropNotes}
 use Rattle.message_chains.proofs.heads.drop_head.Statement.{statement}
 use Rattle.message_chains.proofs.heads.drop_head.Tie as tie
 
+release-requires : tie.Need-release-requires
+release-requires c κs = ((c .before .before .before .before .before .before .before .before .before .before .before .before .pre .1), (c .before .before .before .before .before .before .before .before .before .before .before .before .pre .2))
+
 returns : tie.Need-returns
 unfolding headDropped dropNotes
 returns c =
@@ -26,7 +29,7 @@ drop-head-spec =
     (λ c. search needs)
     (λ c. search needs)
     (λ c. search needs)
-    (λ c. search needs)
+    release-requires
     (λ c. search needs)
     (λ c. search needs)
     (λ c. search needs)

@@ -9,7 +9,7 @@ returns : tie.Need-returns
 unfolding released
 returns c =
     rw (
-      ← (c .before .before .before .before .before .before .before .before .drop-payload .ensures .1),
+      ← (c .before .before .before .before .before .before .before .before .drop-payload .ensures),
       ← (c .before .before .before .before .before .before .load-totals .ensures),
       ← (c .before .before .before .before .store-next .ensures),
       ← (c .before .before .before .minus .ensures),

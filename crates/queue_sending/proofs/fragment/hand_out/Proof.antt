@@ -9,7 +9,7 @@ returns : tie.Need-returns
 returns c = hand-refused _ _ _ _ _ _ _ _ _ _ (c .before .chosen-code .ensures) (c .if1 .taken)
 
 hand-own-requires : tie.Need-hand-own-requires
-hand-own-requires c κs = omega (arith, (c .before .before .before .before .chosen-code .ensures), (c .before .before .before .if1 .left))
+hand-own-requires c κs = (omega (arith, (c .before .before .before .before .chosen-code .ensures), (c .before .before .before .if1 .left)), c .before .before .before .before .before .before .before .before .before .pre)
 
 returns-2 : tie.Need-returns-2
 returns-2 c = (c .before .before .before .before .before .hand-own .ensures)

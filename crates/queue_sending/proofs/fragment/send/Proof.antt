@@ -1,8 +1,8 @@
 -- `queue_sending::fragment::send` meets its contract: each return is what its definition says, by what the calls ensure and the test that was passed before. Assumes nothing.
 use borrow.Author.Needs.{needs}
 use Rattle.queue_sending.specs.Fragment.{sent}
-use Rattle.queue_sending.proofs.Ahead.{send-reads}
-use Rattle.queue_sending.proofs.Passes.{first-fits}
+use Rattle.queue_sending.proofs.Ahead.{send-reads, send-goes}
+use Rattle.queue_sending.proofs.Passes.{first-same}
 use Rattle.queue_sending.proofs.fragment.send.Statement.{statement}
 use Rattle.queue_sending.proofs.fragment.send.Tie as tie
 
@@ -10,7 +10,10 @@ read-own-requires : tie.Need-read-own-requires
 read-own-requires c κs = send-reads _ _ _ _ _ _ (c .before .before .before .before .before .pre .2)
 
 write-sent-requires : tie.Need-write-sent-requires
-write-sent-requires c κs = ((c .before .before .before .before .before .before .before .before .before .before .before .before .before .before .before .before .before .pre .0), first-fits _ _ _ (c .before .before .numbered-stream .ensures) (c .before .before .before .before .before .before .before .before .before .before .before .before .before .before .before .before .before .pre .1))
+write-sent-requires c κs =
+    let p = (c .before .before .before .before .before .before .before .before .before .before .before .before .before .before .before .before .before .pre) in
+    let f = first-same _ _ _ (c .before .before .numbered-stream .ensures) in
+    (p .0, rw f (p .1), p .3, rw f (send-goes _ _ _ _ _ _ (p .2)))
 
 same-length : tie.Need-same-length
 same-length c = search (needs, (c .before .before .before .before .before .before .before .events .given))

@@ -21,7 +21,7 @@ returns-2 c =
       ← (c .before .before .before .before .before .before .remaining .ensures),
       ne-eqb _ _ (c .before .before .before .before .before .if1 .left),
       (c .before .before .if2 .taken),
-      ← (c .before .before .before .accept .ensures),
+      ← (c .before .before .before .accept-own .ensures),
       ← (c .go-further .ensures),
     )
 
@@ -32,7 +32,7 @@ returns-3 c =
       ← (c .before .before .before .before .before .before .remaining .ensures),
       ne-eqb _ _ (c .before .before .before .before .before .if1 .left),
       (c .before .before .if2 .left),
-      ← (c .before .before .before .accept .ensures),
+      ← (c .before .before .before .accept-own .ensures),
       ← (c .go-on .ensures),
     )
 
