@@ -13,6 +13,7 @@ use Rattle.queue_model.specs.Produce.{chosen}
 use Rattle.queue_model.proofs.Invariant.Events.{potential, potential-fits}
 use Rattle.queue_model.proofs.Invariant.Sends.{FineLook, Chosen, fine-look}
 use Rattle.stream_scheduler.specs.Link.{entryAt}
+use Rattle.stream_scheduler.specs.Own.{HasRow}
 use Rattle.queue_streams.specs.Events.{eventWords}
 use Rattle.queue_sending.specs.Choice.{lookAhead}
 use Rattle.queue_sending.specs.Data.{ProducedWith, producedWith, producedNumber}
@@ -21,6 +22,7 @@ use Rattle.queue_sending.specs.Produce.{lentCode, produceCode, passOver, produc
 use Rattle.queue_sending.specs.declared.choice.Look.the-variants as words-look
 use Rattle.queue_sending.specs.declared.data.DataToSend.{DataToSend}
 use Rattle.queue_sending.specs.declared.data.Produced.the-variants as checked
+use Rattle.queue_sending.proofs.Ahead.{chosen-row}
 use Rattle.queue_sending.proofs.Passes.{pass-nothing, pass-chosen, after-passes}
 use Rattle.queue_state.specs.Chains.{each}
 use Rattle.queue_state.specs.Model.{itemIn, rowAt, streamIn, model}
@@ -102,8 +104,8 @@ module _ (ws st es bs : List ℕ) (time size k : ℕ) (y : Payable ws st es k) w
       q : PassedTo ws st es time k (turn.Head j at id row) us vs
       q = subst (λ (x : Turn). PassedTo ws st es time k x us vs) e p
 
-      pub head-may-go : chosenCode us (length st) (length bs) size j at row ≡ 0
-      head-may-go = go (looks us st (q .ready .good) time)
+      may-go : chosenCode us (length st) (length bs) size j at row ≡ 0
+      may-go = go (looks us st (q .ready .good) time)
         where
           g : Good us st
           g = q .ready .good
@@ -121,6 +123,9 @@ module _ (ws st es bs : List ℕ) (time size k : ℕ) (y : Payable ws st es k) w
               let m : j ≤ 2303 = omega arith in
               subst (λ (x : ℕ). chosenCode us (length st) (length bs) size j at x ≡ 0) sr
               (subst (λ (x : ℕ). chosenCode us (length st) (length bs) size j x (rowAt us (c .pos)) ≡ 0) sa (may-hand us st (q .ready .good) at′ c bs j size f m hb))
+
+      pub head-may-go : (chosenCode us (length st) (length bs) size j at row ≡ 0) × HasRow us at
+      head-may-go = (may-go, chosen-row us time at id row (q .looked))
 
       pub after-head : (i : ℕ) (d : DataToSend) (xs ys zs : List ℕ) → producedWith (checked.Fragment i d) xs ys zs ≡ handedOut us st vs bs size j at id row
           → producedWith (checked.Fragment i d) xs ys zs ≡ producedAfter ws st es bs time size k
