@@ -23,8 +23,8 @@ use Rattle.queue_closing.specs.Close.{closeWhole, closeIn, pausedNew, cl
 use Rattle.queue_closing.proofs.Going.{sweep-goes}
 
 -- Where it ends the stream's waiting, the messages may go as they might before.
-pub whole-goes : (ws : List ℕ) (id place amount : ℕ) (b r : Bool) (l : List ℕ) → b ≡ maySweep ws place amount → b ≡ true → outcome r l ≡ removeStream ws id → Goes l place 1024
-whole-goes ws id place amount b r l eb hb eo =
+pub ended-goes : (ws : List ℕ) (id place amount : ℕ) (b r : Bool) (l : List ℕ) → b ≡ maySweep ws place amount → b ≡ true → outcome r l ≡ removeStream ws id → Goes l place 1024
+ended-goes ws id place amount b r l eb hb eo =
     let u = subst (Untouched ws) (ap (λ (o : Outcome). o .next) (sym eo)) (untouched-remove ws id) in
     sweep-goes ws l place amount u (sym eb ∙ hb)
 
