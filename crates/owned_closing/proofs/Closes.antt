@@ -20,14 +20,17 @@ use Rattle.queue_model.specs.Run as run
 use Rattle.queue_model.proofs.Tests.{holds}
 use Rattle.stream_scheduler.specs.Words.{Outcome, outcome, removeStream}
 use Rattle.stream_scheduler.proofs.Link.{remove-link}
+use Rattle.stream_scheduler.proofs.Frames.{untouched-same}
 use Rattle.queue_streams.specs.Events.{eventWords, placesIn}
 use Rattle.queue_streams.specs.Known.{lookUp}
 use Rattle.queue_streams.specs.Settings.{CalledWith, calledWith}
 use Rattle.queue_streams.specs.declared.answers.Call.the-variants.{Accepted}
 use Rattle.queue_streams.specs.declared.known.Place.the-variants as place
 use Rattle.queue_closing.specs.Walk.{maySweep}
-use Rattle.queue_closing.specs.Sweep.{sweepFrom}
+use Rattle.queue_closing.specs.Sweep.{sweepFrom, Goes}
 use Rattle.queue_closing.specs.Close.{wholeLeft, behindLeft, closeOpen}
+use Rattle.queue_closing.proofs.Going.{sweep-goes}
+use Rattle.queue_closing.proofs.Exits.{ended-goes}
 use Rattle.queue_state.specs.Chains.{Linked}
 use Rattle.queue_state.specs.Model.{nextOf, rowAt}
 use Rattle.queue_state.specs.Good.{Good}
@@ -97,6 +100,19 @@ may-close ws y es id row long hid hes e = go (lookup ws (y .store) (y .good .sha
 pub head-fits : (ws : List ℕ) (id row : ℕ) (s : OutgoingStream) → MayClose ws id row s → (s .first ≡ 1024 → ⊥) → s .first < 1024
 head-fits ws id row s y ne = omega (arith, y .first-fits, ne)
 
+-- every message that is dropped may go
+module _ (ws : List ℕ) (id row : ℕ) (s : OutgoingStream) (y : MayClose ws id row s) (ne : s .first ≡ 1024 → ⊥) (m : Item) (em : m ≡ itemAt ws (s .first)) where
+  pub goes-behind : 0 < m .offset → Goes ws (m .next) 1024
+  goes-behind h =
+      let o : 0 < itemAt ws (s .first) .offset = rw em at h in
+      let g = sweep-goes ws ws (itemAt ws (s .first) .next) (s .«buffered_amount») (untouched-same ws) (y .behind (head-fits ws id row s y ne) o) in
+      subst (λ (x : Item). Goes ws (x .next) 1024) (sym em) g
+
+  pub goes-whole : (us : List ℕ) → m .offset ≤ 0 → outcome true us ≡ removeStream ws id → Goes us (s .first) 1024
+  goes-whole us h eu =
+      let o : itemAt ws (s .first) .offset ≤ 0 = rw em at h in
+      ended-goes ws id (s .first) (s .«buffered_amount») true true us (sym (y .whole (head-fits ws id row s y ne) o)) refl eu
+
 module _ (ws es : List ℕ) (id row : ℕ) (s : OutgoingStream) where
   pub closed-empty : (o : OutgoingStream) (l : List ℕ) → s .first ≡ 1024 → o ≡ withPause s Paused → l ≡ putStream ws row o → calledWith (Accepted 0) l es ≡ closeOpen ws es id row s
   closed-empty o l e eo el = rw (el, eo) (sym (open-empty ws es id row s e))
@@ -108,9 +124,9 @@ module _ (ws es : List ℕ) (id row : ℕ) (s : OutgoingStream) where
         e ∙ ap (λ (x : Item). behindLeft (sweepFrom ws es id (s .«low_threshold») (x .next) (s .«buffered_amount»)) row s) em
         ∙ sym (open-behind ws es id row (s .first) s refl (head-fits ws id row s y ne) o ∙ behind-goes ws es id row s (nextOf ws (s .first)) _ (y .behind (head-fits ws id row s y ne) o) refl)
 
-    pub closed-whole : (b : Bool) (us : List ℕ) (c : CalledWith) → m .offset ≤ 0 → outcome b us ≡ removeStream ws id
+    pub closed-whole : (us : List ℕ) (c : CalledWith) → m .offset ≤ 0 → outcome true us ≡ removeStream ws id
         → c ≡ wholeLeft (sweepFrom us es id (s .«low_threshold») (s .first) (s .«buffered_amount»)) row s → c ≡ closeOpen ws es id row s
-    closed-whole b us c h eu e =
+    closed-whole us c h eu e =
         let o : itemAt ws (s .first) .offset ≤ 0 = rw em at h in
         e ∙ ap (λ (x : Outcome). wholeLeft (sweepFrom (x .next) es id (s .«low_threshold») (s .first) (s .«buffered_amount»)) row s) eu
         ∙ sym (open-whole ws es id row (s .first) s refl (head-fits ws id row s y ne) (omega arith) ∙ whole-goes ws es id row s _ (y .whole (head-fits ws id row s y ne) o) (y .ended) refl)

@@ -24,7 +24,7 @@ use queue_words::streams::PauseState;
 use queue_words::streams::load_stream;
 use queue_words::streams::store_stream;
 use queue_words::streams::with_pause;
-use stream_scheduler::remove_stream;
+use stream_scheduler::own::remove_own;
 
 // Done, with so many events written; 3 and 6 are the refusals.
 pub enum Closed {
@@ -53,7 +53,7 @@ fn close_open(
     if m.offset > 0 {
         return sweep_behind(queue, events, id, row, s, m.next);
     }
-    remove_stream(queue, id);
+    remove_own(queue, id);
     sweep_whole(queue, events, id, row, s)
 }
 

@@ -1,5 +1,5 @@
 -- Ways out of closing, over plain values. Assumes nothing.
-use mathlib.Core.Path.{_≡_, sym, ap, _∙_}
+use mathlib.Core.Path.{_≡_, sym, ap, subst, _∙_}
 use mathlib.Core.Bool.{Bool, true, false}
 use mathlib.Core.List.{List}
 use Prim.Native.Nat.{ℕ, _≤_, _<_}
@@ -9,7 +9,8 @@ use Rattle.queue_words.specs.Header.{optionsAt}
 use Rattle.queue_words.specs.declared.header.Options.{Options}
 use Rattle.queue_words.specs.declared.streams.OutgoingStream.{OutgoingStream}
 use Rattle.stream_scheduler.specs.Words.{Outcome, outcome, removeStream}
-use Rattle.stream_scheduler.proofs.Frames.{kept-remove}
+use Rattle.stream_scheduler.specs.Link.{Untouched}
+use Rattle.stream_scheduler.proofs.Frames.{kept-remove, untouched-remove}
 use Rattle.queue_streams.specs.Events.{eventWords}
 use Rattle.queue_streams.specs.Known.{newStream, lookUp, inserted}
 use Rattle.queue_streams.specs.Settings.{CalledWith, calledWith}
@@ -17,7 +18,15 @@ use Rattle.queue_streams.specs.declared.answers.Call.the-variants.{Accepted, Re
 use Rattle.queue_streams.specs.declared.known.Place.{Place}
 use Rattle.queue_streams.specs.declared.known.Place.the-variants as place
 use Rattle.queue_closing.specs.Walk.{maySweep}
+use Rattle.queue_closing.specs.Sweep.{Goes}
 use Rattle.queue_closing.specs.Close.{closeWhole, closeIn, pausedNew, close}
+use Rattle.queue_closing.proofs.Going.{sweep-goes}
+
+-- Where it ends the stream's waiting, the messages may go as they might before.
+pub ended-goes : (ws : List ℕ) (id place amount : ℕ) (b r : Bool) (l : List ℕ) → b ≡ maySweep ws place amount → b ≡ true → outcome r l ≡ removeStream ws id → Goes l place 1024
+ended-goes ws id place amount b r l eb hb eo =
+    let u = subst (Untouched ws) (ap (λ (o : Outcome). o .next) (sym eo)) (untouched-remove ws id) in
+    sweep-goes ws l place amount u (sym eb ∙ hb)
 
 -- Where the scheduler refuses to end the stream's waiting, it has changed nothing.
 pub whole-refused : (ws es : List ℕ) (id row : ℕ) (s : OutgoingStream) (b r : Bool) (l : List ℕ) → b ≡ maySweep ws (s .first) (s .«buffered_amount») → b ≡ true → outcome r l ≡ removeStream ws id

@@ -1,5 +1,5 @@
 -- The loops along a chain of messages, over plain values: a callee's result is a variable, what it ensures a hypothesis. Assumes nothing.
-use mathlib.Core.Path.{_≡_, sym, _∙_}
+use mathlib.Core.Path.{_≡_, sym, ap, subst, _∙_}
 use mathlib.Core.List.{List}
 use Prim.Native.Nat.{ℕ, suc, _+_, _-_, _≤_, _<_}
 use native.Mathlib.Nat.{sub-zero}
@@ -7,8 +7,9 @@ use native.Mathlib.Omega.{arith}
 use borrow.Author.Tests.{lt-ltb, le-ltb}
 use Rattle.queue_words.specs.Items.{itemAt}
 use Rattle.queue_words.specs.declared.items.Item.{Item}
+use Rattle.payload_store.specs.Dropping.{dropCode}
 use Rattle.queue_closing.specs.Walk.{walkItem, walk}
-use Rattle.queue_closing.specs.Sweep.{Swept, swept, sweepItem, sweep}
+use Rattle.queue_closing.specs.Sweep.{Swept, swept, sweepItem, sweep, Goes}
 use Rattle.queue_closing.specs.declared.close.Sweep.{Sweep}
 use Rattle.queue_closing.specs.declared.close.Walk.{Walk}
 
@@ -60,3 +61,20 @@ module _ (id threshold : ℕ) (start : Swept) (n : ℕ) where
     sweep-end g =
         let s : n - i ≡ 0 = omega arith in
         sym (inv ∙ rw s)
+
+-- The messages may go: from here on as from the start.
+pub goes-start : (ws : List ℕ) (place n : ℕ) → Goes ws place n → Goes ws place (n - 0)
+goes-start ws place n g = rw sub-zero g
+
+module _ (us : List ℕ) (place n i : ℕ) (g : Goes us place (n - i)) (h : i < n) (l : place ≤ 1023) where
+  here : Goes us place (suc (n - (i + 1)))
+  here = let s : n - i ≡ suc (n - (i + 1)) = omega arith in subst (Goes us place) s g
+
+  pub goes-here : dropCode us place ≡ 0
+  unfolding Goes
+  goes-here = here (omega arith) .0
+
+  pub goes-next : (fs : List ℕ) (id threshold : ℕ) (w r : Sweep) (vs gs : List ℕ) → swept r vs gs ≡ sweepItem us fs id threshold place w → Goes vs (r .place) (n - (i + 1))
+  unfolding Goes sweepItem
+  goes-next fs id threshold w r vs gs e =
+      subst (λ (x : Swept). Goes (x .next) (x .at .place) (n - (i + 1))) (sym e) (here (omega arith) .1)

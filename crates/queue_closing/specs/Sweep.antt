@@ -1,9 +1,11 @@
 -- Closing, second: dropping a chain of messages, and what that reports. Assumes nothing.
-use Prim.Native.Nat.{ℕ, zero, suc, _-_}
+use Prim.Native.Nat.{ℕ, zero, suc, _-_, _<_}
+use mathlib.Core.Path.{_≡_}
 use mathlib.Core.List.{List}
 use lib.Dec.{ltb}
 use Rattle.queue_words.specs.Flags.{pick}
 use Rattle.queue_words.specs.Items.{itemAt}
+use Rattle.payload_store.specs.Dropping.{dropCode}
 use Rattle.message_chains.specs.Amounts.{rest}
 use Rattle.message_chains.specs.Heads.{totalNotes, released}
 use Rattle.message_chains.specs.Notes.{Notes, lowNoted, lifecycleNoted}
@@ -55,3 +57,8 @@ sweep id threshold x (suc f) =
 -- All messages dropped from a place on, of a stream with this amount: no event is written yet.
 abbrev pub sweepFrom : List ℕ → List ℕ → ℕ → ℕ → ℕ → ℕ → Swept
 sweepFrom ws es id threshold place amount = sweep id threshold (swept (record { place = place; count = 0; amount = amount }) ws es) 1024
+
+-- Every message that so many steps of the dropping come to may go, in the words as they are then: 16 is not given.
+unfoldable pub Goes : List ℕ → ℕ → ℕ → Type 0
+Goes ws place zero = Unit {0}
+Goes ws place (suc f) = place < 1024 → (dropCode ws place ≡ 0) × Goes (released ws place (rest (itemAt ws place))) (itemAt ws place .next) f

@@ -3,11 +3,12 @@ ghost use mathlib.Core.Path.{_≡_};
 ghost use Prim.Native.Nat.{_<_, _≤_};
 ghost use Rattle.queue_words.specs.Header.{optionsAt};
 ghost use Rattle.queue_words.specs.Known.{knownCount};
+ghost use Rattle.payload_store.specs.Dropping.{dropCode};
 ghost use Rattle.message_chains.specs.Notes.{notes};
 ghost use Rattle.queue_streams.specs.Known.{newStream, inserted};
 ghost use Rattle.queue_streams.specs.Settings.{calledWith};
 ghost use Rattle.queue_closing.specs.Walk.{walkFailed, mayGo, walkItem, walk, maySweep};
-ghost use Rattle.queue_closing.specs.Sweep.{swept, sweepNotes, sweepItem, sweep, sweepFrom};
+ghost use Rattle.queue_closing.specs.Sweep.{swept, sweepNotes, sweepItem, sweep, sweepFrom, Goes};
 ghost use Rattle.queue_closing.specs.Close.{wholeLeft, closeWhole, behindLeft, closeBehind, closeOpen, closeIn, pausedNew, close};
 ghost use Rattle.queue_streams.specs.declared.answers.Call.the-variants.{Accepted};
 use message_chains::amounts::minus;
@@ -162,6 +163,7 @@ fn sweep_events(
     lifecycle_events(events, k2, lifecycle_id)
 }
 
+// Drops the message in a place, which may go.
 fn sweep_item(
     queue: &mut [u64; QUEUE_WORDS],
     events: &mut [u64],
@@ -170,7 +172,7 @@ fn sweep_item(
     place: usize,
     w: Sweep,
 ) -> Sweep
-    requires { ⌜ place < 1024 ⌝ }
+    requires { ⌜ (place < 1024) × (dropCode (now queue) place ≡ 0) ⌝ }
     ensures { λ r. ⌜ swept r (now (queue .exit)) (now (events .exit)) ≡ sweepItem (now (queue .entry)) (now (events .entry)) id threshold place w ⌝ }
 {
     let m = load_item(&*queue, place);
@@ -184,7 +186,7 @@ fn sweep_item(
     }
 }
 
-// Drops all messages from a place on.
+// Drops all messages from a place on. Each may go when its turn comes.
 fn sweep_chain(
     queue: &mut [u64; QUEUE_WORDS],
     events: &mut [u64],
@@ -192,6 +194,7 @@ fn sweep_chain(
     threshold: u64,
     start: Sweep,
 ) -> Sweep
+    requires { ⌜ Goes (now queue) (start .place) 1024 ⌝ }
     ensures { λ r. ⌜ swept r (now (queue .exit)) (now (events .exit)) ≡ sweep id threshold (swept start (now (queue .entry)) (now (events .entry))) 1024 ⌝ }
 {
     let mut w = start;
@@ -214,7 +217,7 @@ pub fn sweep_whole(
     row: usize,
     s: OutgoingStream,
 ) -> usize
-    requires { ⌜ row < 256 ⌝ }
+    requires { ⌜ (row < 256) × Goes (now queue) (s .first) 1024 ⌝ }
     ensures { λ r. ⌜ calledWith (Accepted r) (now (queue .exit)) (now (events .exit)) ≡ wholeLeft (sweepFrom (now (queue .entry)) (now (events .entry)) id (s .«low_threshold») (s .first) (s .«buffered_amount»)) row s ⌝ }
 {
     let w = sweep_chain(
@@ -267,7 +270,7 @@ pub fn sweep_behind(
     s: OutgoingStream,
     next: u64,
 ) -> usize
-    requires { ⌜ (row < 256) × (s .first < 1024) ⌝ }
+    requires { ⌜ (row < 256) × (s .first < 1024) × Goes (now queue) next 1024 ⌝ }
     ensures { λ r. ⌜ calledWith (Accepted r) (now (queue .exit)) (now (events .exit)) ≡ behindLeft (sweepFrom (now (queue .entry)) (now (events .entry)) id (s .«low_threshold») next (s .«buffered_amount»)) row s ⌝ }
 {
     let w = sweep_chain(

@@ -1,9 +1,12 @@
 -- `queue_closing::close::close_whole` meets its contract: each return is a case of `closeWhole`. Assumes nothing.
 use borrow.Author.Needs.{needs}
 use Rattle.queue_closing.specs.Close.{closeWhole}
-use Rattle.queue_closing.proofs.Exits.{whole-refused}
+use Rattle.queue_closing.proofs.Exits.{ended-goes, whole-refused}
 use Rattle.queue_closing.proofs.close.close_whole.Statement.{statement}
 use Rattle.queue_closing.proofs.close.close_whole.Tie as tie
+
+sweep-whole-requires : tie.Need-sweep-whole-requires
+sweep-whole-requires c κs = ((c .before .before .before .before .before .before .before .before .before .pre), ended-goes _ _ _ _ _ _ _ (c .before .before .before .before .before .before .may-sweep .ensures) (c .before .before .before .before .before .if1 .taken) (c .before .before .before .remove-stream .ensures))
 
 returns : tie.Need-returns
 unfolding closeWhole
@@ -22,7 +25,7 @@ close-whole-spec =
     (tie.spec
     (λ c κs. search needs)
     (λ c κs. search needs)
-    (λ c κs. search needs)
+    sweep-whole-requires
     (λ c. search needs)
     returns
     returns-2
