@@ -7,20 +7,23 @@ use native.Mathlib.Nat.{sub-zero}
 use native.Mathlib.Omega.{arith}
 use native.Mathlib.Numerals.{add-one}
 use borrow.Author.Tests.{lt-ltb, le-ltb, ltb-false}
-use Rattle.queue_model.proofs.Tests.{holds}
+use Rattle.queue_model.proofs.Tests.{holds, less, same, more, tri}
 use lib.Dec.{ltb}
 use lib.ListN.{replicate, set}
 use Rattle.queue_words.specs.Flags.{pick}
 use Rattle.queue_words.specs.Header.{totalsAt}
 use Rattle.queue_words.specs.Known.{knownAt}
+use Rattle.queue_words.specs.Streams.{streamAt}
 use Rattle.queue_words.specs.declared.header.Totals.{Totals}
 use Rattle.queue_words.specs.declared.known.Known.{Known}
+use Rattle.queue_words.specs.declared.streams.OutgoingStream.{OutgoingStream}
 use Rattle.queue_streams.specs.Answers.{isAccepted}
 use Rattle.queue_streams.specs.declared.answers.Call.{Call}
 use Rattle.queue_streams.specs.declared.answers.Call.the-variants.{Accepted, Refused}
 use Rattle.queue_streams.specs.declared.answers.Number.the-variants as number
 use Rattle.queue_restarts.specs.Ready.{placesFit, allPlacesFit, pausedAt, oneMore, collected, refusedReady, collectedOr16, marked, markedAll, readied, ready, countOf, readyCount}
-use Rattle.queue_restarts.specs.Reset.{sumKnown, sumAll, resetAt, resetAll}
+use Rattle.queue_restarts.specs.Reset.{putBack, sumStream, sumKnown, sumAll, resetAt, resetAll}
+use Rattle.queue_restarts.specs.Settled.{resetDoneAt, ResetSteps}
 use Rattle.queue_restarts.specs.declared.ready.ReadyStreams.{ReadyStreams}
 use Rattle.queue_restarts.specs.declared.whole.Sum.{Sum}
 
@@ -193,6 +196,74 @@ module _ (ws : List ℕ) (total : ℕ) where
       let q : i ≡ n = omega arith in
       e ∙ ap (sumAll ws total) q
 
+-- ---- without a test
+
+-- A known stream summed up without fault: its place is in its table, and the total rises by what it puts back.
+record Summed (ws : List ℕ) (place : ℕ) (t r : Sum) : Type 0 where
+  pub placed : place ≤ 255
+  pub before : t .fits ≡ true
+  pub bounded : putBack ws (streamAt ws place .first) ≤ 18446744073709551615 - t .total
+  pub risen : r .total ≡ t .total + putBack ws (streamAt ws place .first)
+
+module _ (ws : List ℕ) (place : ℕ) (t : Sum) where
+  abbrev back : ℕ
+  back = putBack ws (streamAt ws place .first)
+
+  abbrev over : Sum
+  over = record { fits = false; total = t .total }
+
+  abbrev of : Bool → Bool → Bool → Sum
+  of a b c = pick a over (pick b over (pick c over (record { fits = t .fits; total = t .total + back })))
+
+  summed : sumKnown ws place t .fits ≡ true → Summed ws place t (sumKnown ws place t)
+  unfolding sumKnown sumStream
+  summed = by (ltb 255 place) refl (ltb (18446744073709551615 - streamAt ws place .«buffered_amount») back) (ltb (18446744073709551615 - t .total) back) refl
+    where
+      by : (a : Bool) → ltb 255 place ≡ a → (b c : Bool) → ltb (18446744073709551615 - t .total) back ≡ c → of a b c .fits ≡ true → Summed ws place t (of a b c)
+      by true ea b c ec q = absurd (holds false q)
+      by false ea true c ec q = absurd (holds false q)
+      by false ea false true ec q = absurd (holds false q)
+      by false ea false false ec q = record { placed = ltb-false _ _ ea; before = q; bounded = ltb-false _ _ ec; risen = refl }
+
+module _ (ws : List ℕ) (total n : ℕ) (fits : sumAll ws total n .fits ≡ true) where
+  -- What fits at the end fits on the way.
+  all-summed : (m : ℕ) → sumAll ws total m .fits ≡ true → (i : ℕ) → i < m → Summed ws (knownAt ws i .place) (sumAll ws total i) (sumAll ws total (suc i))
+  unfolding sumAll
+  all-summed zero f i h = absurd (omega arith)
+  all-summed (suc m) f i h = elim (tri i m) [
+    | less l ↦ all-summed m (summed ws (knownAt ws m .place) (sumAll ws total m) f .before) i l
+    | same e ↦ subst (λ (x : ℕ). Summed ws (knownAt ws x .place) (sumAll ws total x) (sumAll ws total (suc x))) (sym e) (summed ws (knownAt ws m .place) (sumAll ws total m) f)
+    | more l ↦ absurd (omega arith)
+  ]
+
+  module _ (i : ℕ) (h : i < n) (k : Known) (ek : k ≡ knownAt ws i) where
+    pub total-placed : k .place ≤ 255
+    total-placed = subst (λ (x : Known). x .place ≤ 255) (sym ek) (all-summed n fits i h .placed)
+
+    module _ (s : OutgoingStream) (es : s ≡ streamAt ws (k .place)) (back : ℕ) (eb : back ≡ putBack ws (s .first)) (sum : ℕ) (et : sum ≡ sumAll ws total i .total) where
+      back-is : back ≡ putBack ws (streamAt ws (knownAt ws i .place) .first)
+      back-is = eb ∙ ap (λ (x : OutgoingStream). putBack ws (x .first)) es ∙ ap (λ (x : Known). putBack ws (streamAt ws (x .place) .first)) ek
+
+      pub total-bounded : sum < 18446744073709551616 → sum + back < 18446744073709551616
+      total-bounded l =
+          let e = back-is in
+          let b = all-summed n fits i h .bounded in
+          omega arith
+
+      pub total-next : sum + back ≡ sumAll ws total (i + 1) .total
+      total-next = ap₂ (λ (x y : ℕ). x + y) et back-is ∙ sym (all-summed n fits i h .risen) ∙ sym (rw add-one)
+
+pub total-start : (ws : List ℕ) (total : ℕ) → total ≡ sumAll ws total 0 .total
+unfolding sumAll
+total-start ws total = refl
+
+pub total-end : (ws : List ℕ) (total n i sum : ℕ) → sum ≡ sumAll ws total i .total → i ≤ n → n ≤ i → sum ≡ sumAll ws total n .total
+total-end ws total n i sum e l g =
+    let q : i ≡ n = omega arith in
+    e ∙ ap (λ (x : ℕ). sumAll ws total x .total) q
+
+-- ---- the writing
+
 module _ (strict il : Bool) (ws : List ℕ) where
   pub reset-start : ws ≡ resetAll strict il ws 0
   unfolding resetAll
@@ -201,6 +272,9 @@ module _ (strict il : Bool) (ws : List ℕ) where
   pub reset-next : (i : ℕ) (us l : List ℕ) (k : Known) → us ≡ resetAll strict il ws i → k ≡ knownAt us i → l ≡ resetAt strict us il (k .id .0) (k .place) → l ≡ resetAll strict il ws (i + 1)
   unfolding resetAll
   reset-next i us l k eu ek el = el ∙ ap (λ (x : Known). resetAt strict us il (x .id .0) (x .place)) ek ∙ ap (λ (x : List ℕ). resetAt strict x il (knownAt x i .id .0) (knownAt x i .place)) eu ∙ sym (rw add-one)
+
+  pub reset-each : (n i : ℕ) (us : List ℕ) (k : Known) → ResetSteps strict il ws n → i < n → us ≡ resetAll strict il ws i → k ≡ knownAt us i → resetDoneAt strict us il k ≡ true
+  reset-each n i us k d h eu ek = ap (resetDoneAt strict us il) ek ∙ subst (λ (x : List ℕ). resetDoneAt strict x il (knownAt x i) ≡ true) (sym eu) (d i h)
 
   pub reset-end : (n i : ℕ) (us : List ℕ) → us ≡ resetAll strict il ws i → i ≤ n → n ≤ i → us ≡ resetAll strict il ws n
   reset-end n i us e l g =

@@ -8,9 +8,10 @@ use lib.Dec.{ltb, eqb}
 use lib.ListN.{length}
 use borrow.Author.Tests.{le-ltb, eq-eqb, ltb-true, ltb-false}
 use Rattle.queue_words.specs.Flags.{pick}
-use Rattle.queue_words.specs.Header.{optionsAt, totalsAt}
+use Rattle.queue_words.specs.Header.{optionsAt, totalsAt, putTotals}
 use Rattle.queue_words.specs.Known.{knownAt, knownCount}
 use Rattle.queue_words.specs.Streams.{streamAt, putStream, FitsStream}
+use Rattle.queue_words.specs.declared.header.Totals.{Totals}
 use Rattle.queue_words.specs.declared.streams.OutgoingStream.{OutgoingStream}
 use Rattle.queue_words.proofs.Laws.{stream-at-fits}
 use Rattle.queue_streams.specs.Answers.{isAccepted}
@@ -19,8 +20,8 @@ use Rattle.queue_streams.specs.Settled.{rescheduleDone}
 use Rattle.queue_streams.specs.Waiting.{rescheduled, tally, roomFor}
 use Rattle.queue_streams.specs.declared.answers.Call.the-variants.{Accepted, Refused}
 use Rattle.queue_streams.proofs.Walk.{Kept, Done, all-done, kept-totals, kept-item, kept-stream, in-table, none-passed, first-bounded, wait-done, next-kept}
-use Rattle.queue_restarts.specs.Reset.{putBack, wholeStream, wholeHead, resetIn, resetAt, resetAll, withTotal, sumOf, resetQueue}
-use Rattle.queue_restarts.specs.Settled.{resetDoneIn, resetDoneAt, resetTo, ResetSettled}
+use Rattle.queue_restarts.specs.Reset.{putBack, wholeStream, wholeHead, resetIn, resetAt, resetAll, withTotal, sumOf, resetWith, resetQueue}
+use Rattle.queue_restarts.specs.Settled.{resetDoneIn, resetDoneAt, ResetSteps, risen, ResetSettled}
 
 pub whole-fits : (s : OutgoingStream) (b : ℕ) → FitsStream s → FitsStream (wholeStream s b)
 unfolding wholeStream
@@ -64,18 +65,30 @@ module _ (strict il : Bool) (ws : List ℕ) (room : roomFor ws true ≡ true) (i
           let g = ltb-false (s .first) 1024 e in
           record { done = eq-eqb (s .first) 1024 (omega arith); kept = next-kept ws true room i h us k vs stored }
 
-pub whole-settled : (ws : List ℕ) → length ws ≡ 20768 → roomFor ws true ≡ true → ResetSettled ws
+-- With any total.
+all-reset : (strict il : Bool) (ws : List ℕ) (total : ℕ) → length ws ≡ 20768 → roomFor ws true ≡ true → ResetSteps strict il (risen ws total) (knownCount ws)
 unfolding resetAll
-whole-settled ws l room =
-    let strict : Bool = optionsAt ws .«strict_restart» in
-    let il : Bool = totalsAt ws .interleaving in
-    all-done ws true (knownCount ws) (resetTo ws) (λ i. resetDoneAt strict (resetTo ws i) il (knownAt (resetTo ws i) i)) (kept-totals ws true (withTotal (totalsAt ws) (sumOf ws .total)) l) (λ i h k. reset-step strict il ws room i h (resetTo ws i) k)
+all-reset strict il ws total l room =
+    all-done ws true (knownCount ws) (resetAll strict il (risen ws total))
+    (λ i. resetDoneAt strict (resetAll strict il (risen ws total) i) il (knownAt (resetAll strict il (risen ws total) i) i))
+    (kept-totals ws true (withTotal (totalsAt ws) total) l)
+    (λ i h k. reset-step strict il ws room i h (resetAll strict il (risen ws total) i) k)
+
+pub whole-settled : (ws : List ℕ) → length ws ≡ 20768 → roomFor ws true ≡ true → ResetSettled ws
+whole-settled ws l room = all-reset (optionsAt ws .«strict_restart») (totalsAt ws .interleaving) ws (sumOf ws .total) l room
+
+-- With the totals that were read.
+pub reset-steps : (strict il : Bool) (ws us : List ℕ) (t : Totals) (total : ℕ) → length ws ≡ 20768 → roomFor ws true ≡ true → t ≡ totalsAt ws → us ≡ putTotals ws (withTotal t total)
+    → ResetSteps strict il us (t .known)
+reset-steps strict il ws us t total l room et eu =
+    subst (λ (x : List ℕ). ResetSteps strict il x (t .known)) (sym eu)
+    (subst (λ (x : Totals). ResetSteps strict il (putTotals ws (withTotal x total)) (x .known)) (sym et) (all-reset strict il ws total l room))
 
 -- Where the reset is accepted, every step of it is done.
 pub reset-settled : (ws : List ℕ) → length ws ≡ 20768 → isAccepted (resetQueue ws .answer) ≡ true → ResetSettled ws
 unfolding resetQueue
 reset-settled ws l e = whole-settled ws l (by (roomFor ws true) (sumOf ws .fits) e)
   where
-    by : (r f : Bool) → isAccepted (pick r (pick f (called (Accepted 0) (resetTo ws (knownCount ws))) (called (Refused 16) ws)) (called (Refused 16) ws) .answer) ≡ true → r ≡ true
+    by : (r f : Bool) → isAccepted (pick r (pick f (called (Accepted 0) (resetWith ws (sumOf ws .total))) (called (Refused 16) ws)) (called (Refused 16) ws) .answer) ≡ true → r ≡ true
     by true f q = refl
     by false f q = q

@@ -25,10 +25,14 @@ resetDoneIn strict ws il id place s =
 unfoldable pub resetDoneAt : Bool → List ℕ → Bool → Known → Bool
 resetDoneAt strict ws il k = pick (ltb 255 (k .place)) false (resetDoneIn strict ws il (k .id .0) (k .place) (streamAt ws (k .place)))
 
--- The words at step i, from those with the new total on.
-abbrev pub resetTo : List ℕ → ℕ → List ℕ
-resetTo ws i = resetAll (optionsAt ws .«strict_restart») (totalsAt ws .interleaving) (putTotals ws (withTotal (totalsAt ws) (sumOf ws .total))) i
+-- Each of the first n steps is done, with the words as the walk has them there.
+abbrev pub ResetSteps : Bool → Bool → List ℕ → ℕ → Type 0
+ResetSteps strict il ws n = (i : ℕ) → i < n → resetDoneAt strict (resetAll strict il ws i) il (knownAt (resetAll strict il ws i) i) ≡ true
 
--- Every step is done, with the words as the walk has them there.
+-- The words from which the walk starts: the new total is set.
+abbrev pub risen : List ℕ → ℕ → List ℕ
+risen ws total = putTotals ws (withTotal (totalsAt ws) total)
+
+-- Every step is done.
 abbrev pub ResetSettled : List ℕ → Type 0
-ResetSettled ws = (i : ℕ) → i < knownCount ws → resetDoneAt (optionsAt ws .«strict_restart») (resetTo ws i) (totalsAt ws .interleaving) (knownAt (resetTo ws i) i) ≡ true
+ResetSettled ws = ResetSteps (optionsAt ws .«strict_restart») (totalsAt ws .interleaving) (risen ws (sumOf ws .total)) (knownCount ws)

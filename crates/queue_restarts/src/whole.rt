@@ -7,6 +7,7 @@ ghost use Rattle.queue_streams.specs.Settings.{called};
 ghost use Rattle.queue_streams.specs.Waiting.{roomFor};
 ghost use Rattle.queue_streams.specs.declared.answers.Call.the-variants.{Accepted};
 ghost use Rattle.queue_restarts.specs.Reset.{putBack, sumStream, sumKnown, sumAll, wholeStream, wholeItem, wholeHead, resetIn, resetAt, resetAll, sumOf, resetWith, resetQueue};
+ghost use Rattle.queue_restarts.specs.Settled.{resetDoneIn, resetDoneAt, ResetSteps};
 use message_chains::amounts::minus;
 use message_chains::amounts::plus;
 use message_chains::amounts::remaining;
@@ -23,6 +24,7 @@ use queue_words::items::Item;
 use queue_words::items::Numbers;
 use queue_words::items::load_item;
 use queue_words::items::store_item;
+use queue_words::known::Known;
 use queue_words::known::load_known;
 use queue_words::limits::LAST_MESSAGE;
 use queue_words::limits::LAST_STREAM;
@@ -31,6 +33,7 @@ use queue_words::streams::OutgoingStream;
 use queue_words::streams::PauseState;
 use queue_words::streams::load_stream;
 use queue_words::streams::store_stream;
+use queue_words::whole;
 use types::Fsn;
 use types::Mid;
 use types::OutgoingMessageId;
@@ -101,6 +104,23 @@ fn sum_all(queue: &[u64; QUEUE_WORDS], total: u64, n: usize) -> Sum
     t
 }
 
+// The total with what the first n known streams put back, where their places are in their tables and no amount passes 2^64 - 1.
+fn total_own(queue: &[u64; QUEUE_WORDS], total: u64, n: usize) -> u64
+    requires { ⌜ (n ≤ 256) × (sumAll (now queue) total n .fits ≡ true) ⌝ }
+    ensures { λ r. ⌜ r ≡ sumAll (now (queue .entry)) total n .total ⌝ }
+{
+    let mut sum = total;
+    let mut i = 0;
+    while i < n {
+        let k = load_known(queue, i);
+        let s = load_stream(queue, k.place as usize);
+        let back = put_back(queue, s.first);
+        sum += back;
+        i += 1;
+    }
+    sum
+}
+
 // "Whole-queue reset opens all streams, zeroes their counters".
 fn reset_stream(s: OutgoingStream, back: u64) -> OutgoingStream
     ensures { λ r. ⌜ r ≡ wholeStream s back ⌝ }
@@ -149,7 +169,7 @@ fn reset_in(
     place: usize,
     s: OutgoingStream,
 )
-    requires { ⌜ place < 256 ⌝ }
+    requires { ⌜ (place < 256) × (resetDoneIn strict (now queue) interleaving id place s ≡ true) ⌝ }
     ensures { λ _. ⌜ now (queue .exit) ≡ resetIn strict (now (queue .entry)) interleaving id place s ⌝ }
 {
     let back = put_back(&*queue, s.first);
@@ -161,33 +181,33 @@ fn reset_in(
     }
 }
 
-fn reset_at(queue: &mut [u64; QUEUE_WORDS], strict: bool, interleaving: bool, id: u16, place: u64)
-    ensures { λ _. ⌜ now (queue .exit) ≡ resetAt strict (now (queue .entry)) interleaving id place ⌝ }
+fn reset_at(queue: &mut [u64; QUEUE_WORDS], strict: bool, interleaving: bool, k: Known)
+    requires { ⌜ resetDoneAt strict (now queue) interleaving k ≡ true ⌝ }
+    ensures { λ _. ⌜ now (queue .exit) ≡ resetAt strict (now (queue .entry)) interleaving (k .id .0) (k .place) ⌝ }
 {
-    if place > LAST_STREAM {
-        return;
-    }
-    let s = load_stream(&*queue, place as usize);
-    reset_in(queue, strict, interleaving, id, place as usize, s);
+    let place = k.place as usize;
+    let s = load_stream(&*queue, place);
+    reset_in(queue, strict, interleaving, k.id.0, place, s);
 }
 
 fn reset_all(queue: &mut [u64; QUEUE_WORDS], strict: bool, interleaving: bool, n: usize)
-    requires { ⌜ n ≤ 256 ⌝ }
+    requires { ⌜ (n ≤ 256) × ResetSteps strict interleaving (now queue) n ⌝ }
     ensures { λ _. ⌜ now (queue .exit) ≡ resetAll strict interleaving (now (queue .entry)) n ⌝ }
 {
     let mut i = 0;
     while i < n {
         let k = load_known(&*queue, i);
-        reset_at(queue, strict, interleaving, k.id.0, k.place);
+        reset_at(queue, strict, interleaving, k);
         i += 1;
     }
 }
 
-// What is written: the total, and every known stream.
+// What is written, where the places are in their tables and the rows suffice: the total, and every known stream.
 fn reset_to(queue: &mut [u64; QUEUE_WORDS], t: Totals, total: u64)
-    requires { ⌜ (t ≡ totalsAt (now queue)) × (t .known ≤ 256) ⌝ }
+    requires { ⌜ (t ≡ totalsAt (now queue)) × (roomFor (now queue) true ≡ true) ⌝ }
     ensures { λ _. ⌜ now (queue .exit) ≡ resetWith (now (queue .entry)) total ⌝ }
 {
+    whole(&*queue);
     let o = load_options(&*queue);
     let mut risen = t;
     risen.total = total;
@@ -201,8 +221,8 @@ pub fn reset_own(queue: &mut [u64; QUEUE_WORDS])
     ensures { λ _. ⌜ called (Accepted 0) (now (queue .exit)) ≡ resetQueue (now (queue .entry)) ⌝ }
 {
     let t = load_totals(&*queue);
-    let sum = sum_all(&*queue, t.total, t.known as usize);
-    reset_to(queue, t, sum.total);
+    let total = total_own(&*queue, t.total, t.known as usize);
+    reset_to(queue, t, total);
 }
 
 // "every stream with messages then waits".

@@ -22,7 +22,7 @@ use Rattle.queue_words.proofs.Laws.{whole-put-stream, stream-at-fits, stream-at
 use Rattle.queue_streams.specs.Settings.{called}
 use Rattle.queue_streams.specs.Waiting.{passedOver, tallyStream, tallyKnown, tally, roomFor}
 use Rattle.queue_streams.specs.Restart.{opened, reopenedIn, reopenedAt, reopenedAll, reopen}
-use Rattle.queue_streams.specs.Commit.{quietStream, quietFrom, nothingStarts, committedAt, committedAll}
+use Rattle.queue_streams.specs.Commit.{quietStream, quietFrom, nothingStarts, committedAt, committedAll, CommitPlaced}
 use Rattle.queue_streams.specs.declared.answers.Call.the-variants.{Accepted}
 use Rattle.queue_streams.specs.declared.waiting.Tally.{Tally}
 
@@ -126,6 +126,12 @@ module _ (ws : List ℕ) where
   unfolding committedAll
   committed-next i us l k eu ek el = el ∙ ap (λ (x : Known). committedAt us (x .place)) ek ∙ ap (λ (x : List ℕ). committedAt x (knownAt x i .place)) eu ∙ sym (rw add-one)
 
+  pub committed-step : (n i : ℕ) (us : List ℕ) (k : Known) → CommitPlaced ws n → i < n → us ≡ committedAll ws i → k ≡ knownAt us i → k .place < 256
+  committed-step n i us k p h eu ek =
+      let e : k .place ≡ knownAt (committedAll ws i) i .place = ap (λ (x : Known). x .place) (ek ∙ ap (λ (x : List ℕ). knownAt x i) eu) in
+      let q : knownAt (committedAll ws i) i .place < 256 = p i h in
+      omega arith
+
   pub committed-end : (n i : ℕ) (us : List ℕ) → us ≡ committedAll ws i → i ≤ n → n ≤ i → us ≡ committedAll ws n
   committed-end n i us e l g =
       let q : i ≡ n = omega arith in
@@ -190,6 +196,13 @@ module _ (ws : List ℕ) (n : ℕ) (few : n ≤ 256) (whole : length ws ≡ 2076
       let ep : knownAt (committedAll ws i) i .place ≡ knownAt ws i .place = ap (λ (x : Known). x .place) e in
       step-kept ws (committedAll ws i) n (knownAt (committedAll ws i) i .place) (omega arith) k
 
+  placed : CommitPlaced ws n
+  placed i l =
+      let e : knownAt (committedAll ws i) i ≡ knownAt ws i = kept i (omega arith) .known-same i (omega arith) in
+      let p : knownAt ws i .place < n = (passed i l) .0 in
+      let ep : knownAt (committedAll ws i) i .place ≡ knownAt ws i .place = ap (λ (x : Known). x .place) e in
+      omega arith
+
   walks : (il : Bool) (i : ℕ) → i ≤ n → committedAll ws i ≡ reopenedAll true il ws i
   unfolding committedAll reopenedAll
   walks il zero l = refl
@@ -234,12 +247,14 @@ quiet-commit ws r t l whole er h et el = by (ltb 256 (schedulerAt ws .active)) r
         ap (called (Accepted 0)) (el ∙ ap (λ (x : Totals). committedAll ws (x .known)) et ∙ walks ws n few whole q (totalsAt ws .interleaving) n z)
         ∙ sym (rw (eb, ea, tallied ws n few whole q n z, le-leb _ _ low))
 
--- The count is one of a table where nothing starts.
-pub starts-few : (ws : List ℕ) (r : Bool) (t : Totals) → r ≡ nothingStarts ws → r ≡ true → t ≡ totalsAt ws → t .known ≤ 256
+-- Where nothing starts, the count is one of a table, and so are the places.
+pub starts-few : (ws : List ℕ) (r : Bool) (t : Totals) → length ws ≡ 20768 → r ≡ nothingStarts ws → r ≡ true → t ≡ totalsAt ws → (t .known ≤ 256) × CommitPlaced ws (t .known)
 unfolding nothingStarts
-starts-few ws r t er h et = by (ltb 256 (schedulerAt ws .active)) (ltb 256 (knownCount ws)) refl (sym er ∙ h)
+starts-few ws r t whole er h et = by (ltb 256 (schedulerAt ws .active)) (ltb 256 (knownCount ws)) refl (sym er ∙ h)
   where
-    by : (a b : Bool) → ltb 256 (knownCount ws) ≡ b → pick a false (pick b false (quietFrom ws (knownCount ws) 0 (knownCount ws))) ≡ true → t .known ≤ 256
+    by : (a b : Bool) → ltb 256 (knownCount ws) ≡ b → pick a false (pick b false (quietFrom ws (knownCount ws) 0 (knownCount ws))) ≡ true → (t .known ≤ 256) × CommitPlaced ws (t .known)
     by true b eb q = absurd (holds false q)
     by false true eb q = absurd (holds false q)
-    by false false eb q = subst (λ (x : Totals). x .known ≤ 256) (sym et) (ltb-false _ _ eb)
+    by false false eb q =
+        let few : knownCount ws ≤ 256 = ltb-false _ _ eb in
+        subst (λ (x : Totals). (x .known ≤ 256) × CommitPlaced ws (x .known)) (sym et) (few, placed ws (knownCount ws) few whole q)

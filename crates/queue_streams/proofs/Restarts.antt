@@ -6,18 +6,19 @@ use Prim.Native.Nat.{ℕ, suc, _+_, _≤_, _<_}
 use native.Mathlib.Omega.{arith}
 use native.Mathlib.Numerals.{add-one}
 use lib.Dec.{ltb}
-use borrow.Author.Tests.{lt-ltb, le-ltb}
+use borrow.Author.Tests.{lt-ltb, le-ltb, ltb-false}
 use Rattle.queue_model.proofs.Tests.{holds, Tri, less, same, more, tri}
 use Rattle.queue_words.specs.Flags.{pick}
 use Rattle.queue_words.specs.Header.{totalsAt, putTotals}
 use Rattle.queue_words.specs.Known.{knownAt, knownCount}
-use Rattle.queue_words.specs.Streams.{streamAt, putStream}
+use Rattle.queue_words.specs.Streams.{isResetting, streamAt, putStream}
 use Rattle.queue_words.specs.declared.header.Totals.{Totals}
 use Rattle.queue_words.specs.declared.known.Known.{Known}
 use Rattle.queue_words.specs.declared.streams.OutgoingStream.{OutgoingStream}
 use Rattle.queue_streams.specs.Settings.{called}
 use Rattle.queue_streams.specs.Waiting.{rescheduled, roomFor}
 use Rattle.queue_streams.specs.Restart.{opened, reopenedIn, reopenedAt, reopenedAll, reopen, switchedAt, switchedAll, withInterleaving, alike, setInterleaving}
+use Rattle.queue_streams.specs.Settled.{rescheduleDone, reopenDoneIn, reopenDoneAt, ReopenSteps, switchDoneAt, SwitchSteps}
 use Rattle.queue_streams.specs.declared.answers.Call.the-variants.{Accepted, Refused}
 
 -- Where there is room, the count is one of a table.
@@ -32,11 +33,49 @@ room-fits ws all r t er h et = elim (tri (t .known) 257) [
     h-false : 256 < t .known → false ≡ true
     h-false g = sym (rw (ap (λ (x : Totals). x .known) (sym et), lt-ltb _ _ g)) ∙ sym er ∙ h
 
-module _ (z il : Bool) (ws : List ℕ) (k : Known) where
-  pub reopened-outside : 255 < k .place → ws ≡ reopenedAt z il ws k
-  unfolding reopenedAt
-  reopened-outside h = rw (lt-ltb _ _ h)
+-- ------------------------------------------------------------------ what a done step says
 
+-- No test stopped it, and what stands behind the test is so.
+pub not-stopped : (b d : Bool) → pick b false d ≡ true → (b ≡ false) × (d ≡ true)
+not-stopped true d e = absurd (holds false e)
+not-stopped false d e = (refl, e)
+
+module _ (z il : Bool) (ws : List ℕ) (k : Known) (d : reopenDoneAt z il ws k ≡ true) where
+  reopen-steps-in : (ltb 255 (k .place) ≡ false) × (reopenDoneIn z il ws (k .id .0) (k .place) (streamAt ws (k .place)) ≡ true)
+  unfolding reopenDoneAt
+  reopen-steps-in = not-stopped (ltb 255 (k .place)) _ d
+
+  pub reopen-placed : k .place ≤ 255
+  reopen-placed = ltb-false 255 (k .place) (reopen-steps-in .0)
+
+  pub reopen-done-in : (s : OutgoingStream) → s ≡ streamAt ws (k .place) → reopenDoneIn z il ws (k .id .0) (k .place) s ≡ true
+  reopen-done-in s es = ap (reopenDoneIn z il ws (k .id .0) (k .place)) es ∙ reopen-steps-in .1
+
+-- A resetting stream with messages has been opened: it can be let wait.
+pub reopen-waits : (z il : Bool) (ws : List ℕ) (id place : ℕ) (s o : OutgoingStream) (us : List ℕ) (r : Bool) → reopenDoneIn z il ws id place s ≡ true
+    → r ≡ isResetting (s .«pause_state») → r ≡ true → o ≡ opened z s → us ≡ putStream ws place o → s .first < 1024 → rescheduleDone us il id (s .first) (s .priority) ≡ true
+unfolding reopenDoneIn
+reopen-waits z il ws id place s o us r d er h eo eu f =
+    let e : reopenDoneIn z il ws id place s ≡ rescheduleDone us il id (s .first) (s .priority) = rw (← er, h, lt-ltb _ _ f, eu, eo) in
+    sym e ∙ d
+
+module _ (il : Bool) (ws : List ℕ) (k : Known) (d : switchDoneAt il ws k ≡ true) where
+  abbrev done : OutgoingStream → Bool
+  done s = rescheduleDone ws il (k .id .0) (s .first) (s .priority)
+
+  switch-steps-in : (ltb 255 (k .place) ≡ false) × (pick (ltb 1024 (streamAt ws (k .place) .first)) false (done (streamAt ws (k .place))) ≡ true)
+  unfolding switchDoneAt
+  switch-steps-in = not-stopped (ltb 255 (k .place)) _ d
+
+  pub switch-placed : k .place ≤ 255
+  switch-placed = ltb-false 255 (k .place) (switch-steps-in .0)
+
+  pub switch-waits : (s : OutgoingStream) → s ≡ streamAt ws (k .place) → done s ≡ true
+  switch-waits s es = ap done es ∙ not-stopped (ltb 1024 (streamAt ws (k .place) .first)) _ (switch-steps-in .1) .1
+
+-- ------------------------------------------------------------------ commit and rollback
+
+module _ (z il : Bool) (ws : List ℕ) (k : Known) where
   pub reopened-inside : (s : OutgoingStream) (l : List ℕ) → k .place ≤ 255 → s ≡ streamAt ws (k .place) → l ≡ reopenedIn z il ws (k .id .0) (k .place) s → l ≡ reopenedAt z il ws k
   unfolding reopenedAt
   reopened-inside s l h es el = rw (le-ltb _ _ h, ← es, el)
@@ -49,6 +88,9 @@ module _ (z il : Bool) (ws : List ℕ) where
   pub reopened-next : (i : ℕ) (us l : List ℕ) (k : Known) → us ≡ reopenedAll z il ws i → k ≡ knownAt us i → l ≡ reopenedAt z il us k → l ≡ reopenedAll z il ws (i + 1)
   unfolding reopenedAll
   reopened-next i us l k eu ek el = el ∙ ap (reopenedAt z il us) ek ∙ ap (λ (x : List ℕ). reopenedAt z il x (knownAt x i)) eu ∙ sym (rw add-one)
+
+  pub reopened-step : (n i : ℕ) (us : List ℕ) (k : Known) → ReopenSteps z il ws n → i < n → us ≡ reopenedAll z il ws i → k ≡ knownAt us i → reopenDoneAt z il us k ≡ true
+  reopened-step n i us k d h eu ek = ap (reopenDoneAt z il us) ek ∙ subst (λ (x : List ℕ). reopenDoneAt z il x (knownAt x i) ≡ true) (sym eu) (d i h)
 
   pub reopened-end : (n i : ℕ) (us : List ℕ) → us ≡ reopenedAll z il ws i → i ≤ n → n ≤ i → us ≡ reopenedAll z il ws n
   reopened-end n i us e l g =
@@ -67,10 +109,6 @@ module _ (z : Bool) (ws : List ℕ) (r : Bool) (er : r ≡ roomFor ws false) whe
 -- ---- interleaving
 
 module _ (il : Bool) (ws : List ℕ) (k : Known) where
-  pub switched-outside : 255 < k .place → ws ≡ switchedAt il ws k
-  unfolding switchedAt
-  switched-outside h = rw (lt-ltb _ _ h)
-
   pub switched-inside : (s : OutgoingStream) (l : List ℕ) → k .place ≤ 255 → s ≡ streamAt ws (k .place) → l ≡ rescheduled ws il (k .id .0) (s .first) (s .priority) → l ≡ switchedAt il ws k
   unfolding switchedAt
   switched-inside s l h es el = el ∙ ap (λ (x : OutgoingStream). rescheduled ws il (k .id .0) (x .first) (x .priority)) es ∙ sym (rw (le-ltb _ _ h))
@@ -83,6 +121,9 @@ module _ (il : Bool) (ws : List ℕ) where
   pub switched-next : (i : ℕ) (us l : List ℕ) (k : Known) → us ≡ switchedAll il ws i → k ≡ knownAt us i → l ≡ switchedAt il us k → l ≡ switchedAll il ws (i + 1)
   unfolding switchedAll
   switched-next i us l k eu ek el = el ∙ ap (switchedAt il us) ek ∙ ap (λ (x : List ℕ). switchedAt il x (knownAt x i)) eu ∙ sym (rw add-one)
+
+  pub switched-step : (n i : ℕ) (us : List ℕ) (k : Known) → SwitchSteps il ws n → i < n → us ≡ switchedAll il ws i → k ≡ knownAt us i → switchDoneAt il us k ≡ true
+  switched-step n i us k d h eu ek = ap (switchDoneAt il us) ek ∙ subst (λ (x : List ℕ). switchDoneAt il x (knownAt x i) ≡ true) (sym eu) (d i h)
 
   pub switched-end : (n i : ℕ) (us : List ℕ) → us ≡ switchedAll il ws i → i ≤ n → n ≤ i → us ≡ switchedAll il ws n
   switched-end n i us e l g =

@@ -10,16 +10,17 @@ use lib.ListN.{length}
 use borrow.Author.Tests.{le-ltb, eq-eqb, ltb-false}
 use Rattle.queue_model.proofs.Tests.{holds}
 use Rattle.queue_words.specs.Flags.{pick}
-use Rattle.queue_words.specs.Header.{totalsAt}
+use Rattle.queue_words.specs.Header.{totalsAt, putTotals}
 use Rattle.queue_words.specs.Known.{knownAt, knownCount}
 use Rattle.queue_words.specs.Streams.{isResetting, streamAt, putStream}
+use Rattle.queue_words.specs.declared.header.Totals.{Totals}
 use Rattle.queue_words.specs.declared.streams.OutgoingStream.{OutgoingStream}
 use Rattle.queue_words.proofs.Laws.{stream-at-fits}
 use Rattle.queue_streams.specs.Answers.{isAccepted}
 use Rattle.queue_streams.specs.Waiting.{rescheduled, passedOver, tally, roomFor}
 use Rattle.queue_streams.specs.Restart.{opened, reopenedIn, reopenedAt, reopenedAll, reopen, withInterleaving, switchedAt, switchedAll, alike, setInterleaving}
 use Rattle.queue_streams.specs.Settings.{called}
-use Rattle.queue_streams.specs.Settled.{rescheduleDone, reopenDoneIn, reopenDoneAt, ReopenSettled, switchDoneAt, chosen, SwitchSettled}
+use Rattle.queue_streams.specs.Settled.{rescheduleDone, reopenDoneIn, reopenDoneAt, ReopenSteps, ReopenSettled, switchDoneAt, SwitchSteps, chosen, SwitchSettled}
 use Rattle.queue_streams.specs.declared.answers.Call.the-variants.{Accepted, Refused}
 use Rattle.queue_streams.proofs.Commits.{opened-fits}
 use Rattle.queue_streams.proofs.Walk.{Kept, Done, all-done, kept-start, kept-totals, kept-stream, in-table, none-passed, first-bounded, wait-done, next-kept}
@@ -72,6 +73,10 @@ reopen-settled z ws l room =
     let il : Bool = totalsAt ws .interleaving in
     all-done ws false (knownCount ws) (reopenedAll z il ws) (λ i. reopenDoneAt z il (reopenedAll z il ws i) (knownAt (reopenedAll z il ws i) i)) (kept-start ws false l) (λ i h k. reopen-step z il ws room i h (reopenedAll z il ws i) k)
 
+-- With the totals that were read.
+pub reopen-steps : (z : Bool) (ws : List ℕ) (t : Totals) → length ws ≡ 20768 → roomFor ws false ≡ true → t ≡ totalsAt ws → ReopenSteps z (t .interleaving) ws (t .known)
+reopen-steps z ws t l room et = subst (λ (x : Totals). ReopenSteps z (x .interleaving) ws (x .known)) (sym et) (reopen-settled z ws l room)
+
 accepted-room : (z : Bool) (ws : List ℕ) → isAccepted (reopen z ws .answer) ≡ true → roomFor ws false ≡ true
 unfolding reopen
 accepted-room z ws = by (roomFor ws false)
@@ -105,6 +110,12 @@ unfolding switchedAll
 switched-settled b ws l room =
     all-done ws true (knownCount ws) (switchedAll b (chosen b ws)) (λ i. switchDoneAt b (switchedAll b (chosen b ws) i) (knownAt (switchedAll b (chosen b ws) i) i)) (kept-totals ws true (withInterleaving (totalsAt ws) b) l)
     (λ i h k. switch-step b ws room i h (switchedAll b (chosen b ws) i) k)
+
+pub switch-steps : (b : Bool) (ws us : List ℕ) (t : Totals) → length ws ≡ 20768 → roomFor ws true ≡ true → t ≡ totalsAt ws → us ≡ putTotals ws (withInterleaving t b)
+    → SwitchSteps b us (t .known)
+switch-steps b ws us t l room et eu =
+    subst (λ (x : List ℕ). SwitchSteps b x (t .known)) (sym eu)
+    (subst (λ (x : Totals). SwitchSteps b (putTotals ws (withInterleaving x b)) (x .known)) (sym et) (switched-settled b ws l room))
 
 -- Where the other choice is accepted, every step of switching is done.
 pub switch-settled : (b : Bool) (ws : List ℕ) → length ws ≡ 20768 → alike b (totalsAt ws .interleaving) ≡ false → isAccepted (setInterleaving b ws .answer) ≡ true → SwitchSettled b ws

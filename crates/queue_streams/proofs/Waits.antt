@@ -23,6 +23,7 @@ use Rattle.queue_words.specs.declared.streams.OutgoingStream.{OutgoingStream}
 use Rattle.stream_scheduler.specs.Words.{waitsIn}
 use Rattle.queue_streams.specs.Restart.{opened, reopenedIn, reopenedAt, reopenedAll, reopen, switchedAt, switchedAll, withInterleaving, alike, setInterleaving}
 use Rattle.queue_streams.specs.Waiting.{remainingAt, headSize, parametersFor, rescheduled, passedOver, tallyStream, tallyKnown, tally, roomFor}
+use Rattle.queue_streams.specs.Settled.{rescheduleDone}
 use Rattle.queue_streams.specs.declared.waiting.Tally.{Tally}
 
 module _ (ws : List ℕ) (i : ℕ) (m : Item) (em : m ≡ itemAt ws i) where
@@ -47,6 +48,11 @@ pub waits-again : (ws : List ℕ) (il : Bool) (id first q bytes : ℕ) (p : Sche
     → outcome r l ≡ setBytesRemaining ws id bytes p → l ≡ rescheduled ws il id first q
 unfolding rescheduled
 waits-again ws il id first q bytes p r l eb ep el = ap (λ (o : Outcome). o .next) el ∙ ap₂ (λ (b : ℕ) (x : SchedulingParameters). (setBytesRemaining ws id b x) .next) eb ep
+
+pub waits-done : (ws : List ℕ) (il : Bool) (id first q bytes : ℕ) (p : SchedulingParameters) → rescheduleDone ws il id first q ≡ true → bytes ≡ headSize ws first → p ≡ parametersFor il q
+    → setBytesRemaining ws id bytes p .done ≡ true
+unfolding rescheduleDone
+waits-done ws il id first q bytes p d eb ep = ap₂ (λ (b : ℕ) (x : SchedulingParameters). (setBytesRemaining ws id b x) .done) eb ep ∙ d
 
 pub by-priority : (il : Bool) (p : ℕ) → il ≡ true → WeightedFairQueuing p ≡ parametersFor il p
 by-priority il p e = rw e

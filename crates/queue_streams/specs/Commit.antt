@@ -1,5 +1,5 @@
 -- Commit where no stream begins to wait, on the words. It is `reopen true` (specs/Restart) there, which proofs/Commits shows. Assumes nothing.
-use Prim.Native.Nat.{ℕ, zero, suc}
+use Prim.Native.Nat.{ℕ, zero, suc, _<_}
 use mathlib.Core.Bool.{Bool, true, false, not}
 use mathlib.Core.List.{List}
 use lib.Dec.{ltb, leb, eqb}
@@ -31,3 +31,7 @@ committedAt ws place = pick (ltb 255 place) ws (pick (isResetting (streamAt ws p
 unfoldable pub committedAll : List ℕ → ℕ → List ℕ
 committedAll ws zero = ws
 committedAll ws (suc i) = committedAt (committedAll ws i) (knownAt (committedAll ws i) i .place)
+
+-- The place of each of the first n known streams is in its table, with the words as the walk has them there.
+abbrev pub CommitPlaced : List ℕ → ℕ → Type 0
+CommitPlaced ws n = (i : ℕ) → i < n → knownAt (committedAll ws i) i .place < 256

@@ -33,10 +33,13 @@ reopenDoneIn zeroed il ws id place s =
 unfoldable pub reopenDoneAt : Bool → Bool → List ℕ → Known → Bool
 reopenDoneAt zeroed il ws k = pick (ltb 255 (k .place)) false (reopenDoneIn zeroed il ws (k .id .0) (k .place) (streamAt ws (k .place)))
 
--- "For every resetting stream": every step of commit (`true`) or rollback is done, with the words as the walk has them there.
+-- "For every resetting stream": each of the first n steps is done, with the words as the walk has them there.
+abbrev pub ReopenSteps : Bool → Bool → List ℕ → ℕ → Type 0
+ReopenSteps zeroed il ws n = (i : ℕ) → i < n → reopenDoneAt zeroed il (reopenedAll zeroed il ws i) (knownAt (reopenedAll zeroed il ws i) i) ≡ true
+
+-- Every step of commit (`true`) or rollback.
 abbrev pub ReopenSettled : Bool → List ℕ → Type 0
-ReopenSettled zeroed ws =
-    (i : ℕ) → i < knownCount ws → reopenDoneAt zeroed (totalsAt ws .interleaving) (reopenedAll zeroed (totalsAt ws .interleaving) ws i) (knownAt (reopenedAll zeroed (totalsAt ws .interleaving) ws i) i) ≡ true
+ReopenSettled zeroed ws = ReopenSteps zeroed (totalsAt ws .interleaving) ws (knownCount ws)
 
 -- A step of switching (`switchedAt`, specs/Restart): every stream's weight is read, and none is passed over.
 unfoldable pub switchDoneAt : Bool → List ℕ → Known → Bool
@@ -44,10 +47,14 @@ switchDoneAt il ws k =
     pick (ltb 255 (k .place)) false
     (pick (ltb 1024 (streamAt ws (k .place) .first)) false (rescheduleDone ws il (k .id .0) (streamAt ws (k .place) .first) (streamAt ws (k .place) .priority)))
 
+-- Each of the first n steps is done.
+abbrev pub SwitchSteps : Bool → List ℕ → ℕ → Type 0
+SwitchSteps il ws n = (i : ℕ) → i < n → switchDoneAt il (switchedAll il ws i) (knownAt (switchedAll il ws i) i) ≡ true
+
 -- The words from which the walk of switching starts: the choice is set.
 abbrev pub chosen : Bool → List ℕ → List ℕ
 chosen b ws = putTotals ws (withInterleaving (totalsAt ws) b)
 
 -- Every step of switching to this choice is done.
 abbrev pub SwitchSettled : Bool → List ℕ → Type 0
-SwitchSettled b ws = (i : ℕ) → i < knownCount ws → switchDoneAt b (switchedAll b (chosen b ws) i) (knownAt (switchedAll b (chosen b ws) i) i) ≡ true
+SwitchSettled b ws = SwitchSteps b (chosen b ws) (knownCount ws)

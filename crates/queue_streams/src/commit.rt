@@ -1,13 +1,12 @@
 // Commit where no stream begins to wait: those that open have no message. That is the usual case, and one short walk settles it.
 ghost use mathlib.Core.Path.{_≡_};
 ghost use Prim.Native.Nat.{_<_, _≤_};
-ghost use Rattle.queue_streams.specs.Commit.{quietStream, quietFrom, nothingStarts, committedAt, committedAll};
+ghost use Rattle.queue_streams.specs.Commit.{quietStream, quietFrom, nothingStarts, committedAt, committedAll, CommitPlaced};
 use crate::restart::open_stream;
 use queue_words::QUEUE_WORDS;
 use queue_words::header::load_scheduler_state;
 use queue_words::header::load_totals;
 use queue_words::known::load_known;
-use queue_words::limits::LAST_STREAM;
 use queue_words::limits::NO_MESSAGE;
 use queue_words::limits::STREAMS;
 use queue_words::streams::OutgoingStream;
@@ -65,11 +64,9 @@ pub(crate) fn nothing_starts(queue: &[u64; QUEUE_WORDS]) -> bool
 
 // "commit sets the three counters to 0 and opens": the stream in this row, if it is resetting.
 fn commit_at(queue: &mut [u64; QUEUE_WORDS], place: u64)
+    requires { ⌜ place < 256 ⌝ }
     ensures { λ _. ⌜ now (queue .exit) ≡ committedAt (now (queue .entry)) place ⌝ }
 {
-    if place > LAST_STREAM {
-        return;
-    }
     let s = load_stream(&*queue, place as usize);
     let state = s.pause_state;
     let resetting = state.is_resetting();
@@ -81,7 +78,7 @@ fn commit_at(queue: &mut [u64; QUEUE_WORDS], place: u64)
 
 // The first n known streams.
 pub(crate) fn commit_all(queue: &mut [u64; QUEUE_WORDS], n: usize)
-    requires { ⌜ n ≤ 256 ⌝ }
+    requires { ⌜ (n ≤ 256) × CommitPlaced (now queue) n ⌝ }
     ensures { λ _. ⌜ now (queue .exit) ≡ committedAll (now (queue .entry)) n ⌝ }
 {
     let mut i = 0;

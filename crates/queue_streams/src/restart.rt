@@ -4,6 +4,7 @@ ghost use mathlib.Core.Path.{_≡_};
 ghost use Prim.Native.Nat.{_<_, _≤_};
 ghost use Rattle.queue_streams.specs.Settings.{called};
 ghost use Rattle.queue_streams.specs.Restart.{opened, reopenedIn, reopenedAt, reopenedAll, reopen, switchedAt, switchedAll, alike, setInterleaving};
+ghost use Rattle.queue_streams.specs.Settled.{reopenDoneIn, reopenDoneAt, ReopenSteps, switchDoneAt, SwitchSteps};
 ghost use Rattle.queue_streams.specs.Waiting.{roomFor};
 ghost use Rattle.queue_streams.specs.declared.answers.Call.the-variants.{Accepted};
 ghost use Rattle.queue_words.specs.Known.{knownAt};
@@ -17,7 +18,6 @@ use queue_words::header::load_totals;
 use queue_words::header::store_totals;
 use queue_words::known::Known;
 use queue_words::known::load_known;
-use queue_words::limits::LAST_STREAM;
 use queue_words::limits::NO_MESSAGE;
 use queue_words::streams::OutgoingStream;
 use queue_words::streams::PauseState;
@@ -55,7 +55,7 @@ fn reopen_in(
     place: usize,
     s: OutgoingStream,
 )
-    requires { ⌜ place < 256 ⌝ }
+    requires { ⌜ (place < 256) × (reopenDoneIn zeroed interleaving (now queue) id place s ≡ true) ⌝ }
     ensures { λ _. ⌜ now (queue .exit) ≡ reopenedIn zeroed interleaving (now (queue .entry)) id place s ⌝ }
 {
     let state = s.pause_state;
@@ -72,18 +72,16 @@ fn reopen_in(
 }
 
 fn reopen_at(queue: &mut [u64; QUEUE_WORDS], zeroed: bool, interleaving: bool, k: Known)
+    requires { ⌜ reopenDoneAt zeroed interleaving (now queue) k ≡ true ⌝ }
     ensures { λ _. ⌜ now (queue .exit) ≡ reopenedAt zeroed interleaving (now (queue .entry)) k ⌝ }
 {
-    if k.place > LAST_STREAM {
-        return;
-    }
     let place = k.place as usize;
     let s = load_stream(&*queue, place);
     reopen_in(queue, zeroed, interleaving, k.id.0, place, s);
 }
 
 fn reopen_all(queue: &mut [u64; QUEUE_WORDS], zeroed: bool, interleaving: bool, n: usize)
-    requires { ⌜ n ≤ 256 ⌝ }
+    requires { ⌜ (n ≤ 256) × ReopenSteps zeroed interleaving (now queue) n ⌝ }
     ensures { λ _. ⌜ now (queue .exit) ≡ reopenedAll zeroed interleaving (now (queue .entry)) n ⌝ }
 {
     let mut i = 0;
@@ -99,6 +97,7 @@ pub fn reopen_own(queue: &mut [u64; QUEUE_WORDS], zeroed: bool)
     requires { ⌜ roomFor (now queue) false ≡ true ⌝ }
     ensures { λ _. ⌜ called (Accepted 0) (now (queue .exit)) ≡ reopen zeroed (now (queue .entry)) ⌝ }
 {
+    whole(&*queue);
     let t = load_totals(&*queue);
     reopen_all(queue, zeroed, t.interleaving, t.known as usize);
 }
@@ -136,17 +135,15 @@ pub fn rollback_reset_streams(queue: &mut [u64; QUEUE_WORDS]) -> Call
 }
 
 fn switch_at(queue: &mut [u64; QUEUE_WORDS], interleaving: bool, k: Known)
+    requires { ⌜ switchDoneAt interleaving (now queue) k ≡ true ⌝ }
     ensures { λ _. ⌜ now (queue .exit) ≡ switchedAt interleaving (now (queue .entry)) k ⌝ }
 {
-    if k.place > LAST_STREAM {
-        return;
-    }
     let s = load_stream(&*queue, k.place as usize);
     reschedule(queue, interleaving, k.id.0, s.first, s.priority);
 }
 
 fn switch_all(queue: &mut [u64; QUEUE_WORDS], interleaving: bool, n: usize)
-    requires { ⌜ n ≤ 256 ⌝ }
+    requires { ⌜ (n ≤ 256) × SwitchSteps interleaving (now queue) n ⌝ }
     ensures { λ _. ⌜ now (queue .exit) ≡ switchedAll interleaving (now (queue .entry)) n ⌝ }
 {
     let mut i = 0;
@@ -171,6 +168,7 @@ pub fn switch_own(queue: &mut [u64; QUEUE_WORDS], enabled: bool)
     requires { ⌜ roomFor (now queue) true ≡ true ⌝ }
     ensures { λ _. ⌜ called (Accepted 0) (now (queue .exit)) ≡ setInterleaving enabled (now (queue .entry)) ⌝ }
 {
+    whole(&*queue);
     let mut t = load_totals(&*queue);
     let same = same_choice(enabled, t.interleaving);
     if same {

@@ -1,8 +1,10 @@
 // Letting streams wait.
+ghost use mathlib.Core.Bool.{true};
 ghost use mathlib.Core.Path.{_≡_};
 ghost use Prim.Native.Nat.{_<_, _≤_};
 ghost use Rattle.queue_words.specs.Header.{schedulerAt};
 ghost use Rattle.queue_streams.specs.Waiting.{remainingAt, headSize, parametersFor, rescheduled, passedOver, tallyStream, tallyKnown, tally, roomFor};
+ghost use Rattle.queue_streams.specs.Settled.{rescheduleDone};
 use queue_words::QUEUE_WORDS;
 use queue_words::active::SchedulingParameters;
 use queue_words::header::load_scheduler_state;
@@ -16,7 +18,7 @@ use queue_words::limits::STREAMS;
 use queue_words::streams::OutgoingStream;
 use queue_words::streams::PauseState;
 use queue_words::streams::load_stream;
-use stream_scheduler::set_bytes_remaining;
+use stream_scheduler::own::set_own;
 use stream_scheduler::waits;
 
 // The remaining bytes of a message.
@@ -51,7 +53,7 @@ pub fn parameters_for(interleaving: bool, priority: u16) -> SchedulingParameters
     SchedulingParameters::RoundRobin
 }
 
-// Lets a stream wait with its first message, or ends its waiting where it has none.
+// Lets a stream wait with its first message, or ends its waiting where it has none. It has a row, or one is free, or none is needed.
 pub fn reschedule(
     queue: &mut [u64; QUEUE_WORDS],
     interleaving: bool,
@@ -59,11 +61,12 @@ pub fn reschedule(
     first: u64,
     priority: u16,
 )
+    requires { ⌜ rescheduleDone (now queue) interleaving id first priority ≡ true ⌝ }
     ensures { λ _. ⌜ now (queue .exit) ≡ rescheduled (now (queue .entry)) interleaving id first priority ⌝ }
 {
     let bytes = head_size(&*queue, first);
     let p = parameters_for(interleaving, priority);
-    set_bytes_remaining(queue, id, bytes, p);
+    set_own(queue, id, bytes, p);
 }
 
 // A test of all known streams half done: whether their places are in their tables, and how many rows would be needed. It is handed

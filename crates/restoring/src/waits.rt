@@ -2,13 +2,15 @@
 ghost use mathlib.Core.Path.{_≡_};
 ghost use Prim.Native.Nat.{_≤_};
 ghost use Rattle.restoring.specs.Messages.{waitsAt, waitsAll};
-use queue_streams::reschedule;
+use queue_streams::head_size;
+use queue_streams::parameters_for;
 use queue_words::QUEUE_WORDS;
 use queue_words::known::Known;
 use queue_words::known::load_known;
 use queue_words::limits::LAST_STREAM;
 use queue_words::limits::NO_MESSAGE;
 use queue_words::streams::load_stream;
+use stream_scheduler::set_bytes_remaining;
 
 fn wait_at(queue: &mut [u64; QUEUE_WORDS], interleaving: bool, k: Known)
     ensures { λ _. ⌜ now (queue .exit) ≡ waitsAt interleaving (now (queue .entry)) k ⌝ }
@@ -18,7 +20,9 @@ fn wait_at(queue: &mut [u64; QUEUE_WORDS], interleaving: bool, k: Known)
     }
     let s = load_stream(&*queue, k.place as usize);
     if s.first < NO_MESSAGE {
-        reschedule(queue, interleaving, k.id.0, s.first, s.priority);
+        let bytes = head_size(&*queue, s.first);
+        let p = parameters_for(interleaving, s.priority);
+        set_bytes_remaining(queue, k.id.0, bytes, p);
     }
 }
 

@@ -1,32 +1,20 @@
--- `queue_restarts::whole::reset_at` meets its contract: each return is what its definition says, by what the calls ensure and the tests taken. Assumes nothing.
-use borrow.Author.Needs.{needs}
-use borrow.Author.Tests.{le-ltb, lt-ltb}
-use Rattle.queue_restarts.specs.Reset.{resetAt}
+-- `queue_restarts::whole::reset_at` meets its contract: the place is in its table, by what it asks for. Assumes nothing.
+use native.Mathlib.Omega.{arith}
+use Rattle.queue_restarts.proofs.Resets.{reset-placed, reset-done-in, reset-inside}
 use Rattle.queue_restarts.proofs.whole.reset_at.Statement.{statement}
 use Rattle.queue_restarts.proofs.whole.reset_at.Tie as tie
 
-returns : tie.Need-returns
-unfolding resetAt
-returns c =
-    rw
-    (
-    lt-ltb _ _ (c .if1 .taken)
-    )
+load-stream-requires : tie.Need-load-stream-requires
+load-stream-requires c κs = omega (arith, reset-placed _ _ _ _ (c .before .pre))
 
-returns-2 : tie.Need-returns-2
-unfolding resetAt
-returns-2 c =
-    rw (
-      le-ltb _ _ (c .before .before .before .before .if1 .left),
-      ← (c .before .before .load-stream .ensures),
-      ← (c .reset-in .ensures),
-    )
+reset-in-requires : tie.Need-reset-in-requires
+reset-in-requires c κs = (
+  omega (arith, reset-placed _ _ _ _ (c .before .before .before .pre)),
+  reset-done-in _ _ _ _ (c .before .before .before .pre) _ (c .before .load-stream .ensures),
+)
+
+returns : tie.Need-returns
+returns c = reset-inside _ _ _ _ (c .before .before .before .before .pre) _ _ (c .before .before .load-stream .ensures) (c .reset-in .ensures)
 
 pub reset-at-spec : {M : Type 1} → statement M
-reset-at-spec =
-    tie.close
-    (tie.spec
-    returns
-    (λ c. search needs)
-    (λ c. search needs)
-    returns-2)
+reset-at-spec = tie.close (tie.spec load-stream-requires reset-in-requires returns)

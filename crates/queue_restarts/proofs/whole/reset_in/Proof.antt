@@ -2,8 +2,15 @@
 use borrow.Author.Needs.{needs}
 use borrow.Author.Tests.{le-ltb, lt-ltb}
 use Rattle.queue_restarts.specs.Reset.{resetIn}
+use Rattle.queue_restarts.proofs.Resets.{reset-waits}
 use Rattle.queue_restarts.proofs.whole.reset_in.Statement.{statement}
 use Rattle.queue_restarts.proofs.whole.reset_in.Tie as tie
+
+reschedule-requires : tie.Need-reschedule-requires
+reschedule-requires c κs =
+    reset-waits _ _ _ _ _ _ _ _ _ _ (c .before .before .before .before .before .before .before .before .before .before .pre .1) (c .before .before .before .before .before .before .before .before .put-back .ensures)
+    (c .before .before .before .before .before .before .before .reset-stream .ensures) (c .before .before .before .before .before .store-stream .ensures)
+    (c .before .before .before .if1 .taken) (c .before .whole-head .ensures)
 
 returns : tie.Need-returns
 unfolding resetIn
@@ -35,6 +42,6 @@ reset-in-spec =
     (λ c. search needs)
     (λ c. search needs)
     (λ c. search needs)
-    (λ c. search needs)
+    reschedule-requires
     returns
     returns-2)

@@ -5,10 +5,15 @@ use Rattle.queue_streams.proofs.restart.commit_reset_streams.Statement.
 use Rattle.queue_streams.proofs.restart.commit_reset_streams.Tie as tie
 
 commit-all-requires : tie.Need-commit-all-requires
-commit-all-requires c κs = starts-few _ _ _ (c .before .before .before .before .nothing-starts .ensures) (c .before .before .before .if1 .taken) (c .before .load-totals .ensures)
+commit-all-requires c κs =
+    starts-few _ _ _ (c .before .before .before .before .before .before .whole .ensures) (c .before .before .before .before .nothing-starts .ensures)
+    (c .before .before .before .if1 .taken) (c .before .load-totals .ensures)
 
 returns : tie.Need-returns
-returns c = quiet-commit _ _ _ _ (c .before .before .before .before .before .before .before .whole .ensures) (c .before .before .before .before .before .nothing-starts .ensures) (c .before .before .before .before .if1 .taken) (c .before .before .load-totals .ensures) (c .commit-all .ensures)
+returns c =
+    quiet-commit _ _ _ _ (c .before .before .before .before .before .before .before .whole .ensures)
+    (c .before .before .before .before .before .nothing-starts .ensures) (c .before .before .before .before .if1 .taken)
+    (c .before .before .load-totals .ensures) (c .commit-all .ensures)
 
 returns-2 : tie.Need-returns-2
 returns-2 c = (c .reopen-streams .ensures)

@@ -1,14 +1,22 @@
--- `queue_streams::restart::reopen_at` meets its contract: each return is a case of `reopenedAt`. Assumes nothing.
-use borrow.Author.Needs.{needs}
-use Rattle.queue_streams.proofs.Restarts.{reopened-outside, reopened-inside}
+-- `queue_streams::restart::reopen_at` meets its contract: the place is in its table, by what it asks for. Assumes nothing.
+use native.Mathlib.Omega.{arith}
+use Rattle.queue_streams.proofs.Restarts.{reopen-placed, reopen-done-in, reopened-inside}
 use Rattle.queue_streams.proofs.restart.reopen_at.Statement.{statement}
 use Rattle.queue_streams.proofs.restart.reopen_at.Tie as tie
 
-returns : tie.Need-returns
-returns c = reopened-outside _ _ _ _ (c .if1 .taken)
+load-stream-requires : tie.Need-load-stream-requires
+load-stream-requires c κs = omega (arith, reopen-placed _ _ _ _ (c .before .pre))
 
-returns-2 : tie.Need-returns-2
-returns-2 c = reopened-inside _ _ _ _ _ _ (c .before .before .before .before .if1 .left) (c .before .before .load-stream .ensures) (c .reopen-in .ensures)
+reopen-in-requires : tie.Need-reopen-in-requires
+reopen-in-requires c κs = (
+  omega (arith, reopen-placed _ _ _ _ (c .before .before .before .pre)),
+  reopen-done-in _ _ _ _ (c .before .before .before .pre) _ (c .before .load-stream .ensures),
+)
+
+returns : tie.Need-returns
+returns c =
+    reopened-inside _ _ _ _ _ _ (reopen-placed _ _ _ _ (c .before .before .before .before .pre)) (c .before .before .load-stream .ensures)
+    (c .reopen-in .ensures)
 
 pub reopen-at-spec : {M : Type 1} → statement M
-reopen-at-spec = tie.close (tie.spec returns (λ c κs. search needs) (λ c κs. search needs) returns-2)
+reopen-at-spec = tie.close (tie.spec load-stream-requires reopen-in-requires returns)
