@@ -54,7 +54,7 @@ places-none ws s p (x ∷ xs) h n r =
     rw (le-ltb 1023 p (omega arith), le-ltb 1024 (itemAt ws p .next) n, le-ltb 1024 (s .first) (omega arith), ne-eqb (s .first) 1024 (λ e. omega arith), le-ltb 1023 (s .last) (omega arith))
 
 -- a put that is accepted has passed its test
-pub put-passes : (ws st : List ℕ) (i : ℕ) (bs : List ℕ) → putPayload ws st i bs .answer ≡ 0 → putCode ws (length st) i (length bs) ≤ 1
+put-passes : (ws st : List ℕ) (i : ℕ) (bs : List ℕ) → putPayload ws st i bs .answer ≡ 0 → putCode ws (length st) i (length bs) ≤ 1
 unfolding putPayload placed
 put-passes ws st i bs e = by-index (putCode ws (length st) i (length bs)) 0 (λ z. omega arith)
     (λ nz. by-index (putCode ws (length st) i (length bs)) 1 (λ z. omega arith)

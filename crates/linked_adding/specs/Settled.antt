@@ -1,5 +1,5 @@
 -- Adding leaves nothing undone, on any words: where its test has passed, the payload is put, and a stream that the message starts is let wait. (The
--- definition keeps the words that `put_payload` and `begin_waiting` leave and not whether they were done.) Assumes nothing.
+-- definition keeps the words that `putPayload` and `beginWaiting` leave and not whether they were done.) Assumes nothing.
 use Prim.Native.Nat.{ℕ}
 use mathlib.Core.Path.{_≡_}
 use mathlib.Core.Bool.{true}

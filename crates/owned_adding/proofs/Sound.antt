@@ -1,22 +1,20 @@
 -- From the words of a queue: the tests of a message say that it may be added; the ways out. Assumes nothing.
-use mathlib.Core.Path.{_≡_, refl, sym, ap, _∙_, subst}
+use mathlib.Core.Path.{_≡_, refl, sym, _∙_, subst}
 use mathlib.Core.Bool.{Bool, true, false}
 use mathlib.Core.List.{List}
-use Prim.Native.Nat.{ℕ, _+_, _-_, _≤_, _<_, _^_}
+use Prim.Native.Nat.{ℕ, _-_, _≤_, _<_, _^_}
 use native.Mathlib.Omega.{arith}
 use borrow.Author.Tests.{lt-ltb, le-ltb, eq-eqb, ltb-false, eqb-false}
 use lib.Dec.{ltb, eqb}
 use lib.ListN.{length}
 use Rattle.queue_words.specs.Flags.{pick}
-use Rattle.queue_words.specs.Find.{findStream, Findable}
+use Rattle.queue_words.specs.Find.{Findable}
 use Rattle.queue_words.specs.Header.{optionsAt, totalsAt}
 use Rattle.queue_words.specs.Streams.{streamAt}
-use Rattle.queue_words.specs.declared.known.Found.the-variants as found
 use Rattle.queue_words.specs.declared.streams.OutgoingStream.{OutgoingStream}
 use Rattle.queue_model.specs.Demands.{MessageTyped}
-use Rattle.payload_store.specs.Words.{usedOf, gapsOf}
+use Rattle.payload_store.specs.Words.{gapsOf}
 use Rattle.payload_store.proofs.Goods.{used-fits}
-use Rattle.payload_store.proofs.Tests.{put-may}
 use Rattle.queue_streams.specs.Answers.{callNumber}
 use Rattle.queue_streams.specs.Known.{newStream, lookUp}
 use Rattle.queue_streams.specs.Owned.{placedAs}
@@ -27,18 +25,17 @@ use Rattle.queue_streams.specs.declared.owned.OwnPlace.{OwnPlace}
 use Rattle.queue_streams.specs.declared.owned.OwnPlace.the-variants as own
 use Rattle.queue_state.specs.Good.{Good}
 use Rattle.queue_state.proofs.Looks.{Lookup, known-at, new-at, lookup}
-use Rattle.queue_messages.specs.Add.{askedCode, argumentsCode, fullCode, messageCode, brokenCode, lostCode, HasPlace, streamFor, rowFor, madeKnown, MayAppend, Added, added, addTo, addIn, add, appended, stored, Stored}
+use Rattle.queue_messages.specs.Add.{askedCode, argumentsCode, fullCode, messageCode, streamFor, rowFor, madeKnown, MayAppend, added, addTo, add, appended, stored}
 use Rattle.queue_messages.specs.Message.{nanoseconds}
 use Rattle.queue_messages.specs.declared.message.Lifetime.{Lifetime}
 use Rattle.queue_messages.specs.declared.message.Message.{Message}
 use Rattle.queue_messages.proofs.Lemmas as lemmas
+use Rattle.queue_messages.proofs.Tested.{may-append}
 use Rattle.linked_adding.specs.Message.{messageOf}
 use Rattle.linked_adding.proofs.Adds.{Passed, Sound, place-sound}
 use Rattle.linked_adding.proofs.Meets.{add-meets}
-use Rattle.linked_adding.proofs.Passes.{put-passes}
 use Rattle.linked_adding.proofs.Refuses.{message-none, lost-six}
-use Rattle.linked_adding.proofs.Settled.{add-settled}
-use Rattle.owned_adding.specs.Add.{refusalNumber, Numbered, callOf, MayAdd, OwnedAdd}
+use Rattle.owned_adding.specs.Add.{refusalNumber, OneOf, callOf, MayAdd, OwnedAdd}
 use Rattle.owned_adding.specs.declared.Refusal.{Refusal}
 use Rattle.owned_adding.specs.declared.Refusal.the-variants as refusal
 use Rattle.owned_adding.specs.declared.Added as owned
@@ -46,19 +43,19 @@ use Rattle.owned_adding.specs.declared.Added.the-variants as answer
 
 -- ---- the numbers that the tests give
 
-pub asked-numbered : (time : ℕ) (l : Lifetime) (n code : ℕ) → code ≡ askedCode time l n → 0 < code → Numbered code
-asked-numbered time l n code e h n4 n5 n7 = go (ltb 4611686018427387903 time) (ltb 4611686018427387903 (nanoseconds l)) (eqb n 0) (ltb 262144 n) e
+pub asked-numbered : (time : ℕ) (l : Lifetime) (n code : ℕ) → code ≡ askedCode time l n → 0 < code → OneOf 4 5 code
+asked-numbered time l n code e h n4 = go (ltb 4611686018427387903 time) (ltb 4611686018427387903 (nanoseconds l)) (eqb n 0) (ltb 262144 n) e
   where
-    go : (a b c d : Bool) → code ≡ pick a 4 (pick b 4 (pick c 5 (pick d 5 0))) → 8 ≡ code
+    go : (a b c d : Bool) → code ≡ pick a 4 (pick b 4 (pick c 5 (pick d 5 0))) → 5 ≡ code
     go true b c d f = absurd (n4 f)
     go false true c d f = absurd (n4 f)
-    go false false true d f = absurd (n5 f)
-    go false false false true f = absurd (n5 f)
+    go false false true d f = sym f
+    go false false false true f = sym f
     go false false false false f = absurd (omega arith)
 
-pub full-numbered : (ws : List ℕ) (len n code : ℕ) → code ≡ fullCode ws len n → 0 < code → Numbered code
+pub full-numbered : (ws : List ℕ) (len n code : ℕ) → code ≡ fullCode ws len n → 0 < code → OneOf 7 8 code
 unfolding fullCode
-full-numbered ws len n code e h n4 n5 n7 = go (ltb 1023 (totalsAt ws .waiting)) (ltb (len - totalsAt ws .used) n) e
+full-numbered ws len n code e h n7 = go (ltb 1023 (totalsAt ws .waiting)) (ltb (len - totalsAt ws .used) n) e
   where
     go : (a b : Bool) → code ≡ pick a 7 (pick b 8 0) → 8 ≡ code
     go true b f = absurd (n7 f)
@@ -119,7 +116,7 @@ never-sixteen : (r : owned.Added) → callNumber (callOf r) ≡ 16 → ⊥
 never-sixteen answer.Accepted e = omega arith
 never-sixteen (answer.Refused x) e = refusal-fine x e
 
-module _ (ws st : List ℕ) (g : Good ws st) (time : ℕ) (m : Message) (bs : List ℕ) (ht : time < 2 ^ 64) (typed : MessageTyped (messageOf m bs)) (l : length ws ≡ 20768) where
+module _ (ws st : List ℕ) (g : Good ws st) (time : ℕ) (m : Message) (bs : List ℕ) (ht : time < 2 ^ 64) (typed : MessageTyped (messageOf m bs)) where
   abbrev id : ℕ
   id = m .«stream_id» .0
 
@@ -147,12 +144,6 @@ module _ (ws st : List ℕ) (g : Good ws st) (time : ℕ) (m : Message) (bs : Li
           let p = full-of ws (length st) (length bs) f in
           record { some-bytes = asked .some-bytes; few-bytes = asked .few-bytes; room-left = omega (arith, p .1, used-fits ws st (gapsOf ws) (g .shape .lay)); place-left = omega (arith, p .0) }
 
-      append-of : (at : Place) → HasPlace ws at → messageCode ws (length st) (streamFor ws at) (length bs) ≡ 0 → MayAppend (madeKnown ws (m .«stream_id» .0) at) (length st) time m (length bs)
-      append-of at has c =
-          let s = add-settled ws st time m bs at l typed has c in
-          let p = put-passes _ st _ bs (s .put) in
-          record { time-fits = asked .time-fits; lifetime-fits = asked .lifetime-fits; place-fits = put-may _ (length st) _ (length bs) p .row; may-put = p }
-
       message-of : fullCode ws (length st) (length bs) ≤ 0 → (at : Place) → Sound ws st g time m bs ht typed at → ((c : ℕ) → at ≡ place.Refused c → ⊥) → messageCode ws (length st) (streamFor ws at) (length bs) ≡ 0
       message-of f (place.Row row) k ne = let p = full-of ws (length st) (length bs) f in message-none ws (length st) (streamAt ws row) (length bs) (p .0) (p .1) k
       message-of f (place.New position) k ne = let p = full-of ws (length st) (length bs) f in message-none ws (length st) (newStream (optionsAt ws)) (length bs) (p .0) (p .1) k
@@ -160,11 +151,11 @@ module _ (ws st : List ℕ) (g : Good ws st) (time : ℕ) (m : Message) (bs : Li
 
       may-by : (at : Place) → at ≡ lookUp ws (m .«stream_id» .0) → ((c : ℕ) → at ≡ place.Refused c → ⊥) → MayAdd ws st time m bs at
       may-by at e ne =
-          let has : HasPlace ws at = lemmas.has-place ws (m .«stream_id» .0) at e in
           record {
-            has-place = has;
+            has-place = lemmas.has-place ws (m .«stream_id» .0) at e;
+            time-fits = asked .time-fits;
+            lifetime-fits = asked .lifetime-fits;
             unbroken = λ f. message-of f at (subst (Sound ws st g time m bs ht typed) (sym e) (place-sound ws st g time m bs ht typed (passed-of f))) ne;
-            may-append = append-of at has;
           }
 
       module _ (f : OwnPlace) (ef : placedAs f ≡ lookUp ws (m .«stream_id» .0)) where
@@ -206,8 +197,9 @@ module _ (ws st : List ℕ) (time : ℕ) (m : Message) (bs : List ℕ) (at : Pla
     none : messageCode ws (length st) (streamFor ws at) (length bs) ≡ 0
     none = y .unbroken (subst (λ (x : ℕ). x ≤ 0) ef h)
 
-    pub append-asks : (row : ℕ) (us : List ℕ) → row ≡ rowFor ws at → us ≡ madeKnown ws (m .«stream_id» .0) at → (row < 256) × MayAppend us (length st) time m (length bs)
-    append-asks row us er eu = (rw er (lemmas.row-fits ws at (y .has-place)), rw eu (y .may-append none))
+    pub append-asks : length ws ≡ 20768 → (row : ℕ) (s : OutgoingStream) (us : List ℕ) → row ≡ rowFor ws at → s ≡ streamFor ws at → us ≡ madeKnown ws (m .«stream_id» .0) at
+        → (row < 256) × MayAppend us (length st) time m s (length bs)
+    append-asks long = may-append ws (length st) time m (length bs) at long (y .has-place) (y .time-fits) (y .lifetime-fits) none
 
     pub append-out : (row : ℕ) (s : OutgoingStream) (us vs vt : List ℕ) → row ≡ rowFor ws at → s ≡ streamFor ws at → us ≡ madeKnown ws (m .«stream_id» .0) at
         → stored vs vt ≡ appended us st time m bs row s → added (call.Accepted 0) vs vt ≡ addTo ws st time m bs at

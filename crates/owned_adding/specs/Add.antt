@@ -26,20 +26,21 @@ refusalNumber refusal.Streams = 6
 refusalNumber refusal.Messages = 7
 refusalNumber refusal.Store = 8
 
--- one of the numbers that the tests give
-abbrev pub Numbered : ℕ → Type 0
-Numbered code = (code ≡ 4 → ⊥) → (code ≡ 5 → ⊥) → (code ≡ 7 → ⊥) → 8 ≡ code
+-- one of the two numbers that a test gives
+abbrev pub OneOf : ℕ → ℕ → ℕ → Type 0
+OneOf a b code = (code ≡ a → ⊥) → b ≡ code
 
 -- The answer as the checked call shows it.
 abbrev pub callOf : Added → Call
 callOf answer.Accepted = call.Accepted 0
 callOf (answer.Refused r) = call.Refused (refusalNumber r)
 
--- The stream has a place, and where a message more fits, the tests say that it may be added there: 16 is not given.
+-- The stream has a place, the times fit, and where a message more fits, the tests say that it may be added: 16 is not given.
 pub record MayAdd (ws st : List ℕ) (time : ℕ) (m : Message) (bs : List ℕ) (place : Place) : Type 0 where
   pub has-place : checked.HasPlace ws place
+  pub time-fits : time ≤ 4611686018427387903
+  pub lifetime-fits : nanoseconds (m .lifetime) ≤ 4611686018427387903
   pub unbroken : checked.fullCode ws (length st) (length bs) ≤ 0 → checked.messageCode ws (length st) (checked.streamFor ws place) (length bs) ≡ 0
-  pub may-append : checked.messageCode ws (length st) (checked.streamFor ws place) (length bs) ≡ 0 → checked.MayAppend (checked.madeKnown ws (m .«stream_id» .0) place) (length st) time m (length bs)
 
 -- The call answers r and leaves ws′ and st′: what the checked call answers and leaves; the model's step, with words of a queue again; and never 16.
 pub record OwnedAdd (ws st : List ℕ) (time : ℕ) (m : Message) (bs : List ℕ) (r : Added) (ws′ st′ : List ℕ) : Type 0 where

@@ -3,9 +3,9 @@
 ghost use mathlib.Core.Path.{_≡_};
 ghost use Rattle.queue_messages.specs.Add.{added, addTo};
 ghost use Rattle.queue_state.specs.Good.{Good};
-ghost use Rattle.owned_adding.specs.Add.{refusalNumber, Numbered, callOf, MayAdd, OwnedAdd};
+ghost use Rattle.owned_adding.specs.Add.{refusalNumber, OneOf, callOf, MayAdd, OwnedAdd};
 use queue_messages::Message;
-use queue_messages::adding::append_own;
+use queue_messages::adding::append;
 use queue_messages::adding::asked_code;
 use queue_messages::adding::full_code;
 use queue_messages::adding::make_known;
@@ -31,17 +31,22 @@ pub enum Added {
     Refused(Refusal),
 }
 
-// The refusal with a number of document 01.
-fn refusal_of(code: u8) -> Refusal
-    requires { ⌜ Numbered code ⌝ }
+// The refusals of what is asked for, by their numbers in document 01: 4 and 5.
+fn asked_refusal(code: u8) -> Refusal
+    requires { ⌜ OneOf 4 5 code ⌝ }
     ensures { λ r. ⌜ refusalNumber r ≡ code ⌝ }
 {
     if code == 4 {
         return Refusal::Time;
     }
-    if code == 5 {
-        return Refusal::Payload;
-    }
+    Refusal::Payload
+}
+
+// The refusals where no message more fits: 7 and 8.
+fn full_refusal(code: u8) -> Refusal
+    requires { ⌜ OneOf 7 8 code ⌝ }
+    ensures { λ r. ⌜ refusalNumber r ≡ code ⌝ }
+{
     if code == 7 {
         return Refusal::Messages;
     }
@@ -60,14 +65,15 @@ fn add_own(
     requires { ⌜ MayAdd (now queue) (now store) time m (now payload) place ⌝ }
     ensures { λ r. ⌜ added (callOf r) (now (queue .exit)) (now (store .exit)) ≡ addTo (now (queue .entry)) (now (store .entry)) time m (now (payload .entry)) place ⌝ }
 {
+    whole(&*queue);
     let full = full_code(&*queue, store.len() as u64, payload.len() as u64);
     if full > 0 {
-        return Added::Refused(refusal_of(full));
+        return Added::Refused(full_refusal(full));
     }
     let s = stream_for(&*queue, place);
     let row = row_for(&*queue, place);
     make_known(queue, place, m.stream_id.0);
-    append_own(queue, store, time, m, payload, row, s);
+    append(queue, store, time, m, payload, row, s);
     Added::Accepted
 }
 
@@ -82,11 +88,10 @@ pub fn add(
     requires { ⌜ Good (now queue) (now store) ⌝ }
     ensures { λ r. ⌜ OwnedAdd (now (queue .entry)) (now (store .entry)) time m (now (payload .entry)) r (now (queue .exit)) (now (store .exit)) ⌝ }
 {
-    whole(&*queue);
     let lifetime = m.lifetime;
     let asked = asked_code(time, lifetime, payload.len() as u64);
     if asked > 0 {
-        return Added::Refused(refusal_of(asked));
+        return Added::Refused(asked_refusal(asked));
     }
     let found = look_up_own(&*queue, m.stream_id.0);
     match found {

@@ -1,3 +1,5 @@
 -- What the proofs of several functions use. Assumes nothing.
 pub mod Lemmas
+pub mod Unstored
+pub mod Tested
 pub mod Append

@@ -1,5 +1,6 @@
 -- Adding a message. Assumes nothing.
 use Prim.Native.Nat.{ℕ, _-_, _≤_, _<_}
+use mathlib.Core.Path.{_≡_}
 use mathlib.Core.Bool.{Bool, true, false}
 use mathlib.Core.List.{List}
 use lib.Dec.{ltb, eqb}
@@ -95,6 +96,10 @@ refusedPlace ws len n (place.Refused code) = lostCode ws len n code
 abbrev pub withLast : OutgoingStream → ℕ → ℕ → ℕ → OutgoingStream
 withLast s first last n = withChain s (sum (s .«buffered_amount») n) first last
 
+-- where a stream has a first message, its last is a place of the table
+abbrev pub HasLast : OutgoingStream → Type 0
+HasLast s = s .first < 1024 → s .last < 1024
+
 -- a place at the end of a stream's chain, n bytes more; a last place outside its table, which the test has ruled out, is passed over
 unfoldable pub linkedLast : List ℕ → ℕ → OutgoingStream → ℕ → ℕ → List ℕ
 linkedLast ws row s p n =
@@ -142,12 +147,13 @@ appended ws st now m bs row s =
     pick (ltb 1023 (totalsAt ws .free)) (stored ws st)
     (appendedAt ws st now m bs row s (totalsAt ws .free) (itemAt ws (totalsAt ws .free) .next))
 
--- The tests say that a message of n bytes has a place, and that its payload may be put there: 16 is not given.
-pub record MayAppend (ws : List ℕ) (len now : ℕ) (m : Message) (n : ℕ) : Type 0 where
+-- The tests say that a message of n bytes for the stream s has a place, its payload too, the chain a last one, the scheduler a row: 16 is not given.
+pub record MayAppend (ws : List ℕ) (len now : ℕ) (m : Message) (s : OutgoingStream) (n : ℕ) : Type 0 where
   pub time-fits : now ≤ 4611686018427387903
   pub lifetime-fits : nanoseconds (m .lifetime) ≤ 4611686018427387903
-  pub place-fits : totalsAt ws .free < 1024
-  pub may-put : putCode (putItem ws (totalsAt ws .free) (newItem now (totalsAt ws .«next_message_id») m)) len (totalsAt ws .free) n ≤ 1
+  pub may-put : putCode ws len (totalsAt ws .free) n ≤ 1
+  pub has-last : HasLast s
+  pub has-room : hasRoom ws s ≡ true
 
 -- ------------------------------------------------------------------ the call
 

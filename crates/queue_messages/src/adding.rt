@@ -1,10 +1,11 @@
 // Adding a message (Rust: add).
 ghost use mathlib.Core.Path.{_≡_};
+ghost use mathlib.Core.Bool.{true};
 ghost use Prim.Native.Nat.{_<_, _≤_};
 ghost use lib.ListN.{length};
 ghost use Rattle.queue_messages.specs.Message.{nanoseconds};
 ghost use Rattle.queue_messages.specs.Add.{askedCode, argumentsCode, fullCode, mayStart, starts, hasRoom, placesCode, brokenCode, messageCode, lostCode, refusedPlace};
-ghost use Rattle.queue_messages.specs.Add.{linkedLast, counted, started, stored, appendedAt, appended, MayAppend};
+ghost use Rattle.queue_messages.specs.Add.{HasLast, linkedLast, counted, started, stored, appended, MayAppend};
 ghost use Rattle.queue_messages.specs.Add.{HasPlace, streamFor, rowFor, madeKnown, added, addTo, add};
 use crate::message::Lifetime;
 use crate::message::Message;
@@ -14,7 +15,6 @@ use message_chains::amounts::minus;
 use message_chains::amounts::plus;
 use payload_store::put_code;
 use payload_store::put_own;
-use payload_store::put_payload;
 use queue_streams::answers::Call;
 use queue_streams::known::Place;
 use queue_streams::known::insert_stream;
@@ -38,7 +38,8 @@ use queue_words::streams::OutgoingStream;
 use queue_words::streams::PauseState;
 use queue_words::streams::load_stream;
 use queue_words::streams::store_chain;
-use stream_scheduler::begin_waiting;
+use queue_words::whole;
+use stream_scheduler::own::begin_own;
 
 // The refusals that what is asked for decides: 4, 4, 5, or 0.
 pub fn asked_code(time: u64, lifetime: Lifetime, n: u64) -> u8
@@ -198,16 +199,12 @@ fn lost_code(queue: &[u64; QUEUE_WORDS], len: u64, n: u64, code: u8) -> u8
 
 // Hangs a message's place to the end of a stream's chain.
 pub fn link_last(queue: &mut [u64; QUEUE_WORDS], row: usize, s: OutgoingStream, place: u64, n: u64)
-    requires { ⌜ row < 256 ⌝ }
+    requires { ⌜ (row < 256) × HasLast s ⌝ }
     ensures { λ _. ⌜ now (queue .exit) ≡ linkedLast (now (queue .entry)) row s place n ⌝ }
 {
     let amount = plus(s.buffered_amount, n);
     if s.first > LAST_MESSAGE {
         store_chain(queue, row, amount, place, place);
-        return;
-    }
-    if s.last > LAST_MESSAGE {
-        store_chain(queue, row, amount, s.first, place);
         return;
     }
     store_next(queue, s.last as usize, place);
@@ -227,15 +224,16 @@ fn count_message(queue: &mut [u64; QUEUE_WORDS], free: u64, n: u64)
     store_totals(queue, t);
 }
 
-// Lets the stream wait with the new message, if that starts it.
+// Lets the stream wait with the new message, if that starts it: the scheduler has a row for it then.
 fn start(queue: &mut [u64; QUEUE_WORDS], id: u16, s: OutgoingStream, n: u64)
+    requires { ⌜ hasRoom (now queue) s ≡ true ⌝ }
     ensures { λ _. ⌜ now (queue .exit) ≡ started (now (queue .entry)) id s n ⌝ }
 {
     let begins = starts(s);
     if begins {
         let t = load_totals(&*queue);
         let p = parameters_for(t.interleaving, s.priority);
-        begin_waiting(queue, id, n, p);
+        begin_own(queue, id, n, p);
     }
 }
 
@@ -250,7 +248,7 @@ fn hang(
     free: u64,
     n: u64,
 )
-    requires { ⌜ row < 256 ⌝ }
+    requires { ⌜ (row < 256) × HasLast s × (hasRoom (now queue) s ≡ true) ⌝ }
     ensures { λ _. ⌜ now (queue .exit) ≡ started (counted (linkedLast (now (queue .entry)) row s place n) free n) id s n ⌝ }
 {
     link_last(queue, row, s, place, n);
@@ -258,31 +256,8 @@ fn hang(
     start(queue, id, s, n);
 }
 
-// The message in a place, at the end of its stream's chain; `free` comes first among the free places then.
-fn append_at(
-    queue: &mut [u64; QUEUE_WORDS],
-    store: &mut [u8],
-    time: u64,
-    m: Message,
-    payload: &[u8],
-    row: usize,
-    s: OutgoingStream,
-    place: usize,
-    free: u64,
-)
-    requires { ⌜ (row < 256) × (place < 1024) × (time ≤ 4611686018427387903) × (nanoseconds (m .lifetime) ≤ 4611686018427387903) ⌝ }
-    ensures { λ _. ⌜ stored (now (queue .exit)) (now (store .exit)) ≡ appendedAt (now (queue .entry)) (now (store .entry)) time m (now (payload .entry)) row s place free ⌝ }
-{
-    let n = payload.len() as u64;
-    let t = load_totals(&*queue);
-    let item = new_item(time, t.next_message_id, m);
-    store_item(queue, place, item);
-    put_payload(queue, store, place, payload);
-    hang(queue, m.stream_id.0, row, s, place as u64, free, n);
-}
-
-// The message goes to the first free place and to the end of its stream's chain. The test has passed.
-fn append(
+// The message goes to the first free place and to the end of its stream's chain. The tests have passed, and are not made again.
+pub fn append(
     queue: &mut [u64; QUEUE_WORDS],
     store: &mut [u8],
     time: u64,
@@ -291,31 +266,10 @@ fn append(
     row: usize,
     s: OutgoingStream,
 )
-    requires { ⌜ (row < 256) × (time ≤ 4611686018427387903) × (nanoseconds (m .lifetime) ≤ 4611686018427387903) ⌝ }
+    requires { ⌜ (row < 256) × MayAppend (now queue) (length (now store)) time m s (length (now payload)) ⌝ }
     ensures { λ _. ⌜ stored (now (queue .exit)) (now (store .exit)) ≡ appended (now (queue .entry)) (now (store .entry)) time m (now (payload .entry)) row s ⌝ }
 {
-    let t = load_totals(&*queue);
-    if t.free > LAST_MESSAGE {
-        return;
-    }
-    let place = t.free as usize;
-    let free = load_next(&*queue, place);
-    append_at(queue, store, time, m, payload, row, s, place, free);
-}
-
-// The same, where the tests say that the message has a place and its payload may be put: they are not made again.
-pub fn append_own(
-    queue: &mut [u64; QUEUE_WORDS],
-    store: &mut [u8],
-    time: u64,
-    m: Message,
-    payload: &[u8],
-    row: usize,
-    s: OutgoingStream,
-)
-    requires { ⌜ (row < 256) × MayAppend (now queue) (length (now store)) time m (length (now payload)) ⌝ }
-    ensures { λ _. ⌜ stored (now (queue .exit)) (now (store .exit)) ≡ appended (now (queue .entry)) (now (store .entry)) time m (now (payload .entry)) row s ⌝ }
-{
+    whole(&*queue);
     let n = payload.len() as u64;
     let t = load_totals(&*queue);
     let place = t.free as usize;
@@ -387,6 +341,7 @@ fn add_to(
     requires { ⌜ HasPlace (now queue) place × (time ≤ 4611686018427387903) × (nanoseconds (m .lifetime) ≤ 4611686018427387903) ⌝ }
     ensures { λ r. ⌜ added r (now (queue .exit)) (now (store .exit)) ≡ addTo (now (queue .entry)) (now (store .entry)) time m (now (payload .entry)) place ⌝ }
 {
+    whole(&*queue);
     let s = stream_for(&*queue, place);
     let code = message_code(&*queue, store.len() as u64, s, payload.len() as u64);
     if code > 0 {

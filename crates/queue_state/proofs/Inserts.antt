@@ -27,6 +27,7 @@ use Rattle.payload_store.proofs.Goods.{good-same, payload-kept}
 use Rattle.stream_scheduler.specs.Link.{GoodScheduler, modelScheduler}
 use Rattle.stream_scheduler.proofs.Link.{scheduler-same}
 use Rattle.queue_streams.specs.Known.{shifted, withKnown, inserted}
+use Rattle.queue_streams.proofs.Beside.{Beside, shift-beside, tabled-beside, Around, around}
 use Rattle.queue_state.specs.Chains.{count, sumOf, sumTo, total, each, Split}
 use Rattle.queue_state.specs.Model.{itemIn, streamOf, rowAt, streamIn, streamsIn, tab}
 use Rattle.queue_state.specs.Good.{Row, Shape}
@@ -98,35 +99,7 @@ by-place G p n below here above j h = by-lt j p (λ l. below j l) (λ l. by-inde
 
 -- ------------------------------------------------------------------ what is stored
 
--- Of two words only the table of known streams differs.
-pub record Beside (ws us : List ℕ) : Type 0 where
-  pub long : length us ≡ length ws
-  pub options : optionsAt us ≡ optionsAt ws
-  pub totals : totalsAt us ≡ totalsAt ws
-  pub scheduler : schedulerAt us ≡ schedulerAt ws
-  pub streams : (j : ℕ) → streamAt us j ≡ streamAt ws j
-  pub items : (j : ℕ) → itemAt us j ≡ itemAt ws j
-  pub active : (j : ℕ) → activeAt us j ≡ activeAt ws j
-  pub leasts : leastsAt us ≡ leastsAt ws
-
-pub beside-put : (ws us : List ℕ) (i : ℕ) (k : Known) → i < 256 → Beside ws us → Beside ws (putKnown us i k)
-beside-put ws us i k h b = record {
-  long = Laws.whole-put-known us i k ∙ b .long;
-  options = Laws.options-put-known us i k ∙ b .options;
-  totals = Laws.totals-put-known us i k ∙ b .totals;
-  scheduler = Laws.scheduler-put-known us i k ∙ b .scheduler;
-  streams = λ j. Laws.stream-put-known us i k j h ∙ b .streams j;
-  items = λ j. Laws.item-put-known us i k j h ∙ b .items j;
-  active = λ j. Laws.active-put-known us i k j h ∙ b .active j;
-  leasts = Laws.leasts-put-known us i k ∙ b .leasts;
-}
-
 module _ (ws : List ℕ) (n : ℕ) (long : length ws ≡ 20768) (few : n < 256) where
-  pub shift-beside : (k : ℕ) → Beside ws (shifted ws n k)
-  unfolding shifted
-  shift-beside zero = record { long = refl; options = refl; totals = refl; scheduler = refl; streams = λ j. refl; items = λ j. refl; active = λ j. refl; leasts = refl }
-  shift-beside (suc k) = beside-put ws (shifted ws n k) (n - k) (knownAt (shifted ws n k) (n - k - 1)) (omega arith) (shift-beside k)
-
   -- The rows that have not moved.
   pub shift-low : (k j : ℕ) → k ≤ n → j ≤ n - k → knownAt (shifted ws n k) j ≡ knownAt ws j
   unfolding shifted
@@ -146,7 +119,7 @@ module _ (ws : List ℕ) (n : ℕ) (long : length ws ≡ 20768) (few : n < 256) 
       here : n - k ≡ suc j → knownAt (putKnown us (n - k) (knownAt us (n - k - 1))) (suc j) ≡ knownAt ws j
       here e =
           let d : suc j - 1 ≡ j = omega arith in
-          rw (e, d) (Laws.known-at-put us (suc j) (knownAt us j) (shift-beside k .long ∙ long) (omega arith) (Laws.known-at-fits us j) ∙ shift-low k j (omega arith) (omega arith))
+          rw (e, d) (Laws.known-at-put us (suc j) (knownAt us j) (shift-beside ws n few k .long ∙ long) (omega arith) (Laws.known-at-fits us j) ∙ shift-low k j (omega arith) (omega arith))
 
       there : (n - k ≡ suc j → ⊥) → knownAt us (suc j) ≡ knownAt ws j → knownAt (putKnown us (n - k) (knownAt us (n - k - 1))) (suc j) ≡ knownAt ws j
       there ne r = Laws.known-at-put-other us (n - k) (knownAt us (n - k - 1)) (suc j) ne ∙ r
@@ -185,11 +158,8 @@ module _ (ws : List ℕ) (p id : ℕ) (s : OutgoingStream) (long : length ws ≡
   abbrev more : Totals
   more = withKnown (totalsAt ws) (n + 1)
 
-  moved : Beside ws moved-words
-  moved = shift-beside ws n long few (n - p)
-
   tabled : Beside ws tabled-words
-  tabled = beside-put ws moved-words p (record { id = record { 0 = id }; place = n }) (omega arith) moved
+  tabled = tabled-beside ws p id long few hp
 
   -- a row of the table is not changed by what is stored after it
   late : (j : ℕ) → j < 256 → knownAt (putTotals full-words more) j ≡ knownAt tabled-words j
@@ -198,25 +168,25 @@ module _ (ws : List ℕ) (p id : ℕ) (s : OutgoingStream) (long : length ws ≡
   other : (j : ℕ) → (p ≡ j → ⊥) → knownAt tabled-words j ≡ knownAt moved-words j
   other j ne = Laws.known-at-put-other moved-words p (record { id = record { 0 = id }; place = n }) j ne
 
-  stored-table : (us : List ℕ) → us ≡ putTotals full-words more → Stored ws p id s us
-  stored-table us e = rw e (record {
-    long = Laws.whole-put-totals full-words more ∙ Laws.whole-put-stream tabled-words n s ∙ tabled .long;
-    options = Laws.options-put-totals full-words more ∙ Laws.options-put-stream tabled-words n s ∙ tabled .options;
-    totals = Laws.totals-at-put full-words more (Laws.whole-put-stream tabled-words n s ∙ tabled .long ∙ long) (record { message-id-fits = Laws.totals-at-fits ws .message-id-fits });
-    scheduler = Laws.scheduler-put-totals full-words more ∙ Laws.scheduler-put-stream tabled-words n s ∙ tabled .scheduler;
-    items = λ x. Laws.item-put-totals full-words more x ∙ Laws.item-put-stream tabled-words n s x few ∙ tabled .items x;
-    active = λ j. Laws.active-put-totals full-words more j ∙ Laws.active-put-stream tabled-words n s j few ∙ tabled .active j;
-    leasts = Laws.leasts-put-totals full-words more ∙ Laws.leasts-put-stream tabled-words n s ∙ tabled .leasts;
-    row-new = Laws.stream-put-totals full-words more n ∙ Laws.stream-at-put tabled-words n s (tabled .long ∙ long) few fits;
-    row-other = λ r ne. Laws.stream-put-totals full-words more r ∙ Laws.stream-at-put-other tabled-words n s r ne ∙ tabled .streams r;
-    below = λ j h. late j (omega arith) ∙ other j (λ z. omega arith) ∙ shift-low ws n long few (n - p) j (omega arith) (omega arith);
-    here = late p (omega arith) ∙ Laws.known-at-put moved-words p (record { id = record { 0 = id }; place = n }) (moved .long ∙ long) (omega arith) (record { id-fits = hid });
-    above = λ j h l. late (suc j) (omega arith) ∙ other (suc j) (λ z. omega arith) ∙ shift-high ws n long few (n - p) j (omega arith) (omega arith) l;
-  })
+  stored-table : (us : List ℕ) → us ≡ putTotals full-words more → Around ws us → Stored ws p id s us
+  stored-table us e o = record {
+    long = o .long;
+    options = o .options;
+    totals = o .totals;
+    scheduler = o .scheduler;
+    items = o .items;
+    active = o .active;
+    leasts = o .leasts;
+    row-new = rw e (Laws.stream-put-totals full-words more n ∙ Laws.stream-at-put tabled-words n s (tabled .long ∙ long) few fits);
+    row-other = rw e (λ r ne. Laws.stream-put-totals full-words more r ∙ Laws.stream-at-put-other tabled-words n s r ne ∙ tabled .streams r);
+    below = rw e (λ j h. late j (omega arith) ∙ other j (λ z. omega arith) ∙ shift-low ws n long few (n - p) j (omega arith) (omega arith));
+    here = rw e (late p (omega arith) ∙ Laws.known-at-put moved-words p (record { id = record { 0 = id }; place = n }) (shift-beside ws n few (n - p) .long ∙ long) (omega arith) (record { id-fits = hid }));
+    above = rw e (λ j h l. late (suc j) (omega arith) ∙ other (suc j) (λ z. omega arith) ∙ shift-high ws n long few (n - p) j (omega arith) (omega arith) l);
+  }
 
   pub stored : Stored ws p id s (inserted ws p id s)
   unfolding inserted
-  stored = stored-table (inserted ws p id s) refl
+  stored = stored-table (inserted ws p id s) refl (around ws p id long few hp s)
 
 -- ------------------------------------------------------------------ what follows
 

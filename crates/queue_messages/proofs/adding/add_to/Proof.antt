@@ -1,23 +1,32 @@
--- Written by scripts/auto-proof; again, after `rt goals queue_messages`: scripts/auto-proof --again queue_messages adding/add_to
--- `queue_messages::adding::add_to` meets its contract: each return is what its definition says, by what the calls ensure and the tests taken. Assumes nothing.
+-- `queue_messages::adding::add_to` meets its contract: each return is what its definition says, by what the calls ensure and the tests taken; the message
+-- may be appended since its test has passed (proofs/Tested). Assumes nothing.
 use borrow.Author.Needs.{needs}
 use borrow.Author.Tests.{le-ltb, lt-ltb}
-use mathlib.Core.Path.{sym, subst}
-use Prim.Native.Nat.{_<_}
+use lib.ListN.{length}
 use Rattle.queue_messages.specs.Add.{addTo}
-use Rattle.queue_messages.proofs.Lemmas.{row-fits}
+use Rattle.queue_messages.proofs.Tested.{may-append, passes}
 use Rattle.queue_messages.proofs.adding.add_to.Statement.{statement}
 use Rattle.queue_messages.proofs.adding.add_to.Tie as tie
 
 returns : tie.Need-returns
 unfolding addTo
-returns c = rw (← (c .before .before .before .stream-for .ensures), ← (c .before .message-code .ensures), lt-ltb _ _ (c .if1 .taken))
+returns c =
+    rw (
+      ← (c .before .before .before .stream-for .ensures),
+      ← (c .before .message-code .ensures),
+      lt-ltb _ _ (c .if1 .taken),
+    )
 
 append-requires : tie.Need-append-requires
 append-requires c κs =
-    let p = c .before .before .before .before .before .before .before .before .before .before .before .before .before .pre in
-    let a = c .before .before .before .before .before .before .before .before .before .before .before .before .before .args in
-    (subst (λ r. r < 256) (sym (c .before .before .before .before .row-for .ensures)) (row-fits (a .queue .now) (a .place) (p .0)), p .1, p .2)
+    let a = (c .before .before .before .before .before .before .before .before .before .before .before .before .before .before .before .args) in
+    let p = (c .before .before .before .before .before .before .before .before .before .before .before .before .before .before .before .pre) in
+    let l = (c .before .before .before .before .before .before .before .before .before .before .before .whole .ensures) in
+    let s = (c .before .before .before .before .before .before .before .before .before .stream-for .ensures) in
+    let e = (c .before .before .before .before .before .before .before .message-code .ensures) in
+    let none = passes _ _ _ _ _ _ e s (c .before .before .before .before .before .before .if1 .left) in
+    may-append (a .queue .now) (length (a .store .now)) (a .time) (a .m) (length (a .payload .now)) (a .place) l (p .0) (p .1) (p .2)
+    none _ _ _ (c .before .before .before .before .row-for .ensures) s (c .before .before .make-known .ensures)
 
 returns-2 : tie.Need-returns-2
 unfolding addTo
@@ -35,6 +44,7 @@ pub add-to-spec : {M : Type 1} → statement M
 add-to-spec =
     tie.close
     (tie.spec
+    (λ c κs. search needs)
     (λ c κs. search needs)
     (λ c κs. search needs)
     returns
