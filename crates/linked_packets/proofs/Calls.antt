@@ -2,7 +2,7 @@
 use mathlib.Core.Path.{_≡_, refl, sym, ap, ap₂, _∙_, subst}
 use mathlib.Core.Bool.{Bool}
 use mathlib.Core.List.{List, [], _∷_, _++_, append-nil, append-assoc}
-use mathlib.Core.Option.{Option, none, some}
+use mathlib.Core.Option.{Option, none}
 use Prim.Native.Nat.{ℕ, zero, suc, _+_, _-_, _≤_, min}
 use native.Mathlib.Omega.{arith}
 use borrow.Author.Tests.{ne-eqb}
@@ -14,18 +14,18 @@ use Rattle.queue_words.specs.Flags.{pick}
 use Rattle.queue_model.specs.Types.{Queue, Options, Event, Fragment, Answer, fragment, nothing-waits, Step}
 use Rattle.queue_model.specs.Answers.{fragment-in, refusal-in}
 use Rattle.queue_model.specs.Produce.{produce, produce-checks}
-use Rattle.queue_model.specs.Chunks.{padded, chunk-header, chunk-length}
+use Rattle.queue_model.specs.Chunks.{padded, chunk-length}
 use Rattle.queue_model.specs.Fill as fill
 use Rattle.queue_model.specs.Fill.{Filling, no-calls, rounded-down, size-asked, last-call, one-more, and-on, asked, fill-on, chunk-fields, fragment-chunk}
 use Rattle.queue_model.proofs.Checks.{Passed}
 use Rattle.queue_model.proofs.Invariant.Events.{potential, produce-spends}
 use Rattle.queue_model.proofs.Invariant.Sends.{fine-produce}
 use Rattle.queue_model.proofs.Fill.Refusals.{after-events}
-use Rattle.queue_model.proofs.Fill.Sizes.{size-within, Past}
+use Rattle.queue_model.proofs.Fill.Sizes.{size-within}
 use Rattle.queue_model.proofs.Fill.Answers.{Gives, gives, waits-none, produce-gives}
 use Rattle.queue_model.proofs.Fill.Lengths.{chunks-length, length-chunk, chunk-within}
 use Rattle.queue_streams.specs.Events.{eventWords, written}
-use Rattle.queue_sending.specs.Data.{ProducedWith, producedWith}
+use Rattle.queue_sending.specs.Data.{ProducedWith}
 use Rattle.queue_sending.specs.Produce.{producedAfter}
 use Rattle.queue_sending.specs.declared.data.Produced.{Produced}
 use Rattle.queue_sending.specs.declared.data.Produced.the-variants as produced
@@ -33,11 +33,11 @@ use Rattle.queue_state.specs.Model.{model}
 use Rattle.queue_state.specs.Good.{Good}
 use Rattle.big_endian.specs.Numbers.{wrote}
 use Rattle.big_endian.proofs.Halves.{wrote-length, wrote-twice}
+use Rattle.big_endian.proofs.Rows.{wrote-none}
 use Rattle.chunks.specs.Layout.{headerSize}
 use Rattle.chunks.specs.declared.chunk.ChunkKind.{ChunkKind}
-use Rattle.packets.specs.declared.filling.Filling as progress
 use Rattle.packets.specs.Filling.{kindOf, chunkAround, packetAfter, around, oneFilled, FillingWith, fillingWith, reached, afterOne, andOn, sizeAsked, fillOn}
-use Rattle.packets.proofs.Places.{wrote-none, wrote-same}
+use Rattle.packets.proofs.Places.{wrote-same}
 use Rattle.linked_sending.specs.Meaning.{Sends, dataOf, producedOf, bufferOf}
 use Rattle.linked_sending.proofs.After.{after-sends}
 use Rattle.linked_packets.proofs.Chunk.{header-is, placed-chunk}
@@ -78,7 +78,7 @@ module _ (idata : Bool) (st es : List ℕ) (places time limit most : ℕ) (he : 
         good = g;
         next = n;
         events = ap (written es 0) e;
-        packet = sym (ap (λ (fs : List Fragment). wrote bs used (fill.chunks idata tsn fs)) f ∙ wrote-none bs used);
+        packet = wrote-none bs used ∙ sym (ap (λ (fs : List Fragment). wrote bs used (fill.chunks idata tsn fs)) f);
         progress = reached-same (omega (arith, z)) (ap length e) (omega (arith, y)) refl;
         within = omega (arith, z, l);
         unrefused = u;

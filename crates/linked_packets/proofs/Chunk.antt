@@ -1,5 +1,5 @@
 -- The chunk that a filling writes is the model's. Assumes nothing.
-use mathlib.Core.Path.{_≡_, refl, sym, ap, _∙_}
+use mathlib.Core.Path.{_≡_, refl, ap, _∙_}
 use mathlib.Core.Bool.{Bool, true, false}
 use mathlib.Core.List.{List, _++_}
 use Prim.Native.Nat.{ℕ, _+_, _≤_}
@@ -11,7 +11,6 @@ use Rattle.queue_model.specs.Chunks.{ChunkFields, padded, chunk-header, chunk-l
 use Rattle.queue_model.specs.Fill.{chunk-fields, fragment-chunk}
 use Rattle.big_endian.specs.Numbers.{wrote}
 use Rattle.chunks.specs.Layout.{isIData, fieldsOf, headerSize, chunkBytes}
-use Rattle.chunks.specs.declared.chunk.ChunkKind.{ChunkKind}
 use Rattle.packets.specs.Filling.{kindOf, chunkAround}
 use Rattle.packets.proofs.Places.{wrote-front, chunk-whole}
 use Rattle.linked_sending.specs.Meaning.{dataOf}

@@ -1,22 +1,22 @@
 -- Filling a packet is the model's, refused or not. Assumes nothing.
 use mathlib.Core.Path.{_≡_, refl, sym, ap, ap₂, _∙_, subst}
-use mathlib.Core.Bool.{Bool, true, false, not, _||_}
+use mathlib.Core.Bool.{Bool, true, false}
 use mathlib.Core.List.{List, [], _∷_, _++_}
 use mathlib.Core.Option.{Option, none, some}
-use Prim.Native.Nat.{ℕ, zero, suc, _+_, _≤_, _<_}
+use Prim.Native.Nat.{ℕ, _+_, _≤_, _<_}
 use native.Mathlib.Nat.{zero-add}
 use native.Mathlib.Omega.{arith}
 use borrow.Author.Tests.{lt-ltb, le-ltb, eq-eqb, ne-eqb}
 use lib.Dec.{ltb, eqb}
 use lib.ListN.{length, drop, length-append}
 use Rattle.queue_words.specs.Flags.{pick}
-use Rattle.queue_words.specs.Header.{optionsAt, totalsAt}
-use Rattle.queue_model.specs.Types.{Queue, Options, Event, Fragment, filled, Step, refuse, reply}
+use Rattle.queue_words.specs.Header.{optionsAt}
+use Rattle.queue_model.specs.Types.{Queue, Options, Fragment, Step, refuse}
 use Rattle.queue_model.specs.Refusals.{Check, first-refusal, refused-or, checked}
 use Rattle.queue_model.specs.Fill as fill
 use Rattle.queue_model.specs.Fill.{Filling, common-header, common-header-length, filling, packet-bytes, filled-with, fill-checks}
 use Rattle.queue_model.specs.Run as run
-use Rattle.queue_model.proofs.Invariant.Events.{potential, potential-fits}
+use Rattle.queue_model.proofs.Invariant.Events.{potential-fits}
 use Rattle.queue_model.proofs.Fill.Sizes.{Past, past-checks}
 use Rattle.queue_model.proofs.Fill.Lengths.{chunks-length, length-header}
 use Rattle.queue_streams.specs.Events.{eventWords, placesIn, written}
@@ -24,15 +24,15 @@ use Rattle.queue_state.specs.Model.{model}
 use Rattle.queue_state.specs.Good.{Good}
 use Rattle.queue_state.proofs.Singles.{model-options, model-interleaving}
 use Rattle.big_endian.specs.Numbers.{wrote}
+use Rattle.big_endian.proofs.Rows.{wrote-none}
 use Rattle.packets.specs.declared.filling.Filling as progress
 use Rattle.packets.specs.declared.packet.Packet.{Packet}
 use Rattle.packets.specs.declared.packet.PacketFilled.{PacketFilled}
 use Rattle.packets.specs.declared.packet.PacketFilled.the-variants as packet
-use Rattle.packets.specs.Filling.{packetOf, kindOf, fillCode, FillingWith, fillingWith, reached, fillOn, FilledWith, filledWith, finishedAnswer, finishedPacket, finished, fillPacket}
-use Rattle.packets.proofs.Places.{wrote-none, wrote-before}
-use Rattle.linked_sending.specs.Meaning.{bufferOf}
-use Rattle.linked_packets.specs.Meaning.{filledOf, Fills, FillMeets, fillCall}
-use Rattle.linked_packets.proofs.Calls.{chunks-long, Linked, filling-link}
+use Rattle.packets.specs.Filling.{packetOf, kindOf, fillCode, FillingWith, reached, fillOn, filledWith, finishedAnswer, finishedPacket, finished, fillPacket}
+use Rattle.packets.proofs.Places.{wrote-before}
+use Rattle.linked_packets.specs.Meaning.{Fills, FillMeets, fillCall}
+use Rattle.linked_packets.proofs.Calls.{chunks-long, filling-link}
 use Rattle.linked_packets.proofs.Numbers.{tells-of}
 use Rattle.queue_words.proofs.Finds.{by-lt}
 
@@ -75,7 +75,7 @@ module _ (idata : Bool) (st es bs : List ℕ) (p : Packet) (q : Queue) (r : Fill
         next = l .next;
         answer = ap finishedAnswer b;
         events = l .events;
-        packet = ap (λ (x : progress.Filling). finishedPacket p x (f .packet)) b ∙ l .packet ∙ ap (λ (fs : List Fragment). wrote bs common-header-length (fill.chunks idata (p .tsn) fs)) e ∙ wrote-none bs common-header-length;
+        packet = ap (λ (x : progress.Filling). finishedPacket p x (f .packet)) b ∙ l .packet ∙ ap (λ (fs : List Fragment). wrote bs common-header-length (fill.chunks idata (p .tsn) fs)) e ∙ sym (wrote-none bs common-header-length);
       }
 
   -- with some

@@ -29,7 +29,7 @@ use Rattle.receiver_messages.specs.Readiness.{queueUp}
 use Rattle.receiver_store.specs.Words.{payloadOf}
 use Rattle.receiver_fragments.specs.Holding.{nextOf, setTurn, completed, settle}
 use Rattle.linked_receiver.specs.Rows.{Unique, looseRows, tailRows}
-use Rattle.linked_receiver.specs.Good.{Ghost, Good, chunkIn, stands}
+use Rattle.linked_receiver.specs.Good.{Ghost, GoodReceiver, chunkIn, stands}
 use Rattle.linked_receiver.specs.Promise.{Represents}
 use Rattle.linked_receiver.proofs.HeldRows.{held-row, held-few}
 use Rattle.linked_receiver.proofs.Completes.{Completion, none-whole, one-whole, completes-law}
@@ -86,7 +86,7 @@ unfolding width
 positive DATA = omega arith
 positive I-DATA = omega arith
 
-next-fits : (g : Ghost) (ws st : List ℕ) → Good g ws st → (t : ℕ) → nextOf ws t < 2 ^ width (kindOf (interleavedOf ws))
+next-fits : (g : Ghost) (ws st : List ℕ) → GoodReceiver g ws st → (t : ℕ) → nextOf ws t < 2 ^ width (kindOf (interleavedOf ws))
 unfolding nextOf
 next-fits g ws st d t = go (value (leb (wordAt Header ws 0 3) t))
   where
@@ -100,7 +100,7 @@ abbrev tail-of : List Chunk → List Chunk
 tail-of [] = []
 tail-of (c ∷ cs) = cs
 
-module _ (g : Ghost) (ws st : List ℕ) (d : Good g ws st) (i : ℕ) (held : List ℕ) (held-is : g .held ≡ i ∷ held) (loose-i : isWhole ws i ≡ false) (c : Chunk) (cs : List Chunk)
+module _ (g : Ghost) (ws st : List ℕ) (d : GoodReceiver g ws st) (i : ℕ) (held : List ℕ) (held-is : g .held ≡ i ∷ held) (loose-i : isWhole ws i ≡ false) (c : Chunk) (cs : List Chunk)
     (chunks : stands g ws st .loose ≡ c ∷ cs) (distinct : Distinct (kindOf (interleavedOf ws)) (c ∷ cs)) (none-yet : whole-among (kindOf (interleavedOf ws)) cs cs ≡ none) where
   abbrev b : Bool
   b = interleavedOf ws
@@ -164,7 +164,7 @@ module _ (g : Ghost) (ws st : List ℕ) (d : Good g ws st) (i : ℕ) (held : Lis
       abbrev n3 : ℕ
       n3 = queueUp (markWhole 4096 ws (interleavedOf ws) h) (interleavedOf ws) (fragmentAt (markWhole 4096 ws (interleavedOf ws) h) h) h n .next
 
-      d3 : Good g3 w3 st
+      d3 : GoodReceiver g3 w3 st
       d3 = settled-good g ws st d h lo re n nf
 
       fits3 : n3 < 2 ^ width (kindOf (interleavedOf w3))

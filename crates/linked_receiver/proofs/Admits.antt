@@ -1,7 +1,7 @@
 -- Room for a fragment, and the whole judgement: a fragment that is refused or a repeat leaves words and store as they were, with the model's answer.
 -- Assumes nothing.
 use mathlib.Core.Path.{_≡_, refl, sym, ap, ap₂, _∙_, subst}
-use mathlib.Core.Logic.{_⊎_, ⊎-elim}
+use mathlib.Core.Logic.{⊎-elim}
 use mathlib.Core.Bool.{Bool, true, false, not, _&&_, _||_}
 use mathlib.Core.List.{List, [], _∷_}
 use mathlib.Core.Option.{none, some}
@@ -38,7 +38,7 @@ use Rattle.receiver_fragments.specs.declared.answers.Received.the-variants.{Ref
 use Rattle.receiver_fragments.specs.Checks.{lastOf, heldCode, repeats, admitCode}
 use Rattle.receiver_fragments.specs.Receiving.{Outcome, received, receiveNew, receiveFragment}
 use Rattle.receiver_fragments.specs.Receiving as words
-use Rattle.linked_receiver.specs.Good.{Ghost, Good, chunkIn, stands}
+use Rattle.linked_receiver.specs.Good.{Ghost, GoodReceiver, chunkIn, stands}
 use Rattle.linked_receiver.proofs.Walks.{KeyAmong, absent, present, key-among}
 use Rattle.linked_receiver.proofs.HeldRows.{held-row, held-once, held-few, held-length, used-is}
 use Rattle.linked_receiver.proofs.Compares.{kind-itself, code}
@@ -85,7 +85,7 @@ module _ (c : Chunk) (r : Receiver) where
   unfolding model.refused-or
   step-accepts e h = late false false e h
 
-module _ (g : Ghost) (ws st : List ℕ) (good : Good g ws st) (f : Fragment) (bs : List ℕ) where
+module _ (g : Ghost) (ws st : List ℕ) (good : GoodReceiver g ws st) (f : Fragment) (bs : List ℕ) where
   abbrev r : Receiver
   r = stands g ws st
 

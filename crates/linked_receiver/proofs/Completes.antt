@@ -1,10 +1,10 @@
 -- The message that a row makes whole is the model's: `completes` finds what `whole-among` finds among the loose fragments. Assumes nothing.
 use mathlib.Core.Path.{_≡_, refl, sym, ap, _∙_, subst}
-use mathlib.Core.Logic.{_⊎_, inl, inr}
+use mathlib.Core.Logic.{inl, inr}
 use mathlib.Core.Bool.{Bool, true, false}
 use mathlib.Core.List.{List, [], _∷_, map}
 use mathlib.Core.Option.{Option, none, some}
-use Prim.Native.Nat.{ℕ, zero, suc, _+_, _-_, _≤_, _<_}
+use Prim.Native.Nat.{ℕ, suc, _+_, _-_, _≤_, _<_}
 use native.Mathlib.Omega.{arith}
 use lib.ListN.{length}
 use borrow.Author.Tests.{eq-eqb}
@@ -22,7 +22,7 @@ use Rattle.receiver_words.specs.Chunks.{kindOf}
 use Rattle.receiver_messages.specs.Walks.{beginsWith, reachesLast, firstRow, completes}
 use Rattle.linked_receiver.specs.Rows.{Indexed, Unique, chunkAt, looseRows, tailRows}
 use Rattle.linked_receiver.proofs.Walks.{Gathered, reached, broken, gathers, loose-held}
-use Rattle.linked_receiver.proofs.Paths.{at, Path, path-loose, Ends, reach-ends, ends-reach, path-within, path-drop, path-join, at-add, Stepped, tail-steps, reaches, few-steps, back-first, begins-bare, Origin, FirstRow, no-first, a-first, first-row}
+use Rattle.linked_receiver.proofs.Paths.{at, Path, path-loose, Ends, reach-ends, ends-reach, path-within, path-drop, path-join, at-add, Stepped, tail-steps, reaches, back-first, begins-bare, Origin, FirstRow, no-first, a-first, first-row}
 
 -- ------------------------------------------------------------------ the model's search
 

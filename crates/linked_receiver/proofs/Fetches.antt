@@ -1,22 +1,20 @@
 -- Fetching is the model's step: nothing ready, a buffer that is too short, a message handed out. Assumes nothing.
 use mathlib.Core.Path.{_≡_, refl, sym, ap, ap₂, _∙_, subst}
-use mathlib.Core.Bool.{Bool, true, false, not}
-use mathlib.Core.List.{List, [], _∷_, _++_, map, map-map}
-use mathlib.Core.Option.{Option, none, some}
+use mathlib.Core.Bool.{Bool, true}
+use mathlib.Core.List.{List, [], _∷_, map, map-map}
 use Prim.Native.Nat.{ℕ, _+_, _-_, _≤_, _<_}
 use native.Mathlib.Omega.{arith}
-use lib.Dec.{eqb, ltb, leb}
+use lib.Dec.{ltb}
 use lib.ListN.{length, take, drop}
 use lib.Seq.{drop-at}
 use borrow.Author.Tests.{eq-eqb, ne-eqb, le-leb, lt-leb, lt-ltb, le-ltb}
 use Rattle.queue_words.specs.Flags.{pick}
-use Rattle.queue_model.specs.Logic.{if_then_else_}
 use Rattle.queue_model.specs.Table.{sum-by}
-use Rattle.queue_model.specs.Refusals.{_when_, first-refusal}
+use Rattle.queue_model.specs.Refusals.{first-refusal}
 use Rattle.payload_store.specs.Putting.{written}
 use Rattle.payload_store.proofs.Puts.{written-part}
 use Rattle.receiver_model.specs.Lists.{count, join}
-use Rattle.receiver_model.specs.Types.{Chunk, Assembled, Receiver, Message, Step, reply, refused, none-ready, fragments}
+use Rattle.receiver_model.specs.Types.{Chunk, Assembled, Receiver, Message, Step, reply, refused, none-ready}
 use Rattle.receiver_model.specs.Types as model
 use Rattle.receiver_model.specs.Receive.{refused-or}
 use Rattle.receiver_model.specs.Fetch.{as-message, with-ready, fetch-from}
@@ -26,12 +24,12 @@ use Rattle.receiver_words.specs.Fragments.{fragmentAt}
 use Rattle.receiver_words.specs.Ages.{Lined}
 use Rattle.receiver_messages.specs.Keys.{interleavedOf}
 use Rattle.receiver_messages.specs.Readiness.{leaveReady}
-use Rattle.receiver_store.specs.Words.{sizeOf, payloadOf, usedOf}
+use Rattle.receiver_store.specs.Words.{sizeOf, usedOf}
 use Rattle.receiver_fragments.specs.declared.freeing.Measure.{Measure}
 use Rattle.receiver_fragments.specs.declared.answers.Fetched.the-variants as answer
 use Rattle.receiver_fragments.specs.Freeing.{measure, measured, HandedOut, handOut}
 use Rattle.receiver_fragments.specs.Fetching.{Outcome, fetched, delivery, takeOut, sizeBy, fetchFirst, fetch}
-use Rattle.linked_receiver.specs.Good.{Ghost, Good, chunkIn, messageIn, stands}
+use Rattle.linked_receiver.specs.Good.{Ghost, GoodReceiver, chunkIn, messageIn, stands}
 use Rattle.linked_receiver.specs.Promise.{Represents}
 use Rattle.linked_receiver.specs.Fetches.{answerOf, filled, Fetches}
 use Rattle.linked_receiver.proofs.Frees.{held-rows}
@@ -102,12 +100,12 @@ module _ (ws st out : List ℕ) where
     first-long l = first-is ∙ ap (λ (t : Bool). pick t (fetched (answer.Refused 10) ws out) (takeOut ws st out h n)) (le-ltb _ _ l)
 
 -- a step that changes neither words nor buffer
-unchanged : (g : Ghost) (ws st out : List ℕ) (s : Step) → Good g ws st → model-fetch.fetch (length st) (length out) (stands g ws st) ≡ s → s .next ≡ stands g ws st → (o : Outcome) → o .words ≡ ws → o .buffer ≡ out
+unchanged : (g : Ghost) (ws st out : List ℕ) (s : Step) → GoodReceiver g ws st → model-fetch.fetch (length st) (length out) (stands g ws st) ≡ s → s .next ≡ stands g ws st → (o : Outcome) → o .words ≡ ws → o .buffer ≡ out
     → answerOf (o .answer) (o .buffer) ≡ s .answer → Fetches (stands g ws st) st out o
 unchanged g ws st out s d e n o w b a = record {
   represents = record {
     rows = g;
-    stands = record { good = subst (λ (v : List ℕ). Good g v st) (sym w) d; is = ap (λ (v : List ℕ). stands g v st) w ∙ sym n ∙ ap (λ (t : Step). t .next) (sym e) };
+    stands = record { good = subst (λ (v : List ℕ). GoodReceiver g v st) (sym w) d; is = ap (λ (v : List ℕ). stands g v st) w ∙ sym n ∙ ap (λ (t : Step). t .next) (sym e) };
   };
   answered = a ∙ ap (λ (t : Step). t .answer) (sym e);
   beyond = ap (drop (filled (o .answer))) b;
@@ -115,7 +113,7 @@ unchanged g ws st out s d e n o w b a = record {
 
 -- ------------------------------------------------------------------ a message that is ready
 
-module _ (g : Ghost) (h : ℕ) (more : List ℕ) (ws st out : List ℕ) (d : Good (ready-as (h ∷ more) g) ws st) where
+module _ (g : Ghost) (h : ℕ) (more : List ℕ) (ws st out : List ℕ) (d : GoodReceiver (ready-as (h ∷ more) g) ws st) where
   abbrev ghost : Ghost
   ghost = ready-as (h ∷ more) g
 
@@ -212,7 +210,7 @@ module _ (g : Ghost) (h : ℕ) (more : List ℕ) (ws st out : List ℕ) (d : Goo
 -- ------------------------------------------------------------------ the call
 
 -- THE THEOREM of fetching: on good words it is the model's step, and they are good again
-pub fetch-law : (g : Ghost) (ws st out : List ℕ) → Good g ws st → Fetches (stands g ws st) st out (fetch ws st out)
+pub fetch-law : (g : Ghost) (ws st out : List ℕ) → GoodReceiver g ws st → Fetches (stands g ws st) st out (fetch ws st out)
 fetch-law g ws st out d = go (g .ready) refl
   where
     go : (rs : List ℕ) → rs ≡ g .ready → Fetches (stands g ws st) st out (fetch ws st out)
@@ -226,7 +224,7 @@ fetch-law g ws st out d = go (g .ready) refl
     go (h ∷ more) e =
         let same : ready-as (h ∷ more) g ≡ g = ap (λ (xs : List ℕ). ready-as xs g) e in
         subst (λ (v : Ghost). Fetches (stands v ws st) st out (fetch ws st out)) same
-        (one-ready g h more ws st out (subst (λ (v : Ghost). Good v ws st) (sym same) d))
+        (one-ready g h more ws st out (subst (λ (v : Ghost). GoodReceiver v ws st) (sym same) d))
 
 -- and of the receiver that words and store are
 pub fetch-represents : (ws st out : List ℕ) (r : Receiver) → Represents ws st r → Fetches r st out (fetch ws st out)

@@ -1,8 +1,8 @@
 -- A held row is found by its key: the search in one chain of an index is the search among all its rows. Assumes nothing.
-use mathlib.Core.Path.{_≡_, refl, sym, ap, ap₂, _∙_}
+use mathlib.Core.Path.{_≡_, refl, sym, ap, _∙_}
 use mathlib.Core.Bool.{Bool, true, false}
 use mathlib.Core.List.{List, [], _∷_}
-use Prim.Native.Nat.{ℕ, suc, _+_, _*_, _%_, _≤_, _<_}
+use Prim.Native.Nat.{ℕ, _+_, _*_, _%_, _≤_, _<_}
 use native.Mathlib.Omega.{arith}
 use lib.Dec.{eqb}
 use lib.ListN.{length}
@@ -10,10 +10,10 @@ use borrow.Author.Tests.{eqb-true, eq-eqb}
 use Rattle.queue_words.specs.Flags.{pick, bit}
 use Rattle.receiver_model.specs.Lists.{keep}
 use Rattle.receiver_model.proofs.Lists.{true≢false, Value, yes-is, no-is, value, keep-yes, keep-no, length-keep}
-use Rattle.receiver_words.specs.Tables.{Buckets, Links, wordAt}
+use Rattle.receiver_words.specs.Tables.{Buckets, wordAt}
 use Rattle.receiver_words.specs.Fragments.{fragmentAt}
 use Rattle.receiver_words.specs.Index.{bucketOf, samePlace, sameNumber, sameKey, findRow}
-use Rattle.receiver_words.specs.Link.{Linked, firstKey}
+use Rattle.receiver_words.specs.Link.{firstKey}
 use Rattle.receiver_words.specs.declared.fragments.Fragment.{Fragment}
 use Rattle.receiver_words.proofs.Finds.{find-linked}
 use Rattle.linked_receiver.specs.Rows.{hits, Indexed}

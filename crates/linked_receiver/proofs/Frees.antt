@@ -1,12 +1,11 @@
 -- A row that is freed: the held rows, the free ones, the indexes, the counts and the store change by that row, and nothing else is changed. Assumes nothing.
 use mathlib.Core.Path.{_≡_, refl, sym, ap, _∙_, subst}
-use mathlib.Core.Logic.{_⊎_, inl, inr, ⊎-elim}
+use mathlib.Core.Logic.{⊎-elim}
 use mathlib.Core.Bool.{Bool, true, false}
-use mathlib.Core.List.{List, [], _∷_}
-use Prim.Native.Nat.{ℕ, zero, suc, _+_, _-_, _≤_, _<_}
+use mathlib.Core.List.{List, _∷_}
+use Prim.Native.Nat.{ℕ, _+_, _-_, _≤_, _<_}
 use native.Mathlib.Omega.{arith}
 use lib.ListN.{length}
-use Rattle.queue_words.specs.Flags.{pick}
 use Rattle.receiver_model.specs.Lists.{count}
 use Rattle.receiver_model.proofs.Lists.{true≢false, count-here, count-there, equal, other, compare-same}
 use Rattle.receiver_words.specs.Tables.{Table, Header, Buckets, Fragments, Links, rows, width, distinct, wordAt, putWord, rowAt}
@@ -23,7 +22,6 @@ use Rattle.receiver_words.proofs.Rows.{not-among, count-without, count-without-
 use Rattle.receiver_words.proofs.Ages.{both-frame, both-rows, back-in, unlink-aged}
 use Rattle.receiver_words.proofs.Ends.{link-end-other, link-end-beside}
 use Rattle.receiver_words.proofs.Frames.{frame-header, unlink-frame, give-frame}
-use Rattle.receiver_store.specs.Words.{placeOf, sizeOf, usedOf, endOf}
 use Rattle.receiver_store.specs.Dropping.{dropPayload}
 use Rattle.receiver_store.specs.Good.{Laid}
 use Rattle.receiver_store.specs.Promise.{Dropped}

@@ -1,29 +1,27 @@
 -- A message handed out: its payloads lie in the buffer one after another, and its rows are free. Assumes nothing.
 use mathlib.Core.Path.{_≡_, refl, sym, ap, ap₂, _∙_, subst}
-use mathlib.Core.Bool.{Bool, true, false, not}
+use mathlib.Core.Bool.{Bool, true, false}
 use mathlib.Core.List.{List, [], _∷_, _++_, map, append-assoc, append-nil}
 use Prim.Native.Nat.{ℕ, zero, suc, _+_, _-_, _≤_, _<_}
 use native.Mathlib.Omega.{arith}
-use lib.Dec.{eqb}
 use lib.ListN.{length, take, drop, length-append}
 use lib.Seq.{length-take-le, take-at, drop-at, drop-drop}
-use borrow.Author.Tests.{le-leb, lt-leb, lt-ltb, le-ltb}
-use Rattle.queue_words.specs.Flags.{pick, bit}
+use borrow.Author.Tests.{lt-leb, le-ltb}
+use Rattle.queue_words.specs.Flags.{bit}
 use Rattle.queue_model.specs.Table.{sum-by}
 use Rattle.payload_store.specs.Putting.{written}
 use Rattle.payload_store.proofs.Puts.{written-length}
 use Rattle.receiver_model.specs.Lists.{count, keep, join}
 use Rattle.receiver_model.proofs.Lists.{Value, yes-is, no-is, value, count-nil, count-here, count-there, count-cons, equal, other, compare-same}
-use Rattle.receiver_words.specs.Tables.{Header, wordAt}
 use Rattle.receiver_words.specs.Fragments.{fragmentAt}
 use Rattle.receiver_words.specs.Index.{sameKey, findRow}
 use Rattle.receiver_words.specs.Link.{firstKey}
 use Rattle.receiver_words.specs.Ages.{without}
 use Rattle.receiver_words.specs.declared.fragments.Fragment.{Fragment}
-use Rattle.receiver_words.proofs.Rows.{stands-here, head-once, tail-once, unlike-head, without-here, without-there, count-without, count-without-other}
+use Rattle.receiver_words.proofs.Rows.{stands-here, head-once, without-here, without-there, count-without, count-without-other}
 use Rattle.receiver_messages.specs.Keys.{following}
 use Rattle.receiver_messages.specs.Walks.{partAfter}
-use Rattle.receiver_store.specs.Words.{placeOf, sizeOf, payloadOf, usedOf, endOf}
+use Rattle.receiver_store.specs.Words.{placeOf, sizeOf, payloadOf, endOf}
 use Rattle.receiver_store.specs.Packing.{misplaced}
 use Rattle.receiver_store.specs.Reading.{readPayload}
 use Rattle.receiver_store.specs.Good.{Laid}
@@ -35,7 +33,7 @@ use Rattle.receiver_fragments.specs.Freeing.{measure, measured, freeRow, Handed
 use Rattle.linked_receiver.specs.Rows.{Indexed}
 use Rattle.linked_receiver.specs.Good.{Walk}
 use Rattle.linked_receiver.proofs.Found.{find-indexed}
-use Rattle.linked_receiver.proofs.Frees.{Freed, freed-none, freed-both, freed-fragment, Holds, held-rows, held-once, held-few, free-law}
+use Rattle.linked_receiver.proofs.Frees.{Freed, freed-both, freed-fragment, Holds, held-rows, held-once, held-few, free-law}
 
 -- ------------------------------------------------------------------ what is found after a row is freed
 

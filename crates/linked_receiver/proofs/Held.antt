@@ -6,9 +6,9 @@ use Prim.Native.Nat.{ℕ, _+_, _^_, _≤_, _<_}
 use native.Mathlib.Omega.{arith}
 use borrow.Author.Tests.{eqb-true, eq-eqb}
 use lib.ListN.{length}
-use Rattle.queue_words.specs.Flags.{bit, flag, pick}
+use Rattle.queue_words.specs.Flags.{bit, flag}
 use Rattle.receiver_model.specs.Lists.{count}
-use Rattle.receiver_model.specs.Types.{Chunk, Assembled, Receiver, Turn}
+use Rattle.receiver_model.specs.Types.{Chunk, Assembled, Receiver}
 use Rattle.receiver_model.specs.Assembly.{width}
 use Rattle.receiver_model.proofs.Lists.{true≢false, Value, yes-is, no-is, value, count-here, count-there, count-cons, count-append, Same, equal, other, compare-same, keep-yes}
 use Rattle.receiver_words.specs.Tables.{Header, wordAt}
@@ -25,7 +25,7 @@ use Rattle.receiver_messages.specs.Walks.{isWhole, partAfter}
 use Rattle.receiver_store.specs.Words.{usedOf, payloadOf}
 use Rattle.receiver_fragments.specs.Holding.{Kept, hold}
 use Rattle.linked_receiver.specs.Rows.{Indexed, Unique, looseRows}
-use Rattle.linked_receiver.specs.Good.{Ghost, wholeRows, Walk, Carried, Good, chunkIn, messageIn, stands}
+use Rattle.linked_receiver.specs.Good.{Ghost, wholeRows, Walk, Carried, GoodReceiver, chunkIn, messageIn, stands}
 use Rattle.linked_receiver.proofs.Lists.{keep-same, count-kept}
 use Rattle.linked_receiver.proofs.Found.{find-indexed, first-there}
 use Rattle.linked_receiver.proofs.Indexes.{indexed-frame}
@@ -140,7 +140,7 @@ with-loose c r = record { kind = r .kind; store-length = r .store-length; last-t
 abbrev pub rows-more : ℕ → List ℕ → Ghost → Ghost
 rows-more i others g = record { held = i ∷ g .held; free = others; waiting = g .waiting; ready = g .ready; tail = g .tail; ahead = g .ahead }
 
-module _ (g : Ghost) (ws st : List ℕ) (d : Good g ws st) (i : ℕ) (others : List ℕ) (free-is : g .free ≡ i ∷ others) (f : Fragment) (bs : List ℕ) (fits : FitsFragment f)
+module _ (g : Ghost) (ws st : List ℕ) (d : GoodReceiver g ws st) (i : ℕ) (others : List ℕ) (free-is : g .free ≡ i ∷ others) (f : Fragment) (bs : List ℕ) (fits : FitsFragment f)
     (room : usedOf ws + length bs ≤ length st) (carries : Carried (interleavedOf ws) f) (no-tsn : (x : ℕ) → 0 < count x (g .held) → sameKey 0 (fragmentAt ws x) f ≡ false)
     (no-place : interleavedOf ws ≡ true → (x : ℕ) → 0 < count x (g .held) → sameKey 1 (fragmentAt ws x) f ≡ false) where
   abbrev b : Bool
@@ -211,7 +211,7 @@ module _ (g : Ghost) (ws st : List ℕ) (d : Good g ws st) (i : ℕ) (others : L
   new-whole : isWhole ws′ i ≡ false
   new-whole = not-whole ws st (interleavedOf ws) (g .held) i others o f bs fits room
 
-  held-good : Good (rows-more i others g) (w8 ws st (interleavedOf ws) (g .held) i others o f bs fits room) (put ws st (interleavedOf ws) (g .held) i others o f bs fits room .store)
+  held-good : GoodReceiver (rows-more i others g) (w8 ws st (interleavedOf ws) (g .held) i others o f bs fits room) (put ws st (interleavedOf ws) (g .held) i others o f bs fits room .store)
   held-good = record {
     store-is = w .low 1 (omega arith) ∙ d .store-is ∙ sym store-long;
     store-fits = let a = d .store-fits in let c = store-long in omega arith;
@@ -294,7 +294,7 @@ module _ (g : Ghost) (ws st : List ℕ) (d : Good g ws st) (i : ℕ) (others : L
 
   -- THE THEOREM of holding a fragment
   pub record Held (k : Kept) : Type 0 where
-    pub good : Good (rows-more i others g) (k .words) (k .store)
+    pub good : GoodReceiver (rows-more i others g) (k .words) (k .store)
     pub is : stands (rows-more i others g) (k .words) (k .store) ≡ with-loose (chunkOf (kindOf (interleavedOf ws)) f bs) (stands g ws st)
     pub same-store : length (k .store) ≡ length st
     pub last-is : wordAt Header (k .words) 0 2 ≡ wordAt Header ws 0 2

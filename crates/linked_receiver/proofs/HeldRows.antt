@@ -20,7 +20,7 @@ use Rattle.receiver_store.specs.Words.{sizeOf, usedOf, payloadOf}
 use Rattle.receiver_store.proofs.Orders.{sum-same, sum-without}
 use Rattle.receiver_store.proofs.Laws.{payload-length}
 use Rattle.linked_receiver.specs.Rows.{looseRows}
-use Rattle.linked_receiver.specs.Good.{Ghost, rowsOf, wholeRows, Good, chunkIn, stands}
+use Rattle.linked_receiver.specs.Good.{Ghost, rowsOf, wholeRows, GoodReceiver, chunkIn, stands}
 use Rattle.linked_receiver.proofs.Lists.{count-kept, few}
 
 -- ------------------------------------------------------------------ lists
@@ -87,7 +87,7 @@ length-sum (x ∷ xs) = let ih = length-sum xs in omega arith
 
 -- ------------------------------------------------------------------ the held rows
 
-module _ (g : Ghost) (ws st : List ℕ) (good : Good g ws st) where
+module _ (g : Ghost) (ws st : List ℕ) (good : GoodReceiver g ws st) where
   pub held-row : (x : ℕ) → 0 < count x (g .held) → x < 4096
   held-row x h = both-rows (older ws) (newer ws) (oldest ws) 4096 (newest ws) (g .held) (good .aged) x h
 

@@ -1,8 +1,8 @@
 -- What is tested before a fragment is accepted is what the model tests: 24, repeats, 22, 23. Assumes nothing.
 use mathlib.Core.Path.{_≡_, refl, sym, ap, ap₂, _∙_}
 use mathlib.Core.Bool.{Bool, true, false, not, _&&_, _||_}
-use mathlib.Core.List.{List, [], _∷_}
-use Prim.Native.Nat.{ℕ, zero, suc, _+_, _-_, _^_, _<_}
+use mathlib.Core.List.{List}
+use Prim.Native.Nat.{ℕ, zero, suc, _+_, _^_, _<_}
 use native.Mathlib.Omega.{arith}
 use borrow.Author.Tests.{ltb-true, ltb-false, lt-ltb, le-ltb, eqb-true}
 use lib.Dec.{eqb, ltb}
@@ -14,7 +14,7 @@ use Rattle.receiver_model.specs.Tsn.{wrapped-difference, is-after, is-far}
 use Rattle.receiver_model.specs.Types.{Kind, Chunk, Receiver}
 use Rattle.receiver_model.specs.Receive.{same-chunk, same-place, makes-repeat}
 use Rattle.receiver_model.specs.Receive as model
-use Rattle.receiver_model.proofs.Lists.{true≢false, and-left, and-right, or-left, Value, yes-is, no-is, value, count-cons, count-here, equal, other, compare-same, member-nil, member-there}
+use Rattle.receiver_model.proofs.Lists.{true≢false, and-left, and-right, or-left, Value, yes-is, no-is, value}
 use Rattle.receiver_model.proofs.Window.{Window}
 use Rattle.receiver_words.specs.Tables.{Header, wordAt}
 use Rattle.receiver_words.specs.Ahead.{aheadAt}
@@ -27,7 +27,7 @@ use Rattle.receiver_messages.specs.Keys.{interleavedOf}
 use Rattle.receiver_store.specs.Words.{payloadOf}
 use Rattle.receiver_store.proofs.Laws.{same-law}
 use Rattle.receiver_fragments.specs.Checks.{lastOf, sameFields, heldCode, isAhead, holdsPlace, repeats}
-use Rattle.linked_receiver.specs.Good.{Ghost, Good, chunkIn, stands}
+use Rattle.linked_receiver.specs.Good.{Ghost, GoodReceiver, chunkIn, stands}
 use Rattle.linked_receiver.proofs.Found.{find-indexed}
 use Rattle.linked_receiver.proofs.Walks.{KeyAmong, absent, present, key-among}
 use Rattle.linked_receiver.proofs.HeldRows.{held-row, held-few, AnyHeld, one-held, none-held, any-held}
@@ -59,7 +59,7 @@ turns-length ws (suc n) i = ap suc (turns-length ws n (i + 1))
 
 -- ------------------------------------------------------------------ one fragment, from good words
 
-module _ (g : Ghost) (ws st : List ℕ) (good : Good g ws st) (f : Fragment) (bs : List ℕ) where
+module _ (g : Ghost) (ws st : List ℕ) (good : GoodReceiver g ws st) (f : Fragment) (bs : List ℕ) where
   abbrev pub kind : Kind
   kind = kindOf (interleavedOf ws)
 

@@ -2,17 +2,17 @@
 use mathlib.Core.Path.{_≡_, refl, sym, ap, _∙_, subst}
 use mathlib.Core.Bool.{Bool, true, false, not, _&&_}
 use mathlib.Core.List.{List, [], _∷_, map}
-use Prim.Native.Nat.{ℕ, zero, suc, _+_, _≤_, _<_}
+use Prim.Native.Nat.{ℕ, zero, suc, _+_, _<_}
 use native.Mathlib.Omega.{arith}
 use lib.Dec.{eqb, leb}
 use lib.ListN.{length}
 use borrow.Author.Tests.{eq-eqb, le-leb, lt-leb}
 use Rattle.queue_words.specs.Flags.{pick, bit}
 use Rattle.receiver_model.specs.Lists.{member, keep, count}
-use Rattle.receiver_model.specs.Types.{Chunk, fragments}
+use Rattle.receiver_model.specs.Types.{Chunk}
 use Rattle.receiver_model.specs.Assembly.{without-message}
 use Rattle.receiver_model.proofs.Lists.{true≢false, Value, yes-is, no-is, value, count-nil, count-here, count-there, count-cons, equal, other, compare-same, keep-yes, keep-no, keep-map, From, member-from, member-to}
-use Rattle.receiver_words.specs.Tables.{Buckets, Links, wordAt, putWord}
+use Rattle.receiver_words.specs.Tables.{Buckets, Links, wordAt}
 use Rattle.receiver_words.specs.Fragments.{fragmentAt}
 use Rattle.receiver_words.specs.Index.{bucketOf, sameKey, findFrom, findRow}
 use Rattle.receiver_words.specs.Chunks.{kindOf, chunkOf}
@@ -28,7 +28,7 @@ use Rattle.linked_receiver.specs.Good.{Walk}
 use Rattle.linked_receiver.proofs.Found.{bucket-in}
 use Rattle.linked_receiver.proofs.Keeps.{kept-both, kept-frame, kept-fragment}
 use Rattle.linked_receiver.proofs.Completes.{tsns-map}
-use Rattle.linked_receiver.proofs.Paths.{reach-last, reach-none, reach-next, tail-last, tail-next}
+use Rattle.linked_receiver.proofs.Paths.{reach-none, reach-next, tail-last, tail-next}
 
 -- ------------------------------------------------------------------ what is found after a change of other words
 

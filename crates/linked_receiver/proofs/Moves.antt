@@ -29,7 +29,7 @@ use Rattle.receiver_words.proofs.Records.{turn-at-put}
 use Rattle.receiver_words.proofs.Finds.{turn-finds}
 use Rattle.receiver_messages.specs.Keys.{interleavedOf}
 use Rattle.receiver_fragments.specs.Holding.{passTsn, nextOf, setTurn}
-use Rattle.linked_receiver.specs.Good.{Ghost, Good, stands}
+use Rattle.linked_receiver.specs.Good.{Ghost, GoodReceiver, stands}
 use Rattle.linked_receiver.proofs.Turns.{set-known, set-new}
 use Rattle.linked_receiver.proofs.Passed.{OnlyWindow, Accepted, pass-law}
 use Rattle.linked_receiver.proofs.Taken.{turn-rows-same}
@@ -50,7 +50,7 @@ window-others ws ws′ w = record {
 abbrev pub with-window : ℕ → List ℕ → Receiver → Receiver
 with-window last ts r = record { kind = r .kind; store-length = r .store-length; last-tsn = last; ahead = ts; loose = r .loose; waiting = r .waiting; ready = r .ready; turns = r .turns }
 
-module _ (g : Ghost) (ws st : List ℕ) (d : Good g ws st) (t : ℕ) (near : Ahead (wordAt Header ws 0 2) (t ∷ g .ahead)) where
+module _ (g : Ghost) (ws st : List ℕ) (d : GoodReceiver g ws st) (t : ℕ) (near : Ahead (wordAt Header ws 0 2) (t ∷ g .ahead)) where
   abbrev ws′ : List ℕ
   ws′ = passTsn ws t (wordAt Header ws 0 2)
 
@@ -82,7 +82,7 @@ module _ (g : Ghost) (ws st : List ℕ) (d : Good g ws st) (t : ℕ) (near : Ahe
   pub window-others-are : Others ws (passTsn ws t (wordAt Header ws 0 2))
   window-others-are = others
 
-  pub window-good : wordAt Header (passTsn ws t (wordAt Header ws 0 2)) 0 2 < 2 ^ 32 → Good (ahead-as passed-ahead g) (passTsn ws t (wordAt Header ws 0 2)) st
+  pub window-good : wordAt Header (passTsn ws t (wordAt Header ws 0 2)) 0 2 < 2 ^ 32 → GoodReceiver (ahead-as passed-ahead g) (passTsn ws t (wordAt Header ws 0 2)) st
   window-good fits =
       others-good g ws ws′ st passed-ahead d others (a .flags) fits (let k = known in let l = d .known-fits in omega arith)
       (λ n l. let k = known in let e = d .known-fits in
@@ -110,7 +110,7 @@ unfolding width
 narrow DATA n h = omega arith
 narrow I-DATA n h = h
 
-module _ (g : Ghost) (ws st : List ℕ) (d : Good g ws st) (s n t : ℕ) (id-fits : s < 65536) (fits : n < 2 ^ width (kindOf (interleavedOf ws))) (at : t ≡ turnFrom ws s 0 (wordAt Header ws 0 3))
+module _ (g : Ghost) (ws st : List ℕ) (d : GoodReceiver g ws st) (s n t : ℕ) (id-fits : s < 65536) (fits : n < 2 ^ width (kindOf (interleavedOf ws))) (at : t ≡ turnFrom ws s 0 (wordAt Header ws 0 3))
     (inside : t < 256) where
   abbrev known3 : ℕ
   known3 = wordAt Header ws 0 3
@@ -174,7 +174,7 @@ module _ (g : Ghost) (ws st : List ℕ) (d : Good g ws st) (s n t : ℕ) (id-fit
     header2 : wordAt Header ws1 0 2 ≡ wordAt Header ws 0 2
     header2 = words1 Header 0 2 refl (omega arith) (omega arith)
 
-    known-good : Good (ahead-as (g .ahead) g) ws1 st
+    known-good : GoodReceiver (ahead-as (g .ahead) g) ws1 st
     known-good =
         others-good g ws ws1 st (g .ahead) d others1
         (subst (λ (v : ℕ). Flags ws1 v (g .ahead)) (sym header2) (record { long = others1 .long ∙ long; flags = λ u a b c. ahead1 u ∙ d .flags .flags u a b c }))
@@ -218,7 +218,7 @@ module _ (g : Ghost) (ws st : List ℕ) (d : Good g ws st) (s n t : ℕ) (id-fit
         ∙ subst (λ (v : ℕ). turnRows (putTurn ws v one) 0 (suc known3) ≡ set-next s n (turnRows ws 0 known3)) (let z : 0 + known3 ≡ t = omega arith in z)
         (set-new ws long s n id-fits fits32 known3 0 (let k = inside in omega arith) (let e = at in omega arith))
 
-    new-good : Good (ahead-as (g .ahead) g) ws2 st
+    new-good : GoodReceiver (ahead-as (g .ahead) g) ws2 st
     new-good =
         others-good g ws ws2 st (g .ahead) d others2
         (subst (λ (v : ℕ). Flags ws2 v (g .ahead)) (sym new2) (record {
@@ -236,7 +236,7 @@ module _ (g : Ghost) (ws st : List ℕ) (d : Good g ws st) (s n t : ℕ) (id-fit
 
   -- the stream's number is set
   pub record TurnSet (ws′ : List ℕ) : Type 0 where
-    pub good : Good (ahead-as (g .ahead) g) ws′ st
+    pub good : GoodReceiver (ahead-as (g .ahead) g) ws′ st
     pub is : stands (ahead-as (g .ahead) g) ws′ st ≡ with-turns (set-next s n (turnRows ws 0 (wordAt Header ws 0 3))) (stands g ws st)
 
   at-or-below : (t < known3) ⊎ (t ≡ known3)

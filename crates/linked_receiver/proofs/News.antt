@@ -1,8 +1,8 @@
 -- The words of a new receiver are good, and stand for the model's new receiver. Assumes nothing.
 use mathlib.Core.Path.{_≡_, refl, sym, ap, _∙_}
-use mathlib.Core.Bool.{Bool, true, false}
+use mathlib.Core.Bool.{Bool}
 use mathlib.Core.List.{List, [], _∷_}
-use Prim.Native.Nat.{ℕ, zero, suc, _+_, _-_, _%_, _≤_, _<_}
+use Prim.Native.Nat.{ℕ, zero, suc, _+_, _%_, _≤_, _<_}
 use native.Mathlib.Omega.{arith}
 use borrow.Author.Tests.{eq-eqb, ne-eqb}
 use lib.ListN.{length}
@@ -17,7 +17,7 @@ use Rattle.receiver_words.specs.Chunks.{kindOf}
 use Rattle.receiver_words.specs.Ages.{older}
 use Rattle.receiver_messages.specs.Keys.{interleavedOf, previous}
 use Rattle.linked_receiver.specs.Rows.{Indexed}
-use Rattle.linked_receiver.specs.Good.{Ghost, wholeRows, Good, stands, Stands}
+use Rattle.linked_receiver.specs.Good.{Ghost, wholeRows, GoodReceiver, stands, Stands}
 use Rattle.queue_words.proofs.Numbers.{flag-bit}
 
 -- ------------------------------------------------------------------ the free rows
@@ -99,7 +99,7 @@ module _ (ws st : List ℕ) (b : Bool) (start : ℕ) (new : IsNew ws b (length s
   is-kind : interleavedOf ws ≡ b
   is-kind = ap flag (new .kind-is) ∙ flag-bit b
 
-  pub new-good : length st ≤ 2000000 → Good new-rows ws st
+  pub new-good : length st ≤ 2000000 → GoodReceiver new-rows ws st
   unfolding new-rows
   new-good fits = record {
     store-is = new .store-is;

@@ -25,7 +25,7 @@ use Rattle.receiver_store.specs.Words.{payloadOf}
 use Rattle.receiver_store.proofs.Laws.{laid-same}
 use Rattle.receiver_store.proofs.Packs.{payload-words}
 use Rattle.linked_receiver.specs.Rows.{Indexed, Unique, looseRows}
-use Rattle.linked_receiver.specs.Good.{Ghost, Walk, Carried, Good, chunkIn, messageIn, stands}
+use Rattle.linked_receiver.specs.Good.{Ghost, Walk, Carried, GoodReceiver, chunkIn, messageIn, stands}
 use Rattle.linked_receiver.proofs.Lists.{keep-same, count-kept}
 use Rattle.linked_receiver.proofs.Found.{find-indexed}
 use Rattle.linked_receiver.proofs.Indexes.{indexed-frame}
@@ -52,7 +52,7 @@ find-same ws ws′ k q xs ix ix′ few same = find-indexed ws′ k q xs ix′ fe
 abbrev pub ahead-as : List ℕ → Ghost → Ghost
 ahead-as ts g = record { held = g .held; free = g .free; waiting = g .waiting; ready = g .ready; tail = g .tail; ahead = ts }
 
-module _ (g : Ghost) (ws ws′ st ts : List ℕ) (d : Good g ws st) (s : Others ws ws′) where
+module _ (g : Ghost) (ws ws′ st ts : List ℕ) (d : GoodReceiver g ws st) (s : Others ws ws′) where
   abbrev b : Bool
   b = interleavedOf ws
 
@@ -93,7 +93,7 @@ module _ (g : Ghost) (ws ws′ st ts : List ℕ) (d : Good g ws st) (s : Others 
 
   -- good words with the new window and the new known streams
   pub others-good : Flags ws′ (wordAt Header ws′ 0 2) ts → wordAt Header ws′ 0 2 < 2 ^ 32 → wordAt Header ws′ 0 3 ≤ 256
-      → ((t : ℕ) → t < wordAt Header ws′ 0 3 → turnAt ws′ t .next < 2 ^ width (kindOf (interleavedOf ws))) → Good (ahead-as ts g) ws′ st
+      → ((t : ℕ) → t < wordAt Header ws′ 0 3 → turnAt ws′ t .next < 2 ^ width (kindOf (interleavedOf ws))) → GoodReceiver (ahead-as ts g) ws′ st
   others-good fl lf kf nf = record {
     store-is = head 1 (omega arith) (λ e. omega arith) (λ e. omega arith) ∙ d .store-is;
     store-fits = d .store-fits;

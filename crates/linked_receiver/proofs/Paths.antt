@@ -1,14 +1,13 @@
 -- Rows that follow each other in a message: so many steps forward from a row, and back again. Assumes nothing.
 use mathlib.Core.Path.{_≡_, refl, sym, ap, _∙_, subst}
-use mathlib.Core.Logic.{_⊎_, inl, inr}
 use mathlib.Core.Bool.{Bool, true, false, not, _&&_}
 use mathlib.Core.List.{List, [], _∷_, map}
-use mathlib.Core.Option.{Option, none, some}
+use mathlib.Core.Option.{none, some}
 use Prim.Native.Nat.{ℕ, zero, suc, _+_, _%_, _^_, _≤_, _<_}
 use native.Mathlib.Omega.{arith}
 use lib.Dec.{eqb}
 use lib.ListN.{length}
-use borrow.Author.Tests.{eq-eqb, ne-eqb, le-leb, lt-leb, not-true}
+use borrow.Author.Tests.{ne-eqb, le-leb, lt-leb, not-true}
 use Rattle.types.specs.Wrap.{wrap-suc}
 use Rattle.queue_words.specs.Flags.{bit}
 use Rattle.receiver_model.specs.Lists.{count, first-with}

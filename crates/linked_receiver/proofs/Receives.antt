@@ -34,7 +34,7 @@ use Rattle.receiver_fragments.specs.Holding.{Kept, kept, hold, passTsn, settle}
 use Rattle.receiver_fragments.specs.Receiving.{Outcome, received, receiveFragment}
 use Rattle.receiver_fragments.specs.Receiving as words
 use Rattle.receiver_fragments.specs.declared.answers.Received.the-variants.{Refused, Repeated}
-use Rattle.linked_receiver.specs.Good.{Ghost, Carried, Good, chunkIn, stands}
+use Rattle.linked_receiver.specs.Good.{Ghost, Carried, GoodReceiver, chunkIn, stands}
 use Rattle.linked_receiver.specs.Promise.{Represents}
 use Rattle.linked_receiver.specs.Receives.{answerOf, Receives}
 use Rattle.linked_receiver.proofs.HeldRows.{AnyHeld, one-held, none-held, any-held}
@@ -50,7 +50,7 @@ use Rattle.linked_receiver.proofs.Accepts.{come, accept-none, accept-so
 
 -- ------------------------------------------------------------------ a fragment that is accepted
 
-module _ (g : Ghost) (ws st : List ℕ) (d : Good g ws st) (f : Fragment) (bs : List ℕ) (fits : FitsFragment f) (carries : Carried (interleavedOf ws) f) (settled : Settled (stands g ws st))
+module _ (g : Ghost) (ws st : List ℕ) (d : GoodReceiver g ws st) (f : Fragment) (bs : List ℕ) (fits : FitsFragment f) (carries : Carried (interleavedOf ws) f) (settled : Settled (stands g ws st))
     (window : Window (stands g ws st)) (a : Admitted g ws st d f bs) where
   abbrev b : Bool
   b = interleavedOf ws
@@ -126,7 +126,7 @@ module _ (g : Ghost) (ws st : List ℕ) (d : Good g ws st) (f : Fragment) (bs : 
   moved : stands g2 w2 s1 ≡ with-window (passed-tsn g1 w1 s1 (h .good) (f .tsn) near) (passed-ahead g1 w1 s1 (h .good) (f .tsn) near) (stands g1 w1 s1)
   moved = window-stands g1 w1 s1 (h .good) (f .tsn) near
 
-  d2 : Good g2 w2 s1
+  d2 : GoodReceiver g2 w2 s1
   d2 =
       window-good g1 w1 s1 (h .good) (f .tsn) near
       (subst (λ (n : ℕ). n < 2 ^ 32) (sym (ap (λ (q : Receiver). q .last-tsn) moved)) (pass-fits (suc (length (g .ahead))) (wordAt Header w1 0 2) (f .tsn ∷ g .ahead) (near .last-fits)))
@@ -215,7 +215,7 @@ module _ (g : Ghost) (ws st : List ℕ) (d : Good g ws st) (f : Fragment) (bs : 
 
 -- ------------------------------------------------------------------ the call
 
-module _ (g : Ghost) (ws st : List ℕ) (d : Good g ws st) (f : Fragment) (bs : List ℕ) (fits : FitsFragment f) (carries : Carried (interleavedOf ws) f) (settled : Settled (stands g ws st))
+module _ (g : Ghost) (ws st : List ℕ) (d : GoodReceiver g ws st) (f : Fragment) (bs : List ℕ) (fits : FitsFragment f) (carries : Carried (interleavedOf ws) f) (settled : Settled (stands g ws st))
     (window : Window (stands g ws st)) where
   abbrev whole : Receiver
   whole = stands g ws st

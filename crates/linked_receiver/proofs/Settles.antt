@@ -10,7 +10,7 @@ use lib.ListN.{length}
 use Rattle.queue_words.specs.Flags.{bit, flag, pick}
 use Rattle.queue_model.specs.Table.{sum-by}
 use Rattle.receiver_model.specs.Lists.{count, join}
-use Rattle.receiver_model.specs.Types.{Chunk, Assembled, Receiver, Turn}
+use Rattle.receiver_model.specs.Types.{Chunk, Assembled, Receiver}
 use Rattle.receiver_model.specs.Assembly.{width, without-message}
 use Rattle.receiver_model.specs.Receive.{Queued}
 use Rattle.receiver_model.specs.Receive as model
@@ -33,7 +33,7 @@ use Rattle.receiver_store.proofs.Laws.{laid-same}
 use Rattle.receiver_store.proofs.Packs.{payload-words}
 use Rattle.linked_receiver.specs.Rows.{Indexed, Unique, looseRows, tailRows}
 use Rattle.linked_receiver.specs.Kept.{Kept}
-use Rattle.linked_receiver.specs.Good.{Ghost, rowsOf, wholeRows, Walk, Carried, Good, chunkIn, messageIn, stands}
+use Rattle.linked_receiver.specs.Good.{Ghost, rowsOf, wholeRows, Walk, Carried, GoodReceiver, chunkIn, messageIn, stands}
 use Rattle.linked_receiver.proofs.Lists.{keep-same, count-kept, few}
 use Rattle.linked_receiver.proofs.Walks.{loose-held}
 use Rattle.linked_receiver.proofs.Keeps.{kept-fragment, kept-turn}
@@ -96,7 +96,7 @@ with-other h ts tail x ne = rw (ne-eqb x h ne)
 abbrev pub with-queues : List Chunk → Queued → Receiver → Receiver
 with-queues cs q r = record { kind = r .kind; store-length = r .store-length; last-tsn = r .last-tsn; ahead = r .ahead; loose = cs; waiting = q .waiting; ready = q .ready; turns = r .turns }
 
-module _ (g : Ghost) (ws st : List ℕ) (d : Good g ws st) (h : ℕ) (is-loose : 0 < count h (looseRows ws (g .held))) (reach : reachesLast 4096 ws (interleavedOf ws) h ≡ true) (n : ℕ)
+module _ (g : Ghost) (ws st : List ℕ) (d : GoodReceiver g ws st) (h : ℕ) (is-loose : 0 < count h (looseRows ws (g .held))) (reach : reachesLast 4096 ws (interleavedOf ws) h ≡ true) (n : ℕ)
     (fits : n < 2 ^ width (kindOf (interleavedOf ws))) where
   abbrev b : Bool
   b = interleavedOf ws
@@ -347,7 +347,7 @@ module _ (g : Ghost) (ws st : List ℕ) (d : Good g ws st) (h : ℕ) (is-loose :
     | other ne ↦ (let a = whole-rows x in let e = its-new x (omega arith) in let l = its-once x in let k = its-held x (omega arith) in omega arith)
   ]
 
-  pub settled-good : Good rows-settled (queueUp (markWhole 4096 ws (interleavedOf ws) h) (interleavedOf ws) (fragmentAt (markWhole 4096 ws (interleavedOf ws) h) h) h n .words) st
+  pub settled-good : GoodReceiver rows-settled (queueUp (markWhole 4096 ws (interleavedOf ws) h) (interleavedOf ws) (fragmentAt (markWhole 4096 ws (interleavedOf ws) h) h) h n .words) st
   unfolding rows-settled
   settled-good = record {
     store-is = header 1 (omega arith) ∙ d .store-is;

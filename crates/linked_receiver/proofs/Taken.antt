@@ -2,18 +2,18 @@
 use mathlib.Core.Path.{_≡_, refl, sym, ap, ap₂, _∙_, subst}
 use mathlib.Core.Bool.{Bool, true, false, not}
 use mathlib.Core.List.{List, [], _∷_, _++_, map}
-use Prim.Native.Nat.{ℕ, zero, suc, _+_, _-_, _%_, _^_, _≤_, _<_}
+use Prim.Native.Nat.{ℕ, zero, suc, _+_, _%_, _^_, _≤_, _<_}
 use native.Mathlib.Omega.{arith}
 use lib.Dec.{eqb}
 use lib.ListN.{length}
 use borrow.Author.Tests.{le-leb, lt-leb}
-use Rattle.queue_words.specs.Flags.{bit, flag, pick}
+use Rattle.queue_words.specs.Flags.{bit, flag}
 use Rattle.queue_model.specs.Table.{sum-by}
 use Rattle.receiver_model.specs.Lists.{count, keep, join}
-use Rattle.receiver_model.specs.Types.{Chunk, Assembled, Receiver, Turn}
+use Rattle.receiver_model.specs.Types.{Chunk, Assembled}
 use Rattle.receiver_model.specs.Assembly.{width}
 use Rattle.receiver_model.specs.Fetch.{with-ready}
-use Rattle.receiver_model.proofs.Lists.{Value, yes-is, no-is, value, count-nil, count-here, count-there, count-cons, count-append, equal, other, compare-same, keep-yes, keep-no}
+use Rattle.receiver_model.proofs.Lists.{Value, yes-is, no-is, value, count-nil, count-there, count-cons, count-append, equal, other, compare-same, keep-yes, keep-no}
 use Rattle.receiver_words.specs.Tables.{Header, Turns, Ahead, Buckets, Fragments, Links, wordAt, putWord}
 use Rattle.receiver_words.specs.Turns.{turnOf, turnAt}
 use Rattle.receiver_words.specs.Ahead.{aheadAt}
@@ -21,7 +21,7 @@ use Rattle.receiver_words.specs.Fragments.{fragmentOf, fragmentAt}
 use Rattle.receiver_words.specs.Index.{sameKey}
 use Rattle.receiver_words.specs.Link.{Flags, Linked, turnRows}
 use Rattle.receiver_words.specs.Chunks.{kindOf, chunkOf}
-use Rattle.receiver_words.specs.Ages.{without, last-row, Lined}
+use Rattle.receiver_words.specs.Ages.{without, Lined}
 use Rattle.receiver_words.specs.Frames.{Frame}
 use Rattle.receiver_words.specs.declared.fragments.Fragment.{Fragment}
 use Rattle.receiver_words.specs.declared.turns.Turn as words
@@ -38,8 +38,8 @@ use Rattle.receiver_store.proofs.Laws.{laid-same}
 use Rattle.receiver_store.proofs.Packs.{payload-words}
 use Rattle.receiver_store.proofs.Orders.{onto, sum-same}
 use Rattle.receiver_fragments.specs.Freeing.{HandedOut, handOut}
-use Rattle.linked_receiver.specs.Rows.{Indexed, Unique, chunkAt, looseRows}
-use Rattle.linked_receiver.specs.Good.{Ghost, rowsOf, wholeRows, Walk, Carried, Good, chunkIn, messageIn, stands}
+use Rattle.linked_receiver.specs.Rows.{Indexed, Unique, looseRows}
+use Rattle.linked_receiver.specs.Good.{Ghost, rowsOf, Walk, Carried, GoodReceiver, chunkIn, messageIn, stands}
 use Rattle.linked_receiver.proofs.Lists.{few, keep-same, count-kept}
 use Rattle.linked_receiver.proofs.Keeps.{kept-frame}
 use Rattle.linked_receiver.proofs.Indexes.{indexed-frame, indexed-kept, indexed-rows}
@@ -166,7 +166,7 @@ turn-rows-same ws ws′ (suc n) i l h =
 abbrev pub ready-as : List ℕ → Ghost → Ghost
 ready-as rs g = record { held = g .held; free = g .free; waiting = g .waiting; ready = rs; tail = g .tail; ahead = g .ahead }
 
-pub good-holds : (g : Ghost) (ws st : List ℕ) → Good g ws st → Holds ws st (interleavedOf ws) (g .held) (g .free)
+pub good-holds : (g : Ghost) (ws st : List ℕ) → GoodReceiver g ws st → Holds ws st (interleavedOf ws) (g .held) (g .free)
 good-holds g ws st d = record {
   aged = d .aged;
   freed = d .freed;
@@ -203,7 +203,7 @@ holds-ready ws ws′ st b held free f o = record {
 
 -- ------------------------------------------------------------------ the message that is ready first
 
-module _ (g : Ghost) (h : ℕ) (more : List ℕ) (ws st : List ℕ) (d : Good (ready-as (h ∷ more) g) ws st) where
+module _ (g : Ghost) (h : ℕ) (more : List ℕ) (ws st : List ℕ) (d : GoodReceiver (ready-as (h ∷ more) g) ws st) where
   abbrev b : Bool
   b = interleavedOf ws
 
@@ -356,7 +356,7 @@ module _ (g : Ghost) (h : ℕ) (more : List ℕ) (ws st : List ℕ) (d : Good (r
     waiting-row x c = indexed-rows ws 2 (g .waiting) (d .by-number) x c
 
     -- THE THEOREM of taking a message out: the words are good again
-    pub good-left : Good rows-left (handed .words) st
+    pub good-left : GoodReceiver rows-left (handed .words) st
     unfolding rows-left
     good-left = record {
       store-is = low 1 (omega arith) ∙ d .store-is;

@@ -1,6 +1,6 @@
 -- The known streams: what is next in a stream, set in its row, is the model's `set-next`. Assumes nothing.
 use mathlib.Core.Path.{_≡_, refl, sym, ap, ap₂, _∙_}
-use mathlib.Core.Bool.{Bool, true, false}
+use mathlib.Core.Bool.{true, false}
 use mathlib.Core.List.{List, [], _∷_}
 use Prim.Native.Nat.{ℕ, zero, suc, _+_, _≤_, _<_}
 use native.Mathlib.Omega.{arith}
@@ -10,7 +10,7 @@ use Rattle.receiver_model.specs.Types as model
 use Rattle.receiver_model.specs.Receive.{set-next}
 use Rattle.receiver_model.proofs.Lists.{Value, yes-is, no-is, value}
 use Rattle.receiver_words.specs.Tables.{Turns}
-use Rattle.receiver_words.specs.Turns.{turnOf, turnWords, turnAt, putTurn, FitsTurn}
+use Rattle.receiver_words.specs.Turns.{turnOf, turnWords, turnAt, putTurn}
 use Rattle.receiver_words.specs.Search.{turnFrom}
 use Rattle.receiver_words.specs.Link.{turnRows}
 use Rattle.receiver_words.specs.declared.turns.Turn.{Turn}

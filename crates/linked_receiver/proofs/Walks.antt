@@ -9,10 +9,10 @@ use lib.Dec.{eqb}
 use lib.ListN.{length}
 use borrow.Author.Tests.{eq-eqb, le-leb, lt-leb, not-true}
 use Rattle.types.specs.Wrap.{wrap-suc}
-use Rattle.queue_words.specs.Flags.{pick, bit}
+use Rattle.queue_words.specs.Flags.{bit}
 use Rattle.queue_model.specs.Logic.{same-bool}
-use Rattle.receiver_model.specs.Lists.{count, keep, first-with}
-use Rattle.receiver_model.specs.Types.{Kind, DATA, I-DATA, Chunk}
+use Rattle.receiver_model.specs.Lists.{count, first-with}
+use Rattle.receiver_model.specs.Types.{DATA, I-DATA, Chunk}
 use Rattle.receiver_model.specs.Assembly.{number, same-message, goes-on, with-piece, gather-on, gather}
 use Rattle.receiver_model.proofs.Lists.{true≢false, and-left, and-right, eqb-is, Value, yes-is, no-is, value, count-nil, count-here, count-there, count-cons, equal, other, compare-same, count-keep-yes, count-keep-no, Search, hit, miss, search-in}
 use Rattle.receiver_model.proofs.Ranks.{same-bool-is}

@@ -5,7 +5,6 @@ use Prim.Native.Nat.{ℕ}
 use lib.ListN.{length, take, drop}
 use Rattle.receiver_model.specs.Types.{Receiver, Answer, refused, none-ready, fetched}
 use Rattle.receiver_model.specs.Fetch as model
-use Rattle.receiver_fragments.specs.declared.answers.Delivery.{Delivery}
 use Rattle.receiver_fragments.specs.declared.answers.Fetched.{Fetched}
 use Rattle.receiver_fragments.specs.declared.answers.Fetched.the-variants as answer
 use Rattle.receiver_fragments.specs.Fetching.{Outcome}

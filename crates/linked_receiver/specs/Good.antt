@@ -56,7 +56,7 @@ Carried false f = f .mid .0 ≡ 0
 
 -- ------------------------------------------------------------------ good words
 
-pub record Good (g : Ghost) (ws st : List ℕ) : Type 0 where
+pub record GoodReceiver (g : Ghost) (ws st : List ℕ) : Type 0 where
   -- "not of its creation length later"; "a lent store as in 01"
   pub store-is : wordAt Header ws 0 1 ≡ length st
   pub store-fits : length st ≤ 2000000
@@ -109,5 +109,5 @@ stands g ws st = record {
 
 -- words and store stand for the receiver r
 pub record Stands (g : Ghost) (ws st : List ℕ) (r : Receiver) : Type 0 where
-  pub good : Good g ws st
+  pub good : GoodReceiver g ws st
   pub is : stands g ws st ≡ r

@@ -8,6 +8,7 @@ use lib.Dec.{T, eqb}
 use lib.Pow.{areBytes}
 use lib.ListN.{length}
 use borrow.Author.Tests.{eqb-true}
+use Rattle.queue_model.specs.Reader.{has-flag}
 use Rattle.queue_words.specs.Flags.{pick}
 use Rattle.payload_store.proofs.Cases.{pick-both, false-true}
 use Rattle.queue_model.specs.Types.{Queue}
@@ -21,7 +22,6 @@ use Rattle.handover_records.specs.declared.records.Trailer.{Trailer}
 use Rattle.image_rules.specs.Trailers.{trailerIn}
 use Rattle.image_rules.specs.Messages.{midRight}
 use Rattle.image_rules.specs.Code.{imageCode}
-use Rattle.restoring.specs.Messages.{hasFlag}
 use Rattle.image_rules.proofs.ReadLink.{handoverAt, Read, handover-read}
 use Rattle.image_rules.proofs.CodeLink.{image-counts}
 use Rattle.image_rules.proofs.AcceptedFacts.{Accepted, accepted-facts}
@@ -35,8 +35,8 @@ pick-last : (b x y : Bool) → pick b x y ≡ true → b ≡ false → y ≡ tru
 pick-last true x y e f = false-true (sym f)
 pick-last false x y e f = e
 
-bare-ssn : (m : HandoverStreamMessage) (head : Bool) → midRight m head ≡ true → hasFlag 2 (m .flags) ≡ false → m .ssn ≡ 0
-unfolding midRight hasFlag
+bare-ssn : (m : HandoverStreamMessage) (head : Bool) → midRight m head ≡ true → has-flag 2 (m .flags) ≡ false → m .ssn ≡ 0
+unfolding midRight has-flag
 bare-ssn m head e f =
     let a = pick-last (eqb (m .flags / 2 % 2) 1) head _ e f in
     let b = pick-both (eqb (m .mid) 0) _ a in

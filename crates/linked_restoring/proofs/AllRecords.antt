@@ -25,7 +25,8 @@ use Rattle.handover_records.specs.Records.{messageAt}
 use Rattle.handover_records.specs.Positions.{messagePlace, recordAt, messagesFrom}
 use Rattle.image_rules.proofs.MessageLink.{payload-long}
 use Rattle.image_rules.proofs.RestoreLink.{more-rising, more-waiting, more-occupied}
-use Rattle.restoring.specs.Messages.{unsentOf, Restored, restored, messageRestored, messagesRestored, hasFlag}
+use Rattle.queue_model.specs.Reader.{has-flag}
+use Rattle.restoring.specs.Messages.{unsentOf, Restored, restored, messageRestored, messagesRestored}
 use Rattle.linked_restoring.proofs.Grows.{grows-amounts, grows-length, restore-snoc, tab-snoc}
 use Rattle.linked_restoring.proofs.OneRecord.{OneRecord, one-record, record-offset}
 
@@ -33,7 +34,7 @@ use Rattle.linked_restoring.proofs.OneRecord.{OneRecord, one-record, re
 pub record Within (bs : List ℕ) (start k : ℕ) : Type 0 where
   pub inside : messagePlace bs start k + 44 + messageAt bs (messagePlace bs start k) .length ≤ length bs
   pub some-bytes : 1 ≤ messageAt bs (messagePlace bs start k) .length
-  pub bare : hasFlag 2 (messageAt bs (messagePlace bs start k) .flags) ≡ false → messageAt bs (messagePlace bs start k) .ssn ≡ 0
+  pub bare : has-flag 2 (messageAt bs (messagePlace bs start k) .flags) ≡ false → messageAt bs (messagePlace bs start k) .ssn ≡ 0
 
 -- Streams that a queue with a store of this length can have.
 pub record Limits (ss : List Stream) (len : ℕ) : Type 0 where

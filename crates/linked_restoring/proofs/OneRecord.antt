@@ -9,7 +9,6 @@ use borrow.Author.Tests.{le-ltb}
 use lib.Dec.{T}
 use lib.Pow.{areBytes}
 use lib.ListN.{length, take, drop}
-use Rattle.queue_words.specs.Flags.{pick}
 use Rattle.queue_words.specs.Header.{optionsAt, totalsAt}
 use Rattle.queue_words.specs.Items.{FitsItem, midIn, ssnIn}
 use Rattle.queue_words.specs.Known.{idAt}
@@ -27,7 +26,6 @@ use Rattle.queue_model.proofs.Table.{sum-find}
 use Rattle.payload_store.specs.Words.{usedOf}
 use Rattle.stream_scheduler.specs.Link.{modelScheduler}
 use Rattle.queue_streams.specs.Known.{newStream, lookUp, inserted}
-use Rattle.queue_streams.specs.declared.known.Place.the-variants as place
 use Rattle.queue_state.specs.Model.{itemOf, optionsOf, pauseOf, streamOf, rowAt, streamIn, streamsIn, expiresOf, midOf}
 use Rattle.queue_state.specs.Good.{Shape}
 use Rattle.queue_state.proofs.Frames.{stream-is}
@@ -38,7 +36,7 @@ use Rattle.handover_records.specs.Records.{messageAt}
 use Rattle.handover_records.specs.Positions.{recordAt}
 use Rattle.handover_records.specs.declared.records.HandoverStreamMessage.{HandoverStreamMessage}
 use Rattle.image_rules.proofs.MessageLink.{payload-long, message-id-same}
-use Rattle.restoring.specs.Messages.{hasFlag, restoredItem, unsentOf, Restored, hung, hungIn, hungWith, recordRestored, messageRestored, restoredNumbers, restoredExpiry}
+use Rattle.restoring.specs.Messages.{restoredItem, unsentOf, Restored, hung, hungIn, hungWith, recordRestored, messageRestored, restoredNumbers, restoredExpiry}
 use Rattle.linked_restoring.proofs.Widths.{message-fits}
 use Rattle.linked_restoring.proofs.Grows.{restore-found, restore-new, new-length}
 use Rattle.linked_restoring.proofs.Hangs.{Hangs, hangs-in}
@@ -72,13 +70,13 @@ mid-fits-in false mid ssn h = omega arith
 abbrev pub payloadAt : List ℕ → ℕ → List ℕ
 payloadAt bs at = take (messageAt bs at .length) (drop (at + 44) bs)
 
-item-is : (bs : List ℕ) (at time : ℕ) → (hasFlag 2 (messageAt bs at .flags) ≡ false → messageAt bs at .ssn ≡ 0) → itemOf (restoredItem time (messageAt bs at)) (payloadAt bs at) ≡ restored-item time (recordAt bs at)
-unfolding restoredItem restored-item recordAt messageAt hasFlag has-flag
+item-is : (bs : List ℕ) (at time : ℕ) → (has-flag 2 (messageAt bs at .flags) ≡ false → messageAt bs at .ssn ≡ 0) → itemOf (restoredItem time (messageAt bs at)) (payloadAt bs at) ≡ restored-item time (recordAt bs at)
+unfolding restoredItem restored-item recordAt messageAt has-flag
 item-is bs at time f =
     let r : HandoverStreamMessage = messageAt bs at in
-    let x = expiry-is (hasFlag 4 (r .flags)) time (r .«ms_left») in
-    let y = mid-is (hasFlag 2 (r .flags)) (r .mid) (r .ssn) in
-    let z = ssn-is (hasFlag 2 (r .flags)) (r .mid) (r .ssn) f in
+    let x = expiry-is (has-flag 4 (r .flags)) time (r .«ms_left») in
+    let y = mid-is (has-flag 2 (r .flags)) (r .mid) (r .ssn) in
+    let z = ssn-is (has-flag 2 (r .flags)) (r .mid) (r .ssn) f in
     rw (x, y, z)
 
 pub record-offset : (bs : List ℕ) (at : ℕ) → (recordAt bs at) .offset ≡ messageAt bs at .offset
@@ -94,11 +92,11 @@ unfolding restoredItem
 item-fits bs at time b h =
     let f = message-fits bs at b h in
     record {
-      ssn-fits = ssn-fits-in (hasFlag 2 (messageAt bs at .flags)) (messageAt bs at .mid) (messageAt bs at .ssn) (f .1 .1 .1 .1 .1 .1 .0);
+      ssn-fits = ssn-fits-in (has-flag 2 (messageAt bs at .flags)) (messageAt bs at .mid) (messageAt bs at .ssn) (f .1 .1 .1 .1 .1 .1 .0);
       retransmissions-fits = f .1 .1 .1 .1 .1 .0;
       message-id-fits = f .1 .1 .1 .1 .1 .1 .1 .1 .1 .1 .0;
       ppid-fits = f .1 .1 .1 .0;
-      mid-fits = mid-fits-in (hasFlag 2 (messageAt bs at .flags)) (messageAt bs at .mid) (messageAt bs at .ssn) (f .1 .1 .1 .1 .1 .1 .1 .0);
+      mid-fits = mid-fits-in (has-flag 2 (messageAt bs at .flags)) (messageAt bs at .mid) (messageAt bs at .ssn) (f .1 .1 .1 .1 .1 .1 .1 .0);
       fsn-fits = f .1 .1 .1 .1 .1 .1 .1 .1 .0;
     }
 
@@ -126,7 +124,7 @@ opened : (x : Restored) (bs : List ℕ) (time : ℕ) → x .at + 44 + messageAt 
 unfolding messageRestored recordRestored hungWith
 opened x bs time h = rw (le-ltb (length bs) 44 (omega arith), le-ltb (length bs - 44) (x .at) (omega arith), le-ltb (length bs - 44 - x .at) (messageAt bs (x .at) .length) (omega arith))
 
-module _ (ws st : List ℕ) (g : Shape ws st) (bs : List ℕ) (bytes : T (areBytes bs)) (at time : ℕ) (inside : at + 44 + messageAt bs at .length ≤ length bs) (some-bytes : 1 ≤ messageAt bs at .length) (bare : hasFlag 2 (messageAt bs at .flags) ≡ false → messageAt bs at .ssn ≡ 0)
+module _ (ws st : List ℕ) (g : Shape ws st) (bs : List ℕ) (bytes : T (areBytes bs)) (at time : ℕ) (inside : at + 44 + messageAt bs at .length ≤ length bs) (some-bytes : 1 ≤ messageAt bs at .length) (bare : has-flag 2 (messageAt bs at .flags) ≡ false → messageAt bs at .ssn ≡ 0)
     (small : length st ≤ 2000000) (counted : totalsAt ws .total ≡ amounts (streamsIn ws st)) (below : totalsAt ws .total ≤ usedOf ws)
     (few : length (restore-message (optionsOf (optionsAt ws)) time (recordAt bs at) (streamsIn ws st)) ≤ 256)
     (room : usedOf ws + messageAt bs at .length ≤ length st) (place-left : totalsAt ws .waiting < 1024) where

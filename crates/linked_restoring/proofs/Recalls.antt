@@ -1,8 +1,8 @@
 -- Restoring, last: without interleaving the first stream whose first message is half-sent is remembered. Assumes nothing.
-use mathlib.Core.Path.{_≡_, refl, sym, ap, ap₂, _∙_, subst}
+use mathlib.Core.Path.{_≡_, refl, sym, ap, _∙_}
 use mathlib.Core.Bool.{Bool, true, false}
-use mathlib.Core.List.{List, []}
-use mathlib.Core.Option.{Option, none, some}
+use mathlib.Core.List.{List}
+use mathlib.Core.Option.{Option, some}
 use Prim.Native.Nat.{ℕ, zero, suc, _+_, _≤_, _<_}
 use native.Mathlib.Omega.{arith}
 use borrow.Author.Tests.{lt-ltb, le-ltb}
@@ -19,10 +19,9 @@ use Rattle.queue_words.specs.declared.header.SchedulerState.{SchedulerState}
 use Rattle.queue_words.specs.declared.streams.OutgoingStream.{OutgoingStream}
 use Rattle.queue_words.proofs.Laws
 use Rattle.queue_model.specs.Logic.{if_then_else_}
-use Rattle.queue_model.specs.Types.{Stream, Scheduler, Active}
-use Rattle.queue_model.specs.Types as plain
+use Rattle.queue_model.specs.Types.{Stream}
 use Rattle.queue_model.specs.Restore.{half-sent-first, first-half-sent, remember-half-sent}
-use Rattle.stream_scheduler.specs.Link.{GoodScheduler, Unlike, entryAt, tableOf, currentOf, modelScheduler}
+use Rattle.stream_scheduler.specs.Link.{GoodScheduler, entryAt, tableOf, currentOf, modelScheduler}
 use Rattle.stream_scheduler.proofs.Index.{table-same}
 use Rattle.stream_scheduler.proofs.Link.{make, model-of, entry-state, state-good, current-some, current-none}
 use Rattle.stream_scheduler.proofs.Frames.{untouched-state}

@@ -1,7 +1,7 @@
 -- Filling a packet: the ways out of the functions, over plain values: a callee's result is a variable, what it ensures a hypothesis. Assumes nothing.
 use mathlib.Core.Path.{_≡_, refl, sym, ap, ap₂, _∙_, subst}
 use mathlib.Core.Bool.{Bool, true, false}
-use mathlib.Core.List.{List, [], _∷_, _++_}
+use mathlib.Core.List.{List, _++_}
 use Prim.Native.Nat.{ℕ, zero, suc, _+_, _-_, _≤_, _<_, min}
 use native.Mathlib.Nat.{zero-add}
 use native.Mathlib.Omega.{arith}
@@ -29,12 +29,11 @@ use Rattle.big_endian.specs.Numbers.{wrote}
 use Rattle.chunks.specs.Layout.{headerSize, headerWidths, headerRow, flagsOf}
 use Rattle.chunks.specs.declared.chunk.ChunkKind.{ChunkKind}
 use Rattle.chunks.specs.declared.chunk.ChunkKind.the-variants as kind
-use Rattle.chunks.proofs.Sizes.{header-most, padding-most}
 use Rattle.chunks.proofs.WriteCases.{header-length}
 use Rattle.packets.specs.declared.filling.Filling.{Filling}
 use Rattle.packets.specs.declared.packet.Packet.{Packet}
 use Rattle.packets.specs.declared.packet.PacketFilled.{PacketFilled}
-use Rattle.packets.specs.Filling.{kindOf, packetCode, eventsCode, fillCode, chunkAround, packetAfter, around, oneFilled, FillingWith, fillingWith, reached, andOn, sizeAsked, fillOn, filledWith, finishedAnswer, finishedPacket, finished, fillPacket}
+use Rattle.packets.specs.Filling.{kindOf, packetCode, eventsCode, fillCode, chunkAround, packetAfter, around, oneFilled, fillingWith, reached, andOn, sizeAsked, fillOn, filledWith, finishedAnswer, finishedPacket, finished, fillPacket}
 use Rattle.packets.proofs.Within.{after-within}
 
 -- ------------------------------------------------------------------ sizes

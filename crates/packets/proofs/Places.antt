@@ -1,7 +1,7 @@
--- Laws of writing into a packet: nothing, what is there, a front part, one write before another; and a chunk around its payload. Assumes nothing.
-use mathlib.Core.Path.{_≡_, refl, sym, ap, ap₂, _∙_, subst}
-use mathlib.Core.List.{List, [], _++_, append-assoc}
-use Prim.Native.Nat.{ℕ, _+_, _-_, _≤_}
+-- Laws of writing into a packet: what is there, a front part, one write before another; and a chunk around its payload. Assumes nothing.
+use mathlib.Core.Path.{_≡_, sym, ap, ap₂, _∙_, subst}
+use mathlib.Core.List.{List, _++_, append-assoc}
+use Prim.Native.Nat.{ℕ, _+_, _≤_}
 use native.Mathlib.Omega.{arith}
 use lib.ListN.{length, take, drop, replicate, length-append, length-drop, length-replicate, take-append-drop}
 use lib.Seq.{length-take-le, take-append-le, drop-append-le, take-take, drop-drop, drop-at}
@@ -14,10 +14,6 @@ use Rattle.chunks.specs.Layout.{headerSize, headerWidths, headerRow, flagsOf, c
 use Rattle.chunks.specs.declared.chunk.ChunkKind.{ChunkKind}
 use Rattle.chunks.proofs.WriteCases.{header-length}
 use Rattle.packets.specs.Filling.{chunkAround}
-
-pub wrote-none : (b : List ℕ) (at : ℕ) → wrote b at [] ≡ b
-unfolding wrote
-wrote-none b at = let z : at + 0 ≡ at = omega arith in ap (λ (n : ℕ). take at b ++ drop n b) z ∙ take-append-drop at b
 
 -- the n bytes from `at` on
 part-length : (b : List ℕ) (at n : ℕ) → at + n ≤ length b → length (take n (drop at b)) ≡ n

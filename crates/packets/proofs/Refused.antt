@@ -1,10 +1,10 @@
 -- A refused filling leaves the queue, the list of events and the packet as they were, on any words; and its number. Assumes nothing.
-use mathlib.Core.Path.{_≡_, refl, sym, ap, _∙_, subst}
+use mathlib.Core.Path.{_≡_, refl, ap, _∙_}
 use mathlib.Core.Bool.{Bool, true, false}
 use mathlib.Core.List.{List}
 use Prim.Native.Nat.{ℕ, zero, suc, _+_, _≤_, _<_}
 use native.Mathlib.Omega.{arith}
-use borrow.Author.Tests.{eqb-true, eqb-false, ltb-true, ltb-false, le-ltb}
+use borrow.Author.Tests.{eqb-true, eqb-false, ltb-true, ltb-false}
 use lib.Dec.{eqb, ltb}
 use lib.ListN.{length, take, drop}
 use Rattle.queue_words.specs.Flags.{pick}
@@ -12,7 +12,7 @@ use Rattle.queue_words.specs.Header.{optionsAt, totalsAt}
 use Rattle.types.specs.Wrap.{wrap-suc}
 use Rattle.queue_model.specs.Chunks.{padded}
 use Rattle.queue_model.specs.Fill.{common-header-length, common-header}
-use Rattle.queue_sending.specs.Data.{ProducedWith, producedWith}
+use Rattle.queue_sending.specs.Data.{ProducedWith}
 use Rattle.queue_sending.specs.Produce.{producedAfter}
 use Rattle.queue_sending.specs.declared.data.Produced.{Produced}
 use Rattle.queue_sending.specs.declared.data.Produced.the-variants as produced
@@ -22,7 +22,6 @@ use Rattle.chunks.specs.Layout.{headerSize}
 use Rattle.chunks.specs.declared.chunk.ChunkKind.{ChunkKind}
 use Rattle.packets.specs.declared.filling.Filling.{Filling}
 use Rattle.packets.specs.declared.packet.Packet.{Packet}
-use Rattle.packets.specs.declared.packet.PacketFilled.{PacketFilled}
 use Rattle.packets.specs.declared.packet.PacketFilled.the-variants as packet
 use Rattle.packets.specs.Filling.{packetOf, kindOf, fillCode, packetAfter, oneFilled, FillingWith, fillingWith, reached, afterOne, andOn, sizeAsked, fillOn, FilledWith, filledWith, finishedAnswer, finishedPacket, finished, fillPacket}
 use Rattle.packets.proofs.Cases.{size-room, code-allows}

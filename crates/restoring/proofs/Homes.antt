@@ -10,7 +10,7 @@ use Rattle.queue_streams.specs.declared.known.Place.the-variants as place
 use Rattle.queue_streams.proofs.Exits.{look-row, look-new}
 use Rattle.queue_messages.specs.Add.{madeKnown}
 use Rattle.restoring.specs.declared.message_records.Home.{Home}
-use Rattle.restoring.specs.Messages.{Restored, restored, hung, homeIn, Homed, homed, homeOf, hungIn, hungWith}
+use Rattle.restoring.specs.Messages.{restored, hung, homeIn, Homed, homed, homeOf, hungIn, hungWith}
 
 module _ (ws st : List ℕ) (id : ℕ) (m : Item) (bs : List ℕ) (n at : ℕ) (h : Home) (vs : List ℕ) where
   -- no row of the table: the stream has no place

@@ -1,9 +1,10 @@
 -- Restoring, second: the messages from their records. Assumes nothing.
-use Prim.Native.Nat.{ℕ, zero, suc, _+_, _*_, _-_, _/_, _%_}
+use Prim.Native.Nat.{ℕ, zero, suc, _+_, _*_, _-_}
 use mathlib.Core.Bool.{Bool}
 use mathlib.Core.List.{List}
-use lib.Dec.{ltb, eqb}
+use lib.Dec.{ltb}
 use lib.ListN.{length, take, drop}
+use Rattle.queue_model.specs.Reader.{has-flag}
 use Rattle.queue_words.specs.Flags.{pick}
 use Rattle.queue_words.specs.Header.{optionsAt, totalsAt, putTotals}
 use Rattle.queue_words.specs.Items.{itemAt, putItem}
@@ -28,10 +29,6 @@ use Rattle.handover_records.specs.Records.{messageAt}
 use Rattle.handover_records.specs.declared.records.HandoverStreamMessage.{HandoverStreamMessage}
 use Rattle.restoring.specs.declared.message_records.Home.{Home}
 
--- "a sum of 1 unordered, 2 MID given, 4 lifetime": whether the flag of value n is in the sum f
-unfoldable pub hasFlag : ℕ → ℕ → Bool
-hasFlag n f = eqb ((f / n) % 2) 1
-
 -- its MID and SSN, where the MID is given; its expiry, at the time + milliseconds left
 abbrev pub restoredNumbers : Bool → ℕ → ℕ → Numbers
 restoredNumbers given mid ssn = pick given (Given (record { 0 = mid }) (record { 0 = ssn })) Missing
@@ -43,12 +40,12 @@ restoredExpiry expires time left = pick expires (At (time + left * 1000000)) Nev
 unfoldable pub restoredItem : ℕ → HandoverStreamMessage → Item
 restoredItem time r = record {
   «max_retransmissions» = r .«max_retransmissions»;
-  unordered = hasFlag 1 (r .flags);
+  unordered = has-flag 1 (r .flags);
   «message_id» = record { 0 = r .«message_id» };
   ppid = r .ppid;
-  numbers = restoredNumbers (hasFlag 2 (r .flags)) (r .mid) (r .ssn);
+  numbers = restoredNumbers (has-flag 2 (r .flags)) (r .mid) (r .ssn);
   fsn = record { 0 = r .fsn };
-  «expires_at» = restoredExpiry (hasFlag 4 (r .flags)) time (r .«ms_left»);
+  «expires_at» = restoredExpiry (has-flag 4 (r .flags)) time (r .«ms_left»);
   «lifecycle_id» = r .«lifecycle_id»;
   place = 0;
   length = 0;

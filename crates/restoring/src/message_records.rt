@@ -2,7 +2,8 @@
 ghost use mathlib.Core.Path.{_≡_};
 ghost use Prim.Native.Nat.{_+_, _≤_, _<_};
 ghost use lib.ListN.{length};
-ghost use Rattle.restoring.specs.Messages.{hasFlag, restoredNumbers, restoredExpiry, restoredItem, unsentOf, countedRestored, restored, hungAt, hung, homed, homeOf, hungWith, recordRestored, messageRestored, messagesRestored};
+ghost use Rattle.queue_model.specs.Reader.{has-flag};
+ghost use Rattle.restoring.specs.Messages.{restoredNumbers, restoredExpiry, restoredItem, unsentOf, countedRestored, restored, hungAt, hung, homed, homeOf, hungWith, recordRestored, messageRestored, messagesRestored};
 use handover_records::records::HandoverStreamMessage;
 use image_reader::read_message;
 use message_chains::amounts::plus;
@@ -35,7 +36,7 @@ use types::Ssn;
 // "a sum of 1 unordered, 2 MID given, 4 lifetime".
 fn has_flag(n: u8, flags: u8) -> bool
     requires { ⌜ 1 ≤ n ⌝ }
-    ensures { λ r. ⌜ r ≡ hasFlag n flags ⌝ }
+    ensures { λ r. ⌜ r ≡ has-flag n flags ⌝ }
 {
     flags / n % 2 == 1
 }

@@ -24,7 +24,7 @@ use Rattle.big_endian.specs.Numbers.{wrote}
 use Rattle.handover_records.specs.Records.{streamRow, messageRow}
 use Rattle.handover_records.specs.declared.records.HandoverStreamMessage.{HandoverStreamMessage}
 use Rattle.big_endian.proofs.Halves.{wrote-twice}
-use Rattle.big_endian.proofs.Rows.{row-length}
+use Rattle.big_endian.proofs.Rows.{row-length, wrote-none}
 use Rattle.handover_records.proofs.RecordRows.{message-width}
 use Rattle.saving.specs.declared.measuring.Tally.{Tally}
 use Rattle.saving.specs.Measure.{isPlain, tallyItem, tallyChain, tallyStream, tallyFrom}
@@ -33,7 +33,7 @@ use Rattle.saving.specs.Sound.{ItemOk, AllOk, placesAt}
 use Rattle.saving.specs.Bytes.{streamBytes, streamsFrom, itemBytes, chainBytes, messagesFrom}
 use Rattle.saving.proofs.Passing.{sizeAt}
 use Rattle.saving.proofs.Lengths.{payload-long, item-long, plain-long, stream-is, stream-long}
-use Rattle.saving.proofs.Rests.{Rest, rest-start, rest-step, rest-room, rest-end, room-by, step-by, end-by, wrote-none}
+use Rattle.saving.proofs.Rests.{Rest, rest-start, rest-step, rest-room, rest-end, room-by, step-by, end-by}
 
 -- ------------------------------------------------------------------ the pass: what it finds from the start on is what it finds from here on
 
@@ -197,7 +197,7 @@ module _ (ws b : List ℕ) (at i : ℕ) (k : Known) (s : OutgoingStream) (o : Op
   pub known-plain : p ≡ true → (b ≡ wrote b at (streamBytes ws i)) × (at ≡ at + length (streamBytes ws i))
   known-plain h =
       let e : streamBytes ws i ≡ [] = plain-long ws i (plain-is ∙ h) in
-      rw e (sym (wrote-none b at), omega arith)
+      rw e (wrote-none b at, omega arith)
 
   pub known-long : p ≡ false → length (streamBytes ws i) ≡ 14
   known-long h = stream-long ws i (plain-is ∙ h)

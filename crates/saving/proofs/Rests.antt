@@ -1,12 +1,12 @@
 -- Writing part by part: the rest written from here on is the whole written from the start on. Assumes nothing.
-use mathlib.Core.Path.{_≡_, refl, sym, ap, _∙_}
+use mathlib.Core.Path.{_≡_, refl, ap, _∙_}
 use mathlib.Core.List.{List, [], _++_}
 use Prim.Native.Nat.{ℕ, _+_, _≤_}
-use native.Mathlib.Nat.{add-zero}
 use native.Mathlib.Omega.{arith}
-use lib.ListN.{length, length-append, take-append-drop}
+use lib.ListN.{length, length-append}
 use Rattle.big_endian.specs.Numbers.{wrote}
 use Rattle.big_endian.proofs.Halves.{wrote-length, wrote-twice}
+use Rattle.big_endian.proofs.Rows.{wrote-none}
 
 -- b is the buffer so far, which was b₀; `rest` is to be written from `pos` on; `whole` was to be written from `at` on.
 pub record Rest (b₀ : List ℕ) (at : ℕ) (whole b : List ℕ) (pos : ℕ) (rest : List ℕ) : Type 0 where
@@ -36,12 +36,8 @@ rest-step b₀ at whole b pos part rest b1 pos1 r eb ep =
       fits = r .fits;
     }
 
-pub wrote-none : (b : List ℕ) (at : ℕ) → wrote b at [] ≡ b
-unfolding wrote
-wrote-none b at = rw (add-zero, take-append-drop)
-
 pub rest-end : (b₀ : List ℕ) (at : ℕ) (whole b : List ℕ) (pos : ℕ) → Rest b₀ at whole b pos [] → (b ≡ wrote b₀ at whole) × (pos ≡ at + length whole)
-rest-end b₀ at whole b pos r = (sym (wrote-none b pos) ∙ r .is, omega (arith, r .ends))
+rest-end b₀ at whole b pos r = (wrote-none b pos ∙ r .is, omega (arith, r .ends))
 
 -- the same where the rest is known to be a part and more, or nothing
 module _ (b₀ : List ℕ) (at : ℕ) (whole b : List ℕ) (pos : ℕ) (rest : List ℕ) (r : Rest b₀ at whole b pos rest) where

@@ -2,7 +2,6 @@
 ghost use mathlib.Core.Path.{_≡_};
 ghost use Prim.Native.Nat.{ℕ, _+_, _≤_, _<_};
 ghost use lib.ListN.{length};
-ghost use Rattle.queue_words.specs.Header.{totalsAt};
 ghost use Rattle.queue_state.specs.Model.{rowAt};
 ghost use Rattle.big_endian.specs.Numbers.{wrote};
 ghost use Rattle.saving.specs.Bytes.{streamBytes, streamsFrom};

@@ -1,3 +1,4 @@
+-- Written by scripts/auto-proof; again, after `rt goals host_handler`: scripts/auto-proof --again host_handler put_handler
 -- `host_handler::put_handler` meets its contract: each return is what its definition says, by what the calls ensure and the arms matched. Assumes nothing.
 use borrow.Author.Needs.{needs}
 use Rattle.host_handler.proofs.put_handler.Statement.{statement}

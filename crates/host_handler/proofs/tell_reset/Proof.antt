@@ -1,3 +1,4 @@
+-- Written by scripts/auto-proof; again, after `rt goals host_handler`: scripts/auto-proof --again host_handler tell_reset
 -- `host_handler::tell_reset` meets its contract: each return is what its definition says, by what the calls ensure and the tests taken. Assumes nothing.
 use borrow.Author.Needs.{needs}
 use mathlib.Core.Path.{refl}

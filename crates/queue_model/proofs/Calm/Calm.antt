@@ -47,7 +47,7 @@ pub record GoodStream (s : Stream) : Type 0 where
 abbrev pub AllGood : List Stream → Type 0
 AllGood ss = Every GoodStream ss
 
-pub record Good (ss : List Stream) : Type 0 where
+pub record GoodStreams (ss : List Stream) : Type 0 where
   pub rising : Rising stream-key ss
   pub all-good : AllGood ss
 
@@ -166,7 +166,7 @@ reschedule-put o il c s ss r g = elim (split (s .items)) [
 
 -- ---- goodness
 
-pub good-put : (s : Stream) (ss : List Stream) → GoodStream s → Good ss → Good (put-stream s ss)
+pub good-put : (s : Stream) (ss : List Stream) → GoodStream s → GoodStreams ss → GoodStreams (put-stream s ss)
 good-put s ss g h = record { rising = rising-put stream-key s ss (h .rising); all-good = every-put stream-key GoodStream s ss g (h .all-good) }
 
 -- ---- discarding a head of a calm queue
@@ -180,7 +180,7 @@ pub record HeadAt (ss : List Stream) (k : ℕ) (s : Stream) (i : Item) (is : Lis
   pub found : find-stream k ss ≡ some s
   pub items : s .items ≡ i ∷ is
 
-module _ (ss : List Stream) (k : ℕ) (s : Stream) (i : Item) (is : List Item) (g : Good ss) (h : HeadAt ss k s i is) where
+module _ (ss : List Stream) (k : ℕ) (s : Stream) (i : Item) (is : List Item) (g : GoodStreams ss) (h : HeadAt ss k s i is) where
   pub head-good : GoodStream s
   head-good = every-find stream-key GoodStream k s ss (g .all-good) (h .found)
 

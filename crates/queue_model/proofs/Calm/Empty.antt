@@ -23,7 +23,7 @@ use Rattle.queue_model.proofs.Table.{find-here, find-there, find-put-sa
 use Rattle.queue_model.proofs.Checks.{checked-but}
 use Rattle.queue_model.proofs.Streams.{at-found, at-new, at-id, unsent-bytes, sum-put-at}
 use Rattle.queue_model.proofs.Calm.Entries.{actives, actives-none, actives-some}
-use Rattle.queue_model.proofs.Calm.Calm.{still-some, GoodItem, GoodItems, GoodStream, AllGood, Good, good-put, calm-scheduler, calm, reschedule-put, HeadAt}
+use Rattle.queue_model.proofs.Calm.Calm.{still-some, GoodItem, GoodItems, GoodStream, AllGood, GoodStreams, good-put, calm-scheduler, calm, reschedule-put, HeadAt}
 use Rattle.queue_model.proofs.Calm.Produce.{whole, whole-head}
 use Rattle.queue_model.proofs.Calm.Solo.{Solo, solo-list, solo-choice}
 use Rattle.queue_model.specs.Calls
@@ -95,7 +95,7 @@ at-good o ss k h g = elim (look-up stream-key k ss) [
   | missing e ↦ subst GoodStream (sym (at-new o ss k e)) (record { id-fits = h; opened = refl; counted = refl; good-items = tt; ordered-fits = omega arith; unordered-fits = omega arith })
 ]
 
-module _ (o : Options) (il : Bool) (c : Option ℕ) (n : ℕ) (ss : List Stream) (g : Good ss) (room : 1 ≤ o .store-length) (n-fits : n < 2 ^ 32) (a : actives (o .payload-limit) il ss ≡ []) where
+module _ (o : Options) (il : Bool) (c : Option ℕ) (n : ℕ) (ss : List Stream) (g : GoodStreams ss) (room : 1 ≤ o .store-length) (n-fits : n < 2 ^ 32) (a : actives (o .payload-limit) il ss ≡ []) where
   pub at-none : (k : ℕ) → (at o ss k) .items ≡ []
   at-none k = elim (look-up stream-key k ss) [
     | found s e ↦ ap (λ (x : Stream). x .items) (at-found o ss k s e) ∙ no-items (o .payload-limit) il ss a k s e
@@ -176,7 +176,7 @@ module _ (o : Options) (il : Bool) (c : Option ℕ) (n : ℕ) (ss : List Stream)
   tiny-sent u k h =
       let w : Stream = with-tiny o u n ss k in
       let xs : List Stream = put-stream (with-tiny o u n ss k) ss in
-      let good : Good xs = good-put w ss (with-tiny-good u k h) g in
+      let good : GoodStreams xs = good-put w ss (with-tiny-good u k h) g in
       let hd : HeadAt xs (w .id) w (tiny-item u n k) [] = subst (λ (j : ℕ). HeadAt xs j w (tiny-item u n k) []) (sym (at-id o ss k)) (tiny-head u k) in
       let one : Solo (w .id) xs = subst (λ (j : ℕ). Solo j xs) (sym (at-id o ss k)) (tiny-solo u k h) in
       ap (λ (x : Step). x .outcome .answer) (whole-head o il c (wrap-suc 32 n) xs w (tiny-item u n k) [] good hd (solo-choice o il c (wrap-suc 32 n) xs w (tiny-item u n k) [] good hd one))
@@ -245,7 +245,7 @@ counters-same c d x y z =
     ap₂ f x y ∙ ap g z
 
 module _ (o : Options) (il : Bool) (room : 1 ≤ o .store-length) (store : o .store-length ≤ 2000000)
-    (c₁ c₂ : Option ℕ) (n₁ n₂ : ℕ) (ss₁ ss₂ : List Stream) (g₁ : Good ss₁) (g₂ : Good ss₂) (f₁ : n₁ < 2 ^ 32) (f₂ : n₂ < 2 ^ 32)
+    (c₁ c₂ : Option ℕ) (n₁ n₂ : ℕ) (ss₁ ss₂ : List Stream) (g₁ : GoodStreams ss₁) (g₂ : GoodStreams ss₂) (f₁ : n₁ < 2 ^ 32) (f₂ : n₂ < 2 ^ 32)
     (a₁ : actives (o .payload-limit) il ss₁ ≡ []) (a₂ : actives (o .payload-limit) il ss₂ ≡ [])
     (ind : Indistinguishable (calm o il c₁ n₁ ss₁) (calm o il c₂ n₂ ss₂)) where
   tests-same : (k : ℕ) → k < 2 ^ 16 → too-many (calm o il c₁ n₁ ss₁) k ≡ too-many (calm o il c₂ n₂ ss₂) k

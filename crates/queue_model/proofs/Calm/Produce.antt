@@ -17,7 +17,7 @@ use Rattle.queue_model.proofs.Tests.{eqb-true, ltb-false}
 use Rattle.queue_model.proofs.Table.{find-here, find-there, find-nil, found-above, After, Rising, Every, every-find}
 use Rattle.queue_model.proofs.Checks.{checked-past}
 use Rattle.queue_model.proofs.Calm.Entries.{entry, entries, actives, entry-id}
-use Rattle.queue_model.proofs.Calm.Calm.{Good, calm-scheduler, calm, HeadAt, head-items, not-short, head-of-found}
+use Rattle.queue_model.proofs.Calm.Calm.{GoodStreams, calm-scheduler, calm, HeadAt, head-items, not-short, head-of-found}
 
 -- The choice among entries, with a remembered stream or none.
 unfoldable pub choice : Option ℕ → List Active → Option Active
@@ -126,7 +126,7 @@ module _ (o : Options) (il : Bool) (c : Option ℕ) (n : ℕ) (ss : List Stream)
   whole-nothing e =
       whole-turn ∙ ap (λ (x : Option Step). Option·getD x (refuse (calm o il c n ss) 16)) (ap turn (look-calm ∙ ap (look-for 0 (calm o il c n ss)) e) ∙ nothing-there)
 
-  module _ (s : Stream) (i : Item) (is : List Item) (g : Good ss) (h : HeadAt ss (s .id) s i is) where
+  module _ (s : Stream) (i : Item) (is : List Item) (g : GoodStreams ss) (h : HeadAt ss (s .id) s i is) where
     -- The fragment of the head, whole.
     abbrev pub head-fragment : Fragment
     head-fragment = make-fragment s ((numbered (s .counters) i) .item) (remaining i)

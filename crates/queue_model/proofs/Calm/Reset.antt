@@ -19,7 +19,7 @@ use Rattle.queue_model.proofs.Scheduler.{each-nil, each-cons}
 use Rattle.queue_model.proofs.Streams.{unsent-bytes}
 use Rattle.queue_model.proofs.PutBack.{put-back-fits, no-overflow, reset-amounts}
 use Rattle.queue_model.proofs.Calm.Entries.{entries, actives, actives-none}
-use Rattle.queue_model.proofs.Calm.Calm.{still-some, GoodItem, GoodItems, GoodStream, AllGood, Good, calm-scheduler, calm, same-active, reschedule-put, HeadAt}
+use Rattle.queue_model.proofs.Calm.Calm.{still-some, GoodItem, GoodItems, GoodStream, AllGood, GoodStreams, calm-scheduler, calm, same-active, reschedule-put, HeadAt}
 use Rattle.queue_model.proofs.Calm.Solo.{Solo}
 
 -- ---- rescheduling the streams of a list that have messages
@@ -123,7 +123,7 @@ module _ (strict : Bool) where
   all-reset [] g = tt
   all-reset (s ∷ ss) g = (good-reset-stream s (g .0), all-reset ss (g .1))
 
-  pub good-reset : (ss : List Stream) → Good ss → Good (map (reset-stream strict) ss)
+  pub good-reset : (ss : List Stream) → GoodStreams ss → GoodStreams (map (reset-stream strict) ss)
   good-reset ss g = record { rising = rising-reset ss (g .rising); all-good = all-reset ss (g .all-good) }
 
   pub reset-id : (s : Stream) → s .id ≡ (reset-stream strict s) .id
@@ -177,7 +177,7 @@ module _ (strict : Bool) where
 
 -- ---- the call
 
-pub reset-calm : (o : Options) (il : Bool) (c : Option ℕ) (n : ℕ) (ss : List Stream) → Good ss → occupied ss ≤ 2000000 → reset (calm o il c n ss) ≡ reply done [] (calm o il c n (map (reset-stream (o .strict-restart)) ss))
+pub reset-calm : (o : Options) (il : Bool) (c : Option ℕ) (n : ℕ) (ss : List Stream) → GoodStreams ss → occupied ss ≤ 2000000 → reset (calm o il c n ss) ≡ reply done [] (calm o il c n (map (reset-stream (o .strict-restart)) ss))
 unfolding reset calm
 reset-calm o il c n ss g h =
     let strict : Bool = o .strict-restart in

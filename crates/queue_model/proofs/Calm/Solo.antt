@@ -16,7 +16,7 @@ use Rattle.queue_model.proofs.Tests.{leb-true, eqb-true, less, same, mo
 use Rattle.queue_model.proofs.Table.{find-here, find-there, find-nil, own, other, is-own, found-above, put-later, put-here, put-before, put-end, After, Rising, after-down, sum-put-old, without-here, without-nil, put-found}
 use Rattle.queue_model.proofs.Scheduler.{reschedule-of}
 use Rattle.queue_model.proofs.Calm.Entries.{entry, entries, actives, actives-none}
-use Rattle.queue_model.proofs.Calm.Calm.{Good, calm-scheduler, calm, reschedule-put, HeadAt, head-good, head-items, head-amount, head-total, same-active, still-none}
+use Rattle.queue_model.proofs.Calm.Calm.{GoodStreams, calm-scheduler, calm, reschedule-put, HeadAt, head-good, head-items, head-amount, head-total, same-active, still-none}
 use Rattle.queue_model.proofs.Calm.Produce.{choice}
 use Rattle.queue_model.proofs.Streams.{head-size-cons}
 
@@ -102,7 +102,7 @@ choice-one (some k) a = elim (is-own active-key a k) [
   | other n ↦ ap (λ (x : Option Active). or-else x (some a)) (find-there active-key k a [] n ∙ find-nil active-key k)
 ]
 
-module _ (o : Options) (il : Bool) (c : Option ℕ) (n : ℕ) (ss : List Stream) (s : Stream) (i : Item) (is : List Item) (g : Good ss) (h : HeadAt ss (s .id) s i is) (one : Solo (s .id) ss) where
+module _ (o : Options) (il : Bool) (c : Option ℕ) (n : ℕ) (ss : List Stream) (s : Stream) (i : Item) (is : List Item) (g : GoodStreams ss) (h : HeadAt ss (s .id) s i is) (one : Solo (s .id) ss) where
   one-active : actives (o .payload-limit) il ss ≡ entry (o .payload-limit) il s ∷ []
   one-active =
       ap (actives (o .payload-limit) il) (sym (put-found stream-key s ss (g .rising) (h .found))) ∙ solo-actives (o .payload-limit) il s ss (g .rising) one

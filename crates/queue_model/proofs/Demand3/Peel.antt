@@ -17,7 +17,7 @@ use Rattle.queue_model.specs.Demands.{Typed, Indistinguishable}
 use Rattle.queue_model.proofs.Tests.{less, same, more, tri}
 use Rattle.queue_model.proofs.Table.{find-here, find-there, find-put-same, find-put-other, found-above, Rising, sum-put-old, empty, first, split, find-key, found, missing, look-up, Found, every-find}
 use Rattle.queue_model.proofs.Streams.{at-found, at-new}
-use Rattle.queue_model.proofs.Calm.Calm.{GoodStream, GoodItem, Good, good-put, calm, still, HeadAt, behead, head-good, head-items, head-amount, head-id, behead-good, behead-waiting, discard-calm}
+use Rattle.queue_model.proofs.Calm.Calm.{GoodStream, GoodItem, GoodStreams, good-put, calm, still, HeadAt, behead, head-good, head-items, head-amount, head-id, behead-good, behead-waiting, discard-calm}
 use Rattle.queue_model.proofs.Calm.Produce.{whole, whole-nothing, whole-head, Choice, none-waits, one-waits, choose}
 use Rattle.queue_model.proofs.Calm.Solo.{Solo, solo-list, solo-choice, sent, sent-waiting, handed-out-one}
 use Rattle.queue_model.proofs.Calm.Reset.{reset-calm, good-reset, head-reset, solo-reset, reset-id}
@@ -73,7 +73,7 @@ pub record Alike (o : Options) (n₁ n₂ : ℕ) (ss₁ ss₂ : List Stream) : T
 
 -- A state of the induction: good streams that fit, and a next message id.
 pub record State (n : ℕ) (ss : List Stream) : Type 0 where
-  pub good : Good ss
+  pub good : GoodStreams ss
   pub next-fits : n < 2 ^ 32
   pub fits : occupied ss ≤ 2000000
 
@@ -103,7 +103,7 @@ step-reset q = refl
 
 module _ (o : Options) (il : Bool) (room : 1 ≤ o .store-length) (store : o .store-length ≤ 2000000) where
   -- One head discarded on both sides.
-  discarded : (c₁ c₂ : Option ℕ) (n₁ n₂ k : ℕ) (ss₁ ss₂ : List Stream) (s₁ s₂ : Stream) (i₁ i₂ : Item) (is₁ is₂ : List Item) → Good ss₁ → Good ss₂ → HeadAt ss₁ k s₁ i₁ is₁ → HeadAt ss₂ k s₂ i₂ is₂
+  discarded : (c₁ c₂ : Option ℕ) (n₁ n₂ k : ℕ) (ss₁ ss₂ : List Stream) (s₁ s₂ : Stream) (i₁ i₂ : Item) (is₁ is₂ : List Item) → GoodStreams ss₁ → GoodStreams ss₂ → HeadAt ss₁ k s₁ i₁ is₁ → HeadAt ss₂ k s₂ i₂ is₂
       → i₁ .message-id ≡ i₂ .message-id → Indistinguishable (calm o il c₁ n₁ ss₁) (calm o il c₂ n₂ ss₂)
       → Indistinguishable (calm o il (still (s₁ .id) is₁ c₁) n₁ (put-stream (behead s₁ i₁ is₁) ss₁)) (calm o il (still (s₂ .id) is₂ c₂) n₂ (put-stream (behead s₂ i₂ is₂) ss₂))
   discarded c₁ c₂ n₁ n₂ k ss₁ ss₂ s₁ s₂ i₁ i₂ is₁ is₂ g₁ g₂ h₁ h₂ e ind =
@@ -127,7 +127,7 @@ module _ (o : Options) (il : Bool) (room : 1 ≤ o .store-length) (store : o .st
       record { good = good-put (behead s i is) ss (behead-good ss k s i is (st .good) h) (st .good); next-fits = st .next-fits; fits = omega arith }
 
   -- The whole next fragment on both sides.
-  both-sent : (c₁ c₂ : Option ℕ) (n₁ n₂ : ℕ) (ss₁ ss₂ : List Stream) (s₁ s₂ : Stream) (i₁ i₂ : Item) (is₁ is₂ : List Item) → Good ss₁ → Good ss₂
+  both-sent : (c₁ c₂ : Option ℕ) (n₁ n₂ : ℕ) (ss₁ ss₂ : List Stream) (s₁ s₂ : Stream) (i₁ i₂ : Item) (is₁ is₂ : List Item) → GoodStreams ss₁ → GoodStreams ss₂
       → (h₁ : (whole o (calm o il c₁ n₁ ss₁)) .outcome .answer ≡ fragment (whole-fragment s₁ i₁)) → (h₂ : (whole o (calm o il c₂ n₂ ss₂)) .outcome .answer ≡ fragment (whole-fragment s₂ i₂))
       → Indistinguishable (calm o il c₁ n₁ ss₁) (calm o il c₂ n₂ ss₂) → whole-fragment s₁ i₁ ≡ whole-fragment s₂ i₂
   both-sent c₁ c₂ n₁ n₂ ss₁ ss₂ s₁ s₂ i₁ i₂ is₁ is₂ g₁ g₂ h₁ h₂ ind =
@@ -146,7 +146,7 @@ module _ (o : Options) (il : Bool) (room : 1 ≤ o .store-length) (store : o .st
       (subst (Indistinguishable ((step reset (calm o il c₁ n₁ ss₁)) .next)) x₂ (onward (calm o il c₁ n₁ ss₁) (calm o il c₂ n₂ ss₂) ind reset tt))
 
   -- One stream alone has messages, the same on both sides: its whole next fragment.
-  module _ (c : Option ℕ) (n : ℕ) (ss : List Stream) (s : Stream) (i : Item) (is : List Item) (g : Good ss) (h : HeadAt ss (s .id) s i is) (one : Solo (s .id) ss) where
+  module _ (c : Option ℕ) (n : ℕ) (ss : List Stream) (s : Stream) (i : Item) (is : List Item) (g : GoodStreams ss) (h : HeadAt ss (s .id) s i is) (one : Solo (s .id) ss) where
     solo-whole : (whole o (calm o il c n ss)) .outcome .answer ≡ fragment (whole-fragment s i)
     solo-whole = ap (λ (x : Step). x .outcome .answer) (whole-head o il c n ss s i is g h (solo-choice o il c n ss s i is g h one))
 

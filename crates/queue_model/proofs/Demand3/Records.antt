@@ -13,7 +13,7 @@ use Rattle.queue_model.specs.Image.{StreamRecord, MessageRecord, plain, 
 use Rattle.queue_model.proofs.Tests.{less, same, more, tri}
 use Rattle.queue_model.proofs.Table.{find-here, find-there, find-after, After, Rising, after-down}
 use Rattle.queue_model.proofs.Streams.{at-found, at-new, at-id}
-use Rattle.queue_model.proofs.Calm.Calm.{AllGood, Good}
+use Rattle.queue_model.proofs.Calm.Calm.{AllGood, GoodStreams}
 use Rattle.queue_model.proofs.Demand3.Restored.{plain-new, same-record}
 
 module _ {A : Type 0} (o : Options) (f : Stream → List A) (nothing : (k : ℕ) → f (new-stream o k) ≡ []) where
@@ -112,7 +112,7 @@ unfolding message-records item-records
 message-records-flat o now [] = refl
 message-records-flat o now (s ∷ ss) = ap (λ (l : List MessageRecord). map (message-record now (s .id)) (s .items) ++ l) (message-records-flat o now ss)
 
-module _ (o : Options) (now : ℕ) (xs ys : List Stream) (g₁ : Good xs) (g₂ : Good ys)
+module _ (o : Options) (now : ℕ) (xs ys : List Stream) (g₁ : GoodStreams xs) (g₂ : GoodStreams ys)
     (counters : (k : ℕ) → k < 2 ^ 16 → (at o xs k) .counters ≡ (at o ys k) .counters) (items : (k : ℕ) → k < 2 ^ 16 → (at o xs k) .items ≡ (at o ys k) .items)
     (priorities : (k : ℕ) → k < 2 ^ 16 → (at o xs k) .priority ≡ (at o ys k) .priority) where
   pub same-stream-records : stream-records (o .default-priority) xs ≡ stream-records (o .default-priority) ys

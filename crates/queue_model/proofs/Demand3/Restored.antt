@@ -19,7 +19,7 @@ use Rattle.queue_model.proofs.Tests.{less, same, more, tri, ltb-false, 
 use Rattle.queue_model.proofs.Table.{find-there, find-here, find-after, put-later, put-here, put-before, put-end, After, Rising, after-down}
 use Rattle.queue_model.proofs.Streams.{at-found, at-new, at-id, unsent-snoc}
 use Rattle.queue_model.proofs.Image.ByteRows.{and-l, and-r}
-use Rattle.queue_model.proofs.Calm.Calm.{GoodItem, GoodItems, GoodStream, Good, good-put, calm-scheduler, calm}
+use Rattle.queue_model.proofs.Calm.Calm.{GoodItem, GoodItems, GoodStream, GoodStreams, good-put, calm-scheduler, calm}
 use Rattle.queue_model.proofs.Calm.Reset.{each-new, all-items}
 use Rattle.queue_model.proofs.Calm.Empty.{at-good}
 
@@ -271,7 +271,7 @@ unfolding restore-messages
 restore-messages-nil o now ss = refl
 
 record Placed (o : Options) (now k : ℕ) (rs : List MessageRecord) (ss xs : List Stream) : Type 0 where
-  placed-good : Good xs
+  placed-good : GoodStreams xs
   placed-messages : message-records now xs ≡ message-records now ss ++ rs
   placed-streams : stream-records (o .default-priority) xs ≡ stream-records (o .default-priority) ss
 
@@ -303,7 +303,7 @@ unfolding messages-right
 right-cons r rs t = (rules true r (and-l (message-right true r) (messages-right-after (r .id) rs) t), and-r (message-right true r) (messages-right-after (r .id) rs) t)
 
 module _ (o : Options) (now : ℕ) (late : 1 ≤ now) where
-  place-one : (k : ℕ) (r : MessageRecord) (ss : List Stream) → Good ss → Quiet k ss → k ≤ r .id → Rules r → Fits message-widths (message-row r)
+  place-one : (k : ℕ) (r : MessageRecord) (ss : List Stream) → GoodStreams ss → Quiet k ss → k ≤ r .id → Rules r → Fits message-widths (message-row r)
       → Placed o now k (r ∷ []) ss (restore-message o now r ss) × Quiet (r .id) (restore-message o now r ss)
   place-one k r ss g q h u f =
       let w : Stream = with-restored o now r ss in
@@ -325,7 +325,7 @@ module _ (o : Options) (now : ℕ) (late : 1 ≤ now) where
         subst (Quiet (r .id)) (sym (restore-message-of o now r ss)) (quiet-put (r .id) w ss (omega arith) (quiet-up k (r .id) ss h q)),
       )
 
-  place-after : (k : ℕ) (rs : List MessageRecord) (ss : List Stream) → Good ss → Quiet k ss → T (messages-right-after k rs) → MessagesFit rs → Placed o now k rs ss (restore-messages o now rs ss)
+  place-after : (k : ℕ) (rs : List MessageRecord) (ss : List Stream) → GoodStreams ss → Quiet k ss → T (messages-right-after k rs) → MessagesFit rs → Placed o now k rs ss (restore-messages o now rs ss)
   place-after k [] ss g q t f = subst (Placed o now k [] ss) (sym (restore-messages-nil o now ss)) (record { placed-good = g; placed-messages = sym (append-nil (message-records now ss)); placed-streams = refl })
   place-after k (r ∷ rs) ss g q t f =
       let w = right-after-cons k r rs t in
@@ -334,7 +334,7 @@ module _ (o : Options) (now : ℕ) (late : 1 ≤ now) where
       (place-chain o now k (r .id) r rs ss (restore-message o now r ss) (restore-messages o now rs (restore-message o now r ss)) (p .0)
       (place-after (r .id) rs (restore-message o now r ss) (p .0 .placed-good) (p .1) (w .1 .1) (f .1)))
 
-  place-all : (rs : List MessageRecord) (ss : List Stream) → Good ss → Quiet 0 ss → T (messages-right rs) → MessagesFit rs → Placed o now 0 rs ss (restore-messages o now rs ss)
+  place-all : (rs : List MessageRecord) (ss : List Stream) → GoodStreams ss → Quiet 0 ss → T (messages-right rs) → MessagesFit rs → Placed o now 0 rs ss (restore-messages o now rs ss)
   place-all [] ss g q t f = subst (Placed o now 0 [] ss) (sym (restore-messages-nil o now ss)) (record { placed-good = g; placed-messages = sym (append-nil (message-records now ss)); placed-streams = refl })
   place-all (r ∷ rs) ss g q t f =
       let w = right-cons r rs t in
@@ -354,7 +354,7 @@ restored-after o k d r (r′ ∷ rs) h t =
     (h, restored-after o k d r′ rs (omega arith) (and-r (a && b) (streams-right d (r′ ∷ rs)) t))
 
 pub record Bases (o : Options) (now : ℕ) (rs : List StreamRecord) (xs : List Stream) : Type 0 where
-  pub bases-good : Good xs
+  pub bases-good : GoodStreams xs
   pub bases-quiet : Quiet 0 xs
   pub bases-messages : message-records now xs ≡ []
   pub bases-streams : stream-records (o .default-priority) xs ≡ rs
@@ -454,7 +454,7 @@ module _ (o : Options) (il : Bool) (now : ℕ) (late : 1 ≤ now) (h : Handover)
   unfolding restored-streams
   placed = place-all o now late (h .messages) (restore-streams o (h .streams)) (base .bases-good) (base .bases-quiet) messages-ok mf
 
-  pub restored-good : Good (restored-streams o now h)
+  pub restored-good : GoodStreams (restored-streams o now h)
   restored-good = placed .placed-good
 
   pub restored-calm : restored now h (blank o il) ≡ calm o il (recalled il (restored-streams o now h)) (h .next-message-id) (restored-streams o now h)

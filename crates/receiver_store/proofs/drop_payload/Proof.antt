@@ -1,3 +1,4 @@
+-- Written by scripts/auto-proof; again, after `rt goals receiver_store`: scripts/auto-proof --again receiver_store drop_payload
 -- `receiver_store::drop_payload` meets its contract: each way out is a case of `dropPayload`. Assumes nothing.
 use borrow.Author.Needs.{needs}
 use Rattle.receiver_store.proofs.Exits.{drop-refused, drop-held, drop-done}

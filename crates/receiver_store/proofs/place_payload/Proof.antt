@@ -1,3 +1,4 @@
+-- Written by scripts/auto-proof; again, after `rt goals receiver_store`: scripts/auto-proof --again receiver_store place_payload
 -- `receiver_store::place_payload` meets its contract: the five stores are those of `placed`. Assumes nothing.
 use borrow.Author.Needs.{needs}
 use native.Mathlib.Omega.{arith}

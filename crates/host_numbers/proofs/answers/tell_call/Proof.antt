@@ -1,3 +1,4 @@
+-- Written by scripts/auto-proof; again, after `rt goals host_numbers`: scripts/auto-proof --again host_numbers answers/tell_call
 -- `host_numbers::answers::tell_call` meets its contract: each return is what its definition says, by what the calls ensure and the tests taken. Assumes nothing.
 use borrow.Author.Needs.{needs}
 use mathlib.Core.Path.{refl}

@@ -1,3 +1,4 @@
+-- Written by scripts/auto-proof; again, after `rt goals host_numbers`: scripts/auto-proof --again host_numbers message/lifetime_of
 -- `host_numbers::message::lifetime_of` meets its contract: each return is what its definition says, by what the calls ensure and the tests taken. Assumes nothing.
 use borrow.Author.Needs.{needs}
 use Rattle.host_numbers.proofs.message.lifetime_of.Statement.{statement}

@@ -1,3 +1,4 @@
+-- Written by scripts/auto-proof; again, after `rt goals host_numbers`: scripts/auto-proof --again host_numbers message/message_of
 -- `host_numbers::message::message_of` meets its contract, by what the calls ensure. Assumes nothing.
 use borrow.Author.Needs.{needs}
 use Rattle.host_numbers.proofs.message.message_of.Statement.{statement}

@@ -1,5 +1,4 @@
 -- `packets::parts::events_code` meets its contract: each return is what its definition says, by the tests taken. Assumes nothing.
-use borrow.Author.Needs.{needs}
 use borrow.Author.Tests.{le-ltb, lt-ltb}
 use Rattle.packets.proofs.parts.events_code.Statement.{statement}
 use Rattle.packets.proofs.parts.events_code.Tie as tie

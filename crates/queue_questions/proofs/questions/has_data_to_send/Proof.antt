@@ -1,3 +1,4 @@
+-- Written by scripts/auto-proof; again, after `rt goals queue_questions`: scripts/auto-proof --again queue_questions questions/has_data_to_send
 -- `queue_questions::questions::has_data_to_send` meets its contract: each return is a case of `dataOf` (proofs/Exits.antt). Assumes nothing.
 use borrow.Author.Needs.{needs}
 use Rattle.queue_questions.proofs.Exits.{data-waits, data-none, data-broken}

@@ -1,3 +1,4 @@
+-- Written by scripts/auto-proof; again, after `rt goals receiver_store`: scripts/auto-proof --again receiver_store packing/goal_of
 -- `receiver_store::packing::goal_of` meets its contract. Assumes nothing.
 use borrow.Author.Needs.{needs}
 use Rattle.receiver_store.specs.Packing.{goalOf}

@@ -1,3 +1,4 @@
+-- Written by scripts/auto-proof; again, after `rt goals receiver_store`: scripts/auto-proof --again receiver_store packing/move_together
 -- `receiver_store::packing::move_together` meets its contract. Assumes nothing.
 use borrow.Author.Needs.{needs}
 use Rattle.receiver_store.proofs.Exits.{rows-same-length, all-moved}

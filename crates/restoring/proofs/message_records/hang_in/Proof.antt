@@ -1,3 +1,4 @@
+-- Written by scripts/auto-proof; again, after `rt goals restoring`: scripts/auto-proof --again restoring message_records/hang_in
 -- `restoring::message_records::hang_in` meets its contract: a message without a home is passed over, any other hung there (proofs/Homes). Assumes nothing.
 use borrow.Author.Needs.{needs}
 use Rattle.restoring.proofs.Homes.{home-none, home-hung}

@@ -3,12 +3,12 @@
 -- Assumes nothing.
 use borrow.Author.Needs.{needs}
 use mathlib.Core.Path.{refl}
-use Rattle.restoring.specs.Messages.{hasFlag}
+use Rattle.queue_model.specs.Reader.{has-flag}
 use Rattle.restoring.proofs.message_records.has_flag.Statement.{statement}
 use Rattle.restoring.proofs.message_records.has_flag.Tie as tie
 
 returns : tie.Need-returns
-unfolding hasFlag
+unfolding has-flag
 returns c = refl
 
 pub has-flag-spec : {M : Type 1} → statement M

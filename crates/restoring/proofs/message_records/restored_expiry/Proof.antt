@@ -1,3 +1,4 @@
+-- Written by scripts/auto-proof; again, after `rt goals restoring`: scripts/auto-proof --again restoring message_records/restored_expiry
 -- `restoring::message_records::restored_expiry` meets its contract: each return is a case of `restoredExpiry`. Assumes nothing.
 use borrow.Author.Needs.{needs}
 use Rattle.restoring.proofs.message_records.restored_expiry.Statement.{statement}

@@ -1,5 +1,5 @@
+-- Written by scripts/auto-proof; again, after `rt goals restoring`: scripts/auto-proof --again restoring message_records/restored_numbers
 -- `restoring::message_records::restored_numbers` meets its contract: each return is a case of `restoredNumbers`. Assumes nothing.
-use borrow.Author.Needs.{needs}
 use Rattle.restoring.proofs.message_records.restored_numbers.Statement.{statement}
 use Rattle.restoring.proofs.message_records.restored_numbers.Tie as tie
 

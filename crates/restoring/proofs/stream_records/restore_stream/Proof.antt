@@ -5,7 +5,7 @@ use borrow.Author.Needs.{needs}
 use borrow.Author.Tests.{le-ltb, lt-ltb}
 use Rattle.restoring.specs.Streams.{streamRestored}
 use native.Mathlib.Omega.{arith}
-use mathlib.Core.Path.{ap, sym}
+use mathlib.Core.Path.{ap}
 use Rattle.queue_words.specs.declared.header.Totals.{Totals}
 use Rattle.restoring.proofs.stream_records.restore_stream.Statement.{statement}
 use Rattle.restoring.proofs.stream_records.restore_stream.Tie as tie

@@ -1,3 +1,4 @@
+-- Written by scripts/auto-proof; again, after `rt goals saving`: scripts/auto-proof --again saving measuring/is_plain
 -- `saving::measuring::is_plain` meets its contract: each return is what its definition says, by what the calls ensure and the tests taken. Assumes nothing.
 use borrow.Author.Tests.{eq-eqb, ne-eqb}
 use Rattle.saving.specs.Measure.{isPlain}

@@ -1,3 +1,4 @@
+-- Written by scripts/auto-proof; again, after `rt goals saving`: scripts/auto-proof --again saving measuring/sound_item
 -- `saving::measuring::sound_item` meets its contract: each return is what its definition says, by what the calls ensure and the tests taken. Assumes nothing.
 use borrow.Author.Tests.{le-ltb, lt-ltb}
 use Rattle.saving.specs.Measure.{soundItem}

@@ -1,3 +1,4 @@
+-- Written by scripts/auto-proof; again, after `rt goals saving`: scripts/auto-proof --again saving messages/ms_left
 -- `saving::messages::ms_left` meets its contract: each arm is a case of `msLeft`. Assumes nothing.
 use borrow.Author.Needs.{needs}
 use Rattle.saving.specs.Records.{msLeft}

@@ -1,3 +1,4 @@
+-- Written by scripts/auto-proof; again, after `rt goals saving`: scripts/auto-proof --again saving messages/put_queue
 -- `saving::messages::put_queue` meets its contract: the messages of its chain. Assumes nothing.
 use borrow.Author.Needs.{needs}
 use mathlib.Core.Path.{ap}

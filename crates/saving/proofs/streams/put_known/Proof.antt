@@ -1,3 +1,4 @@
+-- Written by scripts/auto-proof; again, after `rt goals saving`: scripts/auto-proof --again saving streams/put_known
 -- `saving::streams::put_known` meets its contract: no record, or one. Assumes nothing.
 use borrow.Author.Needs.{needs}
 use mathlib.Core.Path.{ap}
