@@ -5,13 +5,13 @@ use mathlib.Core.Path.{_≡_, refl, sym, ap, ap₂, _∙_, subst}
 use mathlib.Core.Bool.{Bool, true, false, _&&_, _||_}
 use mathlib.Core.Logic.{_⊎_, inl, inr}
 use mathlib.Core.List.{List}
-use Prim.Native.Nat.{ℕ, zero, suc, _+_, _-_, _*_, _/_, _≤_, _<_, min}
+use Prim.Native.Nat.{ℕ, zero, suc, _+_, _-_, _*_, _/_, _≤_, _<_}
 use native.Mathlib.Omega.{arith}
 use lib.Dec.{eqb, ltb, leb}
 use lib.ListN.{length, getD, set}
 use lib.Seq.{getD-set-same, getD-set-other}
 use Rattle.queue_model.specs.Logic.{if_then_else_}
-use Rattle.queue_model.proofs.Tests.{Tri, ltb-true, ltb-false, eqb-true, eqb-false, less, same, more, tri}
+use Rattle.queue_model.proofs.Tests.{ltb-true, ltb-false, eqb-true, eqb-false, less, same, more, tri}
 use borrow.Author.Tests as tests
 use Rattle.queue_words.specs.Active.{activeAt}
 use Rattle.queue_words.specs.Header.{optionsAt, schedulerAt}

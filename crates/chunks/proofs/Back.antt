@@ -21,7 +21,7 @@ use Rattle.chunks.specs.declared.chunk.ChunkKind.the-variants as kind
 use Rattle.chunks.specs.declared.chunk.ChunkRead.{ChunkRead}
 use Rattle.chunks.specs.declared.chunk.ChunkRead.the-variants.{Read, Refused}
 use Rattle.queue_model.specs.Chunks.{padding, padded, chunk-layout}
-use Rattle.chunks.specs.Layout.{headerSize, headerWidths, headerRow, flagsOf, layout}
+use Rattle.chunks.specs.Layout.{headerSize, headerWidths, headerRow, flagsOf}
 use Rattle.chunks.specs.Reading.{isSet, chunkAt, readAs, readTyped, readChunk, payloadOf}
 use Rattle.chunks.specs.Promise.{InWidth, LaidOut}
 use Rattle.chunks.proofs.Sizes.{header-width}

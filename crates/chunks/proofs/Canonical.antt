@@ -10,7 +10,7 @@ use Rattle.queue_sending.specs.declared.data.Data.{Data}
 use Rattle.chunks.specs.declared.chunk.ChunkKind.{ChunkKind}
 use Rattle.chunks.specs.declared.chunk.ChunkKind.the-variants as kind
 use Rattle.queue_model.specs.Chunks.{padding, chunk-layout, chunk-bytes}
-use Rattle.chunks.specs.Layout.{headerSize, headerWidths, headerRow, flagsOf, layout, chunkBytes}
+use Rattle.chunks.specs.Layout.{headerSize, headerWidths, headerRow, flagsOf, chunkBytes}
 use Rattle.chunks.specs.Promise.{LaidOut, cleared, canonical}
 use Rattle.chunks.proofs.WriteCases.{header-length}
 

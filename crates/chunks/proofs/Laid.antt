@@ -19,7 +19,7 @@ use Rattle.chunks.specs.declared.chunk.ChunkKind.{ChunkKind}
 use Rattle.chunks.specs.declared.chunk.ChunkKind.the-variants as kind
 use Rattle.chunks.specs.declared.chunk.ChunkRead.the-variants.{Read}
 use Rattle.queue_model.specs.Chunks.{padding, padded, chunk-layout, chunk-bytes}
-use Rattle.chunks.specs.Layout.{headerSize, headerWidths, headerRow, flagsOf, layout, chunkBytes}
+use Rattle.chunks.specs.Layout.{headerSize, headerWidths, headerRow, flagsOf, chunkBytes}
 use Rattle.chunks.specs.Reading.{isSet, fragmentOf, chunk, chunkAt, readChunk, payloadOf}
 use Rattle.chunks.specs.Carried.{carriedData, onlyData}
 use Rattle.chunks.specs.Promise.{InWidth, LaidOut}

@@ -12,7 +12,6 @@ use lib.Seq.{take-at, drop-at}
 use Rattle.queue_model.specs.Logic.{if_then_else_, outside}
 use Rattle.queue_model.specs.Chunks.{padded}
 use Rattle.queue_sending.specs.declared.data.DataToSend.{DataToSend}
-use Rattle.chunks.specs.declared.chunk.Chunk.{Chunk}
 use Rattle.chunks.specs.declared.chunk.ChunkKind.{ChunkKind}
 use Rattle.chunks.specs.declared.chunk.ChunkRead.{ChunkRead}
 use Rattle.chunks.specs.declared.chunk.ChunkRead.the-variants as read
@@ -20,7 +19,7 @@ use Rattle.chunks.specs.declared.chunk.ChunkWritten.{ChunkWritten}
 use Rattle.chunks.specs.declared.chunk.ChunkWritten.the-variants as answer
 use Rattle.chunks.specs.Layout.{headerSize, chunkBytes}
 use Rattle.chunks.specs.Writing.{Outcome, outcome, maxWritten, writeChunk}
-use Rattle.chunks.specs.Reading.{chunk, readChunk, payloadOf}
+use Rattle.chunks.specs.Reading.{chunk, readChunk}
 use Rattle.chunks.specs.Carried.{carried}
 use Rattle.chunks.specs.Promise.{InWidth, IsChunk, ReadsBack, WriteMeets, ReadMeets}
 use Rattle.chunks.proofs.WriteCases.{chunk-length}

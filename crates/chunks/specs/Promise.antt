@@ -2,7 +2,7 @@
 use mathlib.Core.Path.{_≡_}
 use mathlib.Core.List.{List, _++_}
 use Prim.Native.Nat.{ℕ, _+_, _%_, _≤_, _<_}
-use lib.ListN.{length, getD, set, take, drop, replicate}
+use lib.ListN.{length, getD, set, take, replicate}
 use Rattle.types.specs.Keys.{key-id}
 use Rattle.queue_sending.specs.declared.data.Data.{Data}
 use Rattle.queue_sending.specs.declared.data.DataToSend.{DataToSend}

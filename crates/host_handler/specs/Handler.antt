@@ -1,7 +1,6 @@
 -- The stream reset handler for a host in C: its state in three numbers of 32 bits, what its calls give. Assumes nothing.
 use Prim.Native.Nat.{ℕ}
 use mathlib.Core.Path.{_≡_}
-use mathlib.Core.Bool.{Bool, true, false}
 use mathlib.Core.List.{List}
 use lib.Dec.{eqb}
 use lib.ListN.{set, getD}

@@ -7,7 +7,6 @@ use native.Mathlib.Nat.{sub-zero}
 use native.Mathlib.Omega.{arith}
 use borrow.Author.Tests.{lt-ltb, le-ltb, ltb-false}
 use lib.Dec.{ltb, leb, eqb}
-use lib.ListN.{length}
 use Rattle.queue_words.specs.Flags.{pick}
 use Rattle.payload_store.proofs.Cases.{pick-else, false-true}
 use Rattle.handover_records.specs.Records.{streamAt, messageAt}

@@ -2,7 +2,7 @@
 use mathlib.Core.Path.{_≡_, refl, sym, ap, _∙_, subst}
 use mathlib.Core.Bool.{Bool, true, not, _&&_}
 use mathlib.Core.List.{List, [], _∷_, _++_}
-use mathlib.Core.Option.{none, some, Option·getD}
+use mathlib.Core.Option.{none, Option·getD}
 use Prim.Native.Nat.{ℕ, _+_, _^_, _≤_, _<_}
 use native.Mathlib.Omega.{arith}
 use borrow.Author.Tests.{le-ltb}
@@ -10,7 +10,6 @@ use lib.ListN.{length}
 use Rattle.types.specs.Wrap.{wrapping-add, wrap-suc}
 use Rattle.types.proofs.Width.{wrap-one, wrap-fits}
 use Rattle.types.specs.declared.OutgoingMessageId.{OutgoingMessageId}
-use Rattle.queue_words.specs.Flags.{pick}
 use Rattle.queue_words.specs.Header.{optionsAt, totalsAt, putTotals}
 use Rattle.queue_words.specs.Items.{putItem, FitsItem}
 use Rattle.queue_words.specs.Known.{idAt}

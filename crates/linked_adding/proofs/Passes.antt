@@ -18,7 +18,7 @@ use Rattle.payload_store.specs.Putting.{putCode, putPayload, placed}
 use Rattle.payload_store.proofs.Puts.{put-law}
 use Rattle.stream_scheduler.specs.Link.{GoodScheduler, modelScheduler, Room, listed, free}
 use Rattle.stream_scheduler.proofs.Begins.{no-row}
-use Rattle.queue_state.specs.Chains.{Linked, total}
+use Rattle.queue_state.specs.Chains.{Linked}
 use Rattle.queue_state.specs.Model.{nextOf}
 use Rattle.queue_state.specs.Good.{Row, Shape}
 use Rattle.queue_state.proofs.Chains.{linked-le, linked-none, linked-some, last-lt, count-head}

@@ -9,7 +9,6 @@ use Rattle.queue_model.specs.Demands.{Typed}
 use Rattle.queue_model.specs.Types.{done}
 use Rattle.queue_model.proofs.Invariant.Well.{Well}
 use Rattle.queue_model.proofs.Invariant.Sixteen.{fine-step}
-use Rattle.queue_streams.specs.declared.answers.Call.{Call}
 use Rattle.queue_streams.specs.declared.answers.Call.the-variants.{Accepted}
 use Rattle.queue_state.specs.Model.{model}
 use Rattle.queue_state.specs.Good.{Shape, Good}

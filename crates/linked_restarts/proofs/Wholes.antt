@@ -38,7 +38,6 @@ use Rattle.linked_restarts.proofs.Sweeps.{Turn, turned}
 use Rattle.linked_restarts.proofs.Turns.{first-is, wait-turn, stored-turn}
 use Rattle.linked_restarts.proofs.Composes.{compose, turn-as}
 use Rattle.linked_restarts.proofs.Backs.{backAt, back-at, amount-at, sum-fits}
-use Rattle.queue_model.proofs.Arrivals.Ledger.{reset-id}
 
 -- ---- the model's stream in three parts
 

@@ -14,7 +14,7 @@ use Rattle.queue_model.specs.Types.{Queue, Stream}
 use Rattle.queue_model.specs.Answers.{saving-number, saving-length}
 use Rattle.queue_model.specs.Bytes.{row-bytes}
 use Rattle.queue_model.specs.Refusals.{_when_, first-refusal, max-time}
-use Rattle.queue_model.specs.Image.{Handover, trailer-widths, streams-bytes, messages-bytes, trailer-row, image-bytes, stream-records, message-records, handover, write-image, save-refusal, Saving, not-saved, saved-as, saving-or, save}
+use Rattle.queue_model.specs.Image.{Handover, trailer-widths, trailer-row, image-bytes, stream-records, message-records, handover, write-image, save-refusal, Saving, not-saved, saved-as, saving-or, save}
 use Rattle.queue_state.specs.Model.{streamIn, streamsIn, model}
 use Rattle.queue_state.specs.Good.{Good}
 use Rattle.queue_state.proofs.Tabs.{tab-same}

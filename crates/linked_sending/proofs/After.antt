@@ -16,7 +16,7 @@ use Rattle.queue_model.proofs.Fill.Refusals.{after-events, maybe-after, pass-pr
 use Rattle.queue_sending.specs.Data.{ProducedWith}
 use Rattle.queue_sending.specs.Produce.{producedAfter, passOver}
 use Rattle.queue_sending.proofs.Passes.{after-passes}
-use Rattle.queue_streams.specs.Events.{eventWords, placesIn, written}
+use Rattle.queue_streams.specs.Events.{eventWords, written}
 use Rattle.queue_state.specs.Model.{model}
 use Rattle.queue_state.specs.Good.{Good}
 use Rattle.linked_sending.specs.Meaning.{Sends}

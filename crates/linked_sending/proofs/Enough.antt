@@ -1,28 +1,25 @@
 -- The amounts of the chosen stream and its first message, from a well queue. Assumes nothing.
-use mathlib.Core.Path.{_≡_, refl, sym, ap, _∙_, subst}
-use mathlib.Core.List.{List, [], _∷_}
-use mathlib.Core.Option.{Option, none, some}
-use Prim.Native.Nat.{ℕ, _+_, _-_, _≤_, _<_}
+use mathlib.Core.Path.{_≡_, refl, ap}
+use mathlib.Core.List.{List}
+use Prim.Native.Nat.{ℕ, _+_, _≤_, _<_}
 use native.Mathlib.Omega.{arith}
 use lib.ListN.{length}
-use Rattle.queue_words.specs.Header.{optionsAt, totalsAt}
+use Rattle.queue_words.specs.Header.{totalsAt}
 use Rattle.queue_words.specs.Items.{itemAt}
-use Rattle.queue_words.specs.Known.{idAt}
 use Rattle.queue_words.specs.Streams.{streamAt}
-use Rattle.queue_model.specs.Types.{Stream, Queue, remaining}
-use Rattle.queue_model.specs.Types as plain
-use Rattle.queue_model.specs.Streams.{find-stream, stream-at}
+use Rattle.queue_model.specs.Types.{Stream, remaining}
+use Rattle.queue_model.specs.Streams.{stream-at}
 use Rattle.queue_model.proofs.Calm.Calm.{HeadAt}
 use Rattle.queue_model.proofs.Streams.{at-found, unsent-bytes}
 use Rattle.queue_model.proofs.Invariant.Messages.{WellItem}
-use Rattle.queue_model.proofs.Invariant.Well.{Kept, Well, amount-le}
+use Rattle.queue_model.proofs.Invariant.Well.{Kept, amount-le}
 use Rattle.queue_model.proofs.Invariant.Sends.{head-kept, head-well}
 use Rattle.payload_store.specs.Good.{payloadOf}
 use Rattle.payload_store.specs.Words.{sizeOf}
 use Rattle.message_chains.specs.Amounts.{rest}
 use Rattle.stream_scheduler.specs.Link.{entryAt}
 use Rattle.queue_state.specs.Chains.{each}
-use Rattle.queue_state.specs.Model.{itemIn, rowAt, streamIn, streamsIn, model}
+use Rattle.queue_state.specs.Model.{itemIn, rowAt, streamIn, model}
 use Rattle.queue_state.specs.Good.{Shape, Good}
 use Rattle.queue_state.proofs.Singles.{model-streams, model-total}
 use Rattle.queue_state.proofs.Sums.{item-length}

@@ -1,14 +1,12 @@
 -- A part of a message that has its numbers: the words that change, stored alone, read as if all three rows had been stored. Assumes nothing.
 use mathlib.Core.Path.{_≡_, refl, sym, ap, _∙_, subst}
 use mathlib.Core.List.{List}
-use Prim.Native.Nat.{ℕ, _+_, _-_, _≤_, _<_}
-use native.Mathlib.Omega.{arith}
+use Prim.Native.Nat.{ℕ, _-_, _<_}
 use lib.ListN.{length}
 use Rattle.queue_words.specs.Active.{activeAt}
 use Rattle.queue_words.specs.Header.{optionsAt, totalsAt, schedulerAt, putTotals, FitsTotals}
 use Rattle.queue_words.specs.Items.{itemAt, putItem, FitsItem}
 use Rattle.queue_words.specs.Leasts.{leastsAt}
-use Rattle.queue_words.specs.Known.{knownAt}
 use Rattle.queue_words.specs.Streams.{streamAt, putStream, FitsStream}
 use Rattle.queue_words.specs.declared.header.Totals.{Totals}
 use Rattle.queue_words.specs.declared.items.Item.{Item}

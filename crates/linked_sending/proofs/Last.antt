@@ -1,14 +1,12 @@
 -- The last fragment of a message: what the words then stand for. Assumes nothing.
 use mathlib.Core.Path.{_≡_, refl, sym, ap, ap₂, _∙_, subst}
-use mathlib.Core.Bool.{Bool}
-use mathlib.Core.List.{List, [], _∷_}
-use Prim.Native.Nat.{ℕ, _+_, _-_, _≤_, _<_}
+use mathlib.Core.List.{List, _∷_}
+use Prim.Native.Nat.{ℕ, _-_, _≤_, _<_}
 use native.Mathlib.Omega.{arith}
-use lib.ListN.{length}
 use Rattle.queue_words.specs.Header.{optionsAt, totalsAt}
 use Rattle.queue_words.specs.Items.{itemAt}
 use Rattle.queue_words.specs.Known.{knownAt, idAt}
-use Rattle.queue_words.specs.Streams.{streamAt, putStream, FitsStream}
+use Rattle.queue_words.specs.Streams.{streamAt, putStream}
 use Rattle.queue_words.specs.declared.header.Totals.{Totals}
 use Rattle.queue_words.specs.declared.items.Item.{Item}
 use Rattle.queue_words.specs.declared.known.Known.{Known}
@@ -16,10 +14,10 @@ use Rattle.queue_words.specs.declared.streams.OutgoingStream.{OutgoingStream}
 use Rattle.queue_words.specs.declared.streams.PauseState as words
 use Rattle.queue_words.specs.declared.streams.PauseState.the-variants.{NotPaused, Pending, Paused, Resetting}
 use Rattle.queue_words.proofs.Laws
-use Rattle.queue_model.specs.Types.{Stream, Scheduler, Weight}
+use Rattle.queue_model.specs.Types.{Stream}
 use Rattle.queue_model.specs.Types as plain
 use Rattle.queue_model.specs.Scheduler.{accept, set-bytes-remaining}
-use Rattle.queue_model.specs.Streams.{put-stream, stream-key, head-size, weight-of}
+use Rattle.queue_model.specs.Streams.{put-stream, head-size, weight-of}
 use Rattle.queue_model.specs.Produce.{end-pending, next-size}
 use Rattle.stream_scheduler.specs.Link.{entryAt, modelScheduler}
 use Rattle.stream_scheduler.specs.Rows.{weightOf}
@@ -32,14 +30,14 @@ use Rattle.queue_sending.specs.Numbers.{numberedItem, numberedStream}
 use Rattle.queue_state.specs.Chains.{Linked, count, each}
 use Rattle.queue_state.specs.Model.{nextOf, itemIn, pauseOf, streamOf, rowAt, streamsIn}
 use Rattle.queue_state.specs.Good.{Shape}
-use Rattle.queue_state.proofs.Chains.{each-frame, linked-frame}
-use Rattle.queue_state.proofs.Frames.{Same, row-below, row-fits}
+use Rattle.queue_state.proofs.Chains.{each-frame}
+use Rattle.queue_state.proofs.Frames.{row-below, row-fits}
 use Rattle.queue_state.proofs.Singles.{Alike, alike-untouched}
 use Rattle.queue_state.proofs.Heads.{HeadLeft, head-left, head-linked}
 use Rattle.queue_state.proofs.Rooms.{AllKnown, Let, last-known, head-is, weight-is}
 use Rattle.queue_state.proofs.Alikes.{alike-same}
 use Rattle.linked_sending.proofs.Looking.{Choice}
-use Rattle.linked_sending.proofs.Numbering.{Renumbered, renumbered, stream-fits}
+use Rattle.linked_sending.proofs.Numbering.{renumbered, stream-fits}
 
 -- ---- states
 

@@ -1,13 +1,12 @@
 -- A look at the scheduler's choice, on good words, is the model's look. Assumes nothing.
-use mathlib.Core.Path.{_≡_, refl, sym, ap, _∙_, subst}
+use mathlib.Core.Path.{_≡_, refl, sym, ap, _∙_}
 use mathlib.Core.Bool.{Bool, true, false}
 use mathlib.Core.List.{List, [], _∷_}
-use mathlib.Core.Option.{Option, none, some}
-use Prim.Native.Nat.{ℕ, zero, suc, _≤_, _<_}
+use mathlib.Core.Option.{some}
+use Prim.Native.Nat.{ℕ, suc, _≤_, _<_}
 use native.Mathlib.Omega.{arith}
 use borrow.Author.Tests.{lt-ltb, le-ltb, le-leb, lt-leb}
 use lib.Dec.{ltb, leb}
-use lib.ListN.{length}
 use Rattle.queue_words.specs.declared.items.Expiry.the-variants.{Never, At}
 use Rattle.queue_words.specs.declared.items.Expiry.{Expiry}
 use Rattle.queue_words.specs.Flags.{pick}
@@ -17,15 +16,13 @@ use Rattle.queue_words.specs.Header.{totalsAt, schedulerAt}
 use Rattle.queue_words.specs.Items.{itemAt}
 use Rattle.queue_words.specs.Known.{idAt}
 use Rattle.queue_words.specs.Streams.{streamAt}
-use Rattle.queue_words.specs.declared.items.Item.{Item}
-use Rattle.queue_words.specs.declared.known.Found.{Found}
 use Rattle.queue_words.specs.declared.known.Found.the-variants as found
-use Rattle.queue_model.specs.Types.{Stream, Active, Queue, expired}
+use Rattle.queue_model.specs.Types.{Stream, expired}
 use Rattle.queue_model.specs.Types as plain
 use Rattle.queue_model.specs.Logic.{if_then_else_}
 use Rattle.queue_model.specs.Scheduler.{peek}
 use Rattle.queue_model.specs.Streams.{find-stream}
-use Rattle.queue_model.specs.Produce.{Look, nothing, broken, dropped, chosen, look-expired, look-at, look-for, look, head-of, head}
+use Rattle.queue_model.specs.Produce.{nothing, chosen, look-expired, look-at, look-for, look, head-of, head}
 use Rattle.queue_model.proofs.Calm.Calm.{HeadAt}
 use Rattle.queue_model.proofs.Invariant.Waits.{Listed, peek-in}
 use Rattle.queue_model.proofs.Invariant.Sends.{Head-for, head-for, head-of-at}
@@ -35,16 +32,15 @@ use Rattle.stream_scheduler.specs.Words.{peekWords}
 use Rattle.stream_scheduler.specs.declared.Peeked.{Peeked}
 use Rattle.stream_scheduler.specs.declared.Peeked.the-variants as peeked
 use Rattle.stream_scheduler.proofs.Handing.{peek-link}
-use Rattle.stream_scheduler.proofs.Link.{entry-row}
-use Rattle.queue_sending.specs.Choice.{expiredBy, lookAt, lookFor, lookAhead, lookPeeked, isPast}
+use Rattle.queue_sending.specs.Choice.{expiredBy, lookAt, lookFor, lookAhead, isPast}
 use Rattle.queue_sending.specs.declared.choice.Look.the-variants as words-look
-use Rattle.queue_state.specs.Chains.{each, Linked}
+use Rattle.queue_state.specs.Chains.{each}
 use Rattle.queue_state.specs.Model.{nextOf, itemIn, rowAt, streamIn, streamsIn, model, expiresOf}
-use Rattle.queue_state.specs.Good.{Row, Shape, Good}
+use Rattle.queue_state.specs.Good.{Shape, Good}
 use Rattle.queue_state.proofs.Chains.{linked-none, linked-some}
-use Rattle.queue_state.proofs.Frames.{stream-is, row-below}
+use Rattle.queue_state.proofs.Frames.{stream-is}
 use Rattle.queue_state.proofs.Looks.{Lookup, known-at, new-at, lookup}
-use Rattle.queue_state.proofs.Singles.{model-streams, model-schedules, model-interleaving}
+use Rattle.queue_state.proofs.Singles.{model-streams, model-schedules}
 use Rattle.queue_words.proofs.Finds.{by-lt}
 
 -- The scheduler's row `at` is of the known stream in a position, whose first message is in place `first`.

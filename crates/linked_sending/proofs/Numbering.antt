@@ -1,9 +1,9 @@
 -- The numbers of a message, and what goes with a fragment, are the model's. Assumes nothing.
-use mathlib.Core.Path.{_≡_, refl, sym, ap, _∙_, subst}
+use mathlib.Core.Path.{_≡_, refl}
 use mathlib.Core.Bool.{Bool, true, false}
-use mathlib.Core.List.{List, [], _∷_}
-use mathlib.Core.Option.{Option, none, some, Option·getD}
-use Prim.Native.Nat.{ℕ, zero, suc, _+_, _-_, _^_, _≤_, _<_}
+use mathlib.Core.List.{List, []}
+use mathlib.Core.Option.{Option·getD}
+use Prim.Native.Nat.{ℕ, _+_, _-_, _^_, _≤_, _<_}
 use native.Mathlib.Omega.{arith}
 use lib.Dec.{eqb}
 use lib.ListN.{length, take, drop, length-drop}
@@ -11,7 +11,6 @@ use lib.Seq.{length-take-le}
 use Rattle.message_chains.specs.Numbers.{withNumbers}
 use Rattle.queue_words.specs.declared.items.Numbers as words
 use Rattle.queue_words.specs.declared.items.Numbers.the-variants.{Missing, Given}
-use Rattle.types.specs.Keys.{key-of}
 use borrow.Author.Tests.{le-ltb}
 use Rattle.types.specs.Wrap.{wrapping-add}
 use Rattle.types.proofs.Width.{wrap-one, wrap-fits}
@@ -20,14 +19,12 @@ use Rattle.queue_words.specs.Items.{FitsItem, areGiven, midIn}
 use Rattle.queue_words.specs.Streams.{FitsStream}
 use Rattle.queue_words.specs.declared.items.Item.{Item}
 use Rattle.queue_words.specs.declared.streams.OutgoingStream.{OutgoingStream}
-use Rattle.queue_model.specs.Types.{Stream, Counters, Fragment, remaining}
-use Rattle.queue_model.specs.Types as plain
+use Rattle.queue_model.specs.Types.{Stream}
 use Rattle.queue_model.specs.Logic.{if_then_else_}
 use Rattle.queue_model.specs.Produce.{Numbered, numbered, numbered-in, give-numbers, make-fragment, moved-on}
 use Rattle.message_chains.specs.Amounts.{rest, sum}
 use Rattle.queue_sending.specs.Data.{shownLifecycle, dataToSend}
 use Rattle.queue_sending.specs.Numbers.{numberedItem, numberedStream, nextNumbers, movedOn, withCounters, nextMid, nextSsn}
-use Rattle.queue_sending.specs.declared.data.DataToSend.{DataToSend}
 use Rattle.queue_words.specs.declared.items.Expiry.{Expiry}
 use Rattle.queue_words.specs.declared.items.Expiry.the-variants.{Never, At}
 use Rattle.queue_state.specs.Model.{itemOf, streamOf, expiresOf, midOf}

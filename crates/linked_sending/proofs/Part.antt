@@ -1,22 +1,20 @@
 -- A part of a message handed out: what the words then stand for. Assumes nothing.
 use mathlib.Core.Path.{_≡_, refl, sym, ap, _∙_, subst}
 use mathlib.Core.Bool.{Bool, true, false}
-use mathlib.Core.List.{List, [], _∷_}
-use Prim.Native.Nat.{ℕ, _+_, _-_, _≤_, _<_}
+use mathlib.Core.List.{List, _∷_}
+use Prim.Native.Nat.{ℕ, _≤_, _<_}
 use native.Mathlib.Omega.{arith}
-use lib.ListN.{length}
 use Rattle.queue_words.specs.Header.{optionsAt, totalsAt, putTotals, FitsTotals}
 use Rattle.queue_words.specs.Flags.{pick}
 use Rattle.queue_words.specs.Items.{areGiven, itemAt, putItem, FitsItem}
 use Rattle.queue_words.specs.Known.{knownAt, idAt}
 use Rattle.queue_words.specs.Streams.{streamAt, putStream, FitsStream}
-use Rattle.queue_words.specs.declared.header.Options.{Options}
 use Rattle.queue_words.specs.declared.header.Totals.{Totals}
 use Rattle.queue_words.specs.declared.items.Item.{Item}
 use Rattle.queue_words.specs.declared.known.Known.{Known}
 use Rattle.queue_words.specs.declared.streams.OutgoingStream.{OutgoingStream}
 use Rattle.queue_words.proofs.Laws
-use Rattle.queue_model.specs.Types.{Stream, Scheduler}
+use Rattle.queue_model.specs.Types.{Stream}
 use Rattle.queue_model.specs.Types as plain
 use Rattle.queue_model.specs.Scheduler.{accept}
 use Rattle.queue_model.specs.Streams.{put-stream, stream-key}
@@ -25,8 +23,8 @@ use Rattle.stream_scheduler.specs.Link.{entryAt, modelScheduler}
 use Rattle.stream_scheduler.specs.Words.{acceptAt}
 use Rattle.queue_sending.specs.Fragment.{lessTotal, lessAmount, wentOn, wentFurther}
 use Rattle.queue_sending.specs.Numbers.{numberedItem, numberedStream, movedOn}
-use Rattle.queue_state.specs.Chains.{count, each, upd}
-use Rattle.queue_state.specs.Model.{itemOf, itemIn, streamOf, rowAt, streamIn, streamsIn}
+use Rattle.queue_state.specs.Chains.{count, each}
+use Rattle.queue_state.specs.Model.{itemOf, itemIn, streamOf, rowAt, streamsIn}
 use Rattle.queue_state.specs.Good.{Shape}
 use Rattle.queue_state.proofs.Chains.{count-head, each-frame}
 use Rattle.queue_state.proofs.Splits.{upd-same}
@@ -40,7 +38,7 @@ use Rattle.queue_state.proofs.Twice.{put-twice}
 use Rattle.queue_state.proofs.Alikes.{alike-same, alike-both, alike-totals}
 use Rattle.linked_sending.proofs.Further.{Further, further}
 use Rattle.linked_sending.proofs.Looking.{Choice}
-use Rattle.linked_sending.proofs.Numbering.{Renumbered, renumbered, numbered-before, MovedOn, moved-same, stream-fits, item-fits, moved-fits}
+use Rattle.linked_sending.proofs.Numbering.{renumbered, numbered-before, moved-same, stream-fits, item-fits, moved-fits}
 
 -- The words after a part of the chosen message.
 pub record WentOn (ws st : List ℕ) (g : Shape ws st) (at : ℕ) (c : Choice ws st g at) (n : ℕ) (us : List ℕ) : Type 0 where

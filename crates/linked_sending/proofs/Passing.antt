@@ -2,13 +2,13 @@
 use mathlib.Core.Path.{_≡_, refl, sym, ap, _∙_, subst}
 use mathlib.Core.Bool.{Bool, true, false, _&&_, _||_}
 use mathlib.Core.List.{List, [], _∷_, _++_}
-use mathlib.Core.Option.{Option, none, some}
-use Prim.Native.Nat.{ℕ, zero, suc, _+_, _-_, _≤_, _<_, min}
+use mathlib.Core.Option.{Option, some}
+use Prim.Native.Nat.{ℕ, zero, suc, _+_, _-_, _≤_, min}
 use native.Mathlib.Omega.{arith}
 use borrow.Author.Tests.{le-ltb}
 use lib.Dec.{ltb, leb}
 use lib.ListN.{length, length-append}
-use Rattle.queue_words.specs.Header.{optionsAt, totalsAt}
+use Rattle.queue_words.specs.Header.{totalsAt}
 use Rattle.queue_words.specs.Items.{itemAt}
 use Rattle.queue_words.specs.Streams.{streamAt}
 use Rattle.queue_words.specs.declared.header.Options.{Options}
@@ -17,7 +17,7 @@ use Rattle.queue_model.specs.Types.{Stream, Queue, Event, Step, reply, nothing-
 use Rattle.queue_model.specs.Types as plain
 use Rattle.queue_model.specs.Amounts.{low-event, total-falls, stream-falls, total-low, stream-low, sent-events, drop-head-events}
 use Rattle.queue_model.specs.Refusals.{short-of}
-use Rattle.queue_model.specs.Produce.{Look, nothing, broken, dropped, chosen, look-expired, look, drop-in, after-look, pass-over, hand-out}
+use Rattle.queue_model.specs.Produce.{Look, nothing, dropped, chosen, look-expired, look, drop-in, after-look, pass-over, hand-out}
 use Rattle.queue_model.specs.Streams.{waiting}
 use Rattle.queue_model.proofs.Invariant.Well.{Well}
 use Rattle.queue_model.proofs.Invariant.Sends.{FineLook, Chosen, fine-look}
@@ -29,14 +29,13 @@ use Rattle.queue_streams.specs.declared.answers.Call.{Call}
 use Rattle.queue_streams.specs.declared.answers.Call.the-variants as call
 use Rattle.message_chains.specs.Amounts.{rest}
 use Rattle.queue_sending.specs.Choice.{lookAhead}
-use Rattle.queue_sending.specs.Data.{ProducedWith, producedWith}
+use Rattle.queue_sending.specs.Data.{ProducedWith}
 use Rattle.queue_sending.specs.Fragment.{handedOut}
 use Rattle.queue_sending.specs.Produce.{passOver, expiredDropped, refusal}
 use Rattle.queue_sending.specs.declared.choice.Look.the-variants as words-look
-use Rattle.queue_sending.specs.declared.data.Produced.the-variants as produced
 use Rattle.queue_sending.proofs.Passes.{pass-nothing, pass-chosen}
 use Rattle.queue_state.specs.Chains.{each}
-use Rattle.queue_state.specs.Model.{itemIn, rowAt, streamIn, streamsIn, model}
+use Rattle.queue_state.specs.Model.{itemIn, rowAt, streamIn, model}
 use Rattle.queue_state.specs.Good.{Shape, Good}
 use Rattle.queue_state.proofs.Heads.{head-waits}
 use Rattle.queue_state.proofs.Notes.{written-append, written-length}
@@ -46,7 +45,7 @@ use Rattle.linked_sending.specs.Meaning.{Sends}
 use Rattle.linked_sending.proofs.Looking.{Choice, Looks, looks-nothing, looks-expired, looks-chosen, looks}
 use Rattle.linked_sending.proofs.Enough.{stream-amount, rest-is, rest-in-amount, amount-in-total}
 use Rattle.linked_sending.proofs.Expired.{HeadExpired, head-expired}
-use Rattle.linked_sending.proofs.Sent.{HandedOut, hands-out}
+use Rattle.linked_sending.proofs.Sent.{hands-out}
 
 -- ---- events of one fragment
 

@@ -1,21 +1,20 @@
 -- The next fragment is the model's, refused or not. Assumes nothing.
 use mathlib.Core.Path.{_≡_, refl, sym, ap, _∙_, subst}
-use mathlib.Core.Bool.{Bool, true, false, not, _||_}
-use mathlib.Core.List.{List, [], _∷_}
+use mathlib.Core.Bool.{true, false}
+use mathlib.Core.List.{List, []}
 use mathlib.Core.Option.{Option, none, some, Option·getD}
-use Prim.Native.Nat.{ℕ, zero, suc, _+_, _≤_, _<_}
+use Prim.Native.Nat.{ℕ, suc, _≤_, _<_}
 use native.Mathlib.Omega.{arith}
 use borrow.Author.Tests.{lt-ltb, le-ltb, eq-eqb, ne-eqb}
-use lib.Dec.{ltb, eqb}
+use lib.Dec.{eqb}
 use lib.ListN.{length}
-use Rattle.queue_words.specs.Flags.{pick}
 use Rattle.queue_words.specs.Header.{optionsAt, totalsAt}
 use Rattle.queue_model.specs.Types.{Queue, Step, refuse}
 use Rattle.queue_model.specs.Refusals.{Check, first-refusal, refused-or, checked}
 use Rattle.queue_model.specs.Produce.{pass-over, produce, produce-checks}
 use Rattle.queue_model.specs.Run as run
 use Rattle.queue_model.specs.Streams.{waiting}
-use Rattle.queue_model.proofs.Invariant.Events.{potential, potential-fits}
+use Rattle.queue_model.proofs.Invariant.Events.{potential-fits}
 use Rattle.payload_store.proofs.Cases.{by-index}
 use Rattle.queue_sending.specs.Data.{ProducedWith, producedWith, refusedWith}
 use Rattle.queue_sending.specs.Produce.{produceCode, produceNext, passOver, refusal, settled, settledAs}

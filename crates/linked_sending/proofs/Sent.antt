@@ -1,36 +1,32 @@
 -- The fragment of the chosen message is the model's. Assumes nothing.
 use mathlib.Core.Path.{_≡_, refl, sym, ap, _∙_, subst}
-use mathlib.Core.Bool.{Bool, true, false, _||_}
+use mathlib.Core.Bool.{false}
 use mathlib.Core.List.{List, [], _∷_, _++_}
-use mathlib.Core.Option.{Option, none, some}
+use mathlib.Core.Option.{some}
 use Prim.Native.Nat.{ℕ, _+_, _-_, _≤_, _<_, min}
 use native.Mathlib.Omega.{arith}
 use borrow.Author.Tests.{lt-ltb, le-ltb, eq-eqb, ne-eqb}
-use lib.Dec.{ltb, eqb}
 use lib.ListN.{length, take, drop, length-append}
 use Rattle.queue_words.specs.Flags.{pick}
 use Rattle.queue_words.specs.Active.{activeAt}
-use Rattle.queue_words.specs.Header.{optionsAt, totalsAt, schedulerAt}
+use Rattle.queue_words.specs.Header.{optionsAt, totalsAt}
 use Rattle.queue_words.specs.Items.{areGiven, itemAt}
 use Rattle.queue_words.specs.Known.{idAt}
 use Rattle.queue_words.specs.Streams.{streamAt}
 use Rattle.queue_words.specs.declared.header.Totals.{Totals}
 use Rattle.queue_words.specs.declared.items.Item.{Item}
 use Rattle.queue_words.specs.declared.streams.OutgoingStream.{OutgoingStream}
-use Rattle.queue_words.proofs.Laws
-use Rattle.queue_model.specs.Logic.{if_then_else_}
-use Rattle.queue_model.specs.Types.{Stream, Active, Scheduler, Queue, Event, Step, Fragment, fragment, reply, remaining, with-items, with-pause, with-counters, with-state}
+use Rattle.queue_model.specs.Types.{Stream, Event, Step, Fragment, fragment, reply, remaining, with-items, with-pause, with-counters}
 use Rattle.queue_model.specs.Types as plain
 use Rattle.queue_model.specs.Amounts.{total-falls, stream-falls, total-low, stream-low, sent-events}
 use Rattle.queue_model.specs.Refusals.{short-of, short-of-head}
 use Rattle.queue_model.specs.Produce.{Numbered, numbered, make-fragment, moved-on, end-pending, next-size, handed-out-last, handed-out-part, handed-out, hand-out}
 use Rattle.queue_model.specs.Scheduler.{accept, set-bytes-remaining}
 use Rattle.queue_model.specs.Streams.{put-stream, weight-of}
-use Rattle.queue_model.proofs.Invariant.Well.{Well}
 use Rattle.queue_model.proofs.Invariant.Sends.{Chosen, handed-well}
 use Rattle.payload_store.specs.Good.{payloadOf}
 use Rattle.payload_store.specs.Reading.{readCode, readPart}
-use Rattle.payload_store.specs.Words.{sizeOf, gapsOf}
+use Rattle.payload_store.specs.Words.{gapsOf}
 use Rattle.payload_store.proofs.Cases.{by-index}
 use Rattle.payload_store.proofs.Reading.{read-law}
 use Rattle.stream_scheduler.specs.Link.{entryAt, modelScheduler}
@@ -38,13 +34,11 @@ use Rattle.stream_scheduler.specs.Words.{acceptAt}
 use Rattle.queue_streams.specs.Events.{eventWords, written}
 use Rattle.message_chains.specs.Amounts.{rest}
 use Rattle.message_chains.specs.Heads.{headCode, withoutHead, sentNotes}
-use Rattle.message_chains.specs.Notes.{Notes, notes}
-use Rattle.queue_sending.specs.Data.{dataToSend, ProducedWith, producedWith, refusedWith}
+use Rattle.queue_sending.specs.Data.{dataToSend, ProducedWith, producedWith}
 use Rattle.message_chains.specs.Dropping.{endPending}
-use Rattle.queue_sending.specs.Fragment.{leastOf, sendCode, finished, lessTotal, lessAmount, wentOn, wentFurther, writtenSent, sent, chosenCode, handedOut}
+use Rattle.queue_sending.specs.Fragment.{leastOf, sendCode, finished, lessAmount, wentOn, wentFurther, writtenSent, sent, chosenCode, handedOut}
 use Rattle.queue_sending.specs.Produce.{refusal}
 use Rattle.queue_sending.specs.Numbers.{numberedItem, numberedStream, movedOn}
-use Rattle.queue_sending.specs.declared.data.Produced.{Produced}
 use Rattle.queue_sending.specs.declared.data.Produced.the-variants as produced
 use Rattle.queue_state.specs.Chains.{each}
 use Rattle.queue_state.specs.Model.{nextOf, itemOf, itemIn, optionsOf, pauseOf, streamOf, rowAt, streamIn, streamsIn, model}
@@ -55,13 +49,12 @@ use Rattle.queue_state.proofs.Notes.{listed, sent-noted, written-append, writte
 use Rattle.queue_state.proofs.Sums.{item-length}
 use Rattle.queue_state.proofs.Heads.{head-may}
 use Rattle.queue_state.proofs.Rooms.{all-known}
-use Rattle.linked_sending.specs.Meaning.{Sends, dataOf, producedOf, bufferOf}
+use Rattle.linked_sending.specs.Meaning.{Sends, dataOf}
 use Rattle.linked_sending.proofs.Looking.{Choice}
-use Rattle.linked_sending.proofs.Numbering.{Numbers, numbers, Renumbered, renumbered, moved-is, data-is, part-length}
-use Rattle.linked_sending.proofs.Enough.{item-payload, stream-amount, head-at, rest-is, rest-in-amount, amount-in-total, offset-below, length-small}
-use Rattle.linked_sending.proofs.Part.{WentOn, went-part}
-use Rattle.linked_sending.proofs.Last.{Finished, the-finished, end-state}
-use Rattle.queue_state.proofs.Facts.{offset-is}
+use Rattle.linked_sending.proofs.Numbering.{Numbers, numbers, renumbered, moved-is, data-is, part-length}
+use Rattle.linked_sending.proofs.Enough.{item-payload, stream-amount, rest-is, rest-in-amount, amount-in-total, offset-below, length-small}
+use Rattle.linked_sending.proofs.Part.{went-part}
+use Rattle.linked_sending.proofs.Last.{the-finished, end-state}
 use Rattle.queue_words.proofs.Finds.{by-lt}
 
 pub least-is : (a b : ℕ) → leastOf a b ≡ min a b

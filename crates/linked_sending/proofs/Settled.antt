@@ -6,7 +6,7 @@ use Rattle.queue_words.specs.Header.{schedulerAt}
 use Rattle.stream_scheduler.specs.Words.{acceptAt}
 use Rattle.stream_scheduler.specs.Anew.{acceptLast}
 use Rattle.queue_sending.proofs.Ahead.{chosen-row}
-use Rattle.linked_sending.specs.Settled.{Takes, FragmentSettled}
+use Rattle.linked_sending.specs.Settled.{FragmentSettled}
 
 -- The scheduler takes it.
 pub fragment-settled : FragmentSettled

@@ -1,7 +1,7 @@
 -- The next fragment is the model's. Assumes nothing.
 use Prim.Native.Nat.{ℕ}
 use mathlib.Core.Path.{_≡_}
-use mathlib.Core.List.{List, [], _++_, map}
+use mathlib.Core.List.{List, _++_, map}
 use mathlib.Core.Option.{Option, none, some}
 use lib.ListN.{length, drop}
 use Rattle.types.specs.Keys.{key-of}
@@ -9,7 +9,6 @@ use Rattle.queue_model.specs.Types.{Answer, refused, done, number, flag, ids, f
 use Rattle.queue_model.specs.Answers.{answer-number, event-count, fragments-in}
 use Rattle.queue_model.specs.Run as run
 use Rattle.queue_streams.specs.Events.{placesIn, written}
-use Rattle.queue_sending.specs.declared.data.Data.{Data}
 use Rattle.queue_sending.specs.declared.data.DataToSend.{DataToSend}
 use Rattle.queue_words.specs.declared.items.Expiry.{Expiry}
 use Rattle.queue_words.specs.declared.items.Expiry.the-variants.{Never, At}

@@ -5,8 +5,7 @@ use Prim.Native.Nat.{ℕ, _≤_, _<_}
 use native.Mathlib.Omega.{arith}
 use borrow.Author.Tests.{lt-ltb, le-ltb, eq-eqb, ne-eqb}
 use lib.ListN.{length}
-use Rattle.queue_words.specs.Find.{findStream, foundBy}
-use Rattle.queue_words.specs.Flags.{pick}
+use Rattle.queue_words.specs.Find.{findStream}
 use Rattle.queue_words.specs.Header.{totalsAt}
 use Rattle.queue_words.specs.Items.{itemAt}
 use Rattle.queue_words.specs.Known.{idAt}
@@ -14,7 +13,6 @@ use Rattle.queue_words.specs.Streams.{streamAt}
 use Rattle.queue_words.specs.declared.items.Item.{Item}
 use Rattle.queue_words.specs.declared.known.Found.the-variants.{At, Gap}
 use Rattle.queue_words.specs.declared.streams.OutgoingStream.{OutgoingStream}
-use Rattle.queue_words.proofs.Finds.{find-hit}
 use Rattle.queue_model.specs.Demands.{Typed}
 use Rattle.queue_model.specs.Run as run
 use Rattle.queue_streams.specs.Events.{eventWords, placesIn}

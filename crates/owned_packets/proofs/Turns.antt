@@ -1,6 +1,6 @@
 -- A turn of a filling: after a fragment the words are those of a queue again, and all that it can still report is paid for. Assumes nothing.
 use mathlib.Core.Path.{_≡_, refl, sym, ap, ap₂, _∙_, subst}
-use mathlib.Core.Bool.{Bool, not, _||_}
+use mathlib.Core.Bool.{not, _||_}
 use mathlib.Core.List.{List, [], _++_}
 use Prim.Native.Nat.{ℕ, _+_, _≤_}
 use native.Mathlib.Omega.{arith}
@@ -25,7 +25,7 @@ use Rattle.queue_state.proofs.Singles.{model-options}
 use Rattle.chunks.specs.Layout.{headerSize}
 use Rattle.chunks.specs.declared.chunk.ChunkKind.{ChunkKind}
 use Rattle.packets.specs.Filling.{oneFilled}
-use Rattle.linked_sending.specs.Meaning.{Sends, dataOf, producedOf}
+use Rattle.linked_sending.specs.Meaning.{Sends, producedOf}
 use Rattle.linked_sending.proofs.After.{after-sends}
 use Rattle.owned_sending.specs.Passing.{Payable}
 

@@ -9,13 +9,11 @@ use lib.Dec.{ltb, eqb}
 use lib.ListN.{length}
 use Rattle.queue_words.specs.Flags.{pick}
 use Rattle.queue_words.specs.Header.{optionsAt, totalsAt}
-use Rattle.queue_model.specs.Produce.{chosen}
 use Rattle.queue_model.proofs.Invariant.Events.{potential, potential-fits}
 use Rattle.queue_model.proofs.Invariant.Sends.{FineLook, Chosen, fine-look}
 use Rattle.stream_scheduler.specs.Link.{entryAt}
 use Rattle.stream_scheduler.specs.Own.{HasRow}
 use Rattle.queue_streams.specs.Events.{eventWords}
-use Rattle.queue_sending.specs.Choice.{lookAhead}
 use Rattle.queue_sending.specs.Data.{ProducedWith, producedWith, producedNumber}
 use Rattle.queue_sending.specs.Fragment.{chosenCode, handedOut}
 use Rattle.queue_sending.specs.Produce.{lentCode, produceCode, passOver, producedAfter, produceNext, refusal}
@@ -28,7 +26,7 @@ use Rattle.queue_state.specs.Chains.{each}
 use Rattle.queue_state.specs.Model.{itemIn, rowAt, streamIn, model}
 use Rattle.queue_state.specs.Good.{Good}
 use Rattle.queue_state.proofs.Heads.{head-waits}
-use Rattle.linked_sending.proofs.Looking.{Choice, Looks, looks-nothing, looks-expired, looks-chosen, looks}
+use Rattle.linked_sending.proofs.Looking.{Looks, looks-nothing, looks-expired, looks-chosen, looks}
 use Rattle.linked_sending.proofs.Passing.{model-waits}
 use Rattle.linked_sending.proofs.Produces.{settled-same, produce-meets}
 use Rattle.linked_sending.proofs.Sent.{may-hand}

@@ -1,7 +1,7 @@
 -- From the words of a queue: a look is not broken, an expired head may be dropped, and what that leaves. Assumes nothing.
 use mathlib.Core.Path.{_≡_, refl, sym, ap, _∙_, subst}
 use mathlib.Core.List.{List}
-use Prim.Native.Nat.{ℕ, suc, _+_, _≤_, _<_}
+use Prim.Native.Nat.{ℕ, suc, _+_, _<_}
 use native.Mathlib.Omega.{arith}
 use borrow.Author.Tests.{le-ltb}
 use lib.ListN.{length}
@@ -11,11 +11,10 @@ use Rattle.queue_words.specs.Streams.{streamAt}
 use Rattle.queue_model.specs.Types.{Event, Queue}
 use Rattle.queue_model.specs.Amounts.{drop-head-events}
 use Rattle.queue_model.specs.Produce.{dropped, drop-in, look, look-expired}
-use Rattle.queue_model.proofs.Invariant.Events.{potential, LookSpends, look-spends}
+use Rattle.queue_model.proofs.Invariant.Events.{LookSpends, look-spends}
 use Rattle.stream_scheduler.specs.Link.{entryAt}
-use Rattle.queue_streams.specs.Events.{eventWords, written}
+use Rattle.queue_streams.specs.Events.{written}
 use Rattle.queue_streams.specs.Settings.{CalledWith, calledWith}
-use Rattle.queue_streams.specs.declared.answers.Call.{Call}
 use Rattle.queue_streams.specs.declared.answers.Call.the-variants.{Accepted}
 use Rattle.message_chains.specs.Dropping.{droppedInState, MayDrop}
 use Rattle.message_chains.proofs.Own.{may-drop}

@@ -1,9 +1,9 @@
 // The next fragment (Rust: produce, get_stream_to_produce_from).
 ghost use mathlib.Core.Path.{_≡_};
-ghost use Prim.Native.Nat.{_≤_, _<_};
+ghost use Prim.Native.Nat.{_≤_};
 ghost use lib.ListN.{length};
 ghost use Rattle.queue_sending.specs.Data.{producedWith};
-ghost use Rattle.queue_sending.specs.Produce.{lentCode, producedAfter};
+ghost use Rattle.queue_sending.specs.Produce.{producedAfter};
 ghost use Rattle.queue_state.specs.Good.{Good};
 ghost use Rattle.owned_sending.specs.Passing.{Payable};
 ghost use Rattle.owned_sending.specs.Produce.{refusalNumber, Lent, madeOf, OwnedProduce};

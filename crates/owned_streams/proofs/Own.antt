@@ -14,7 +14,6 @@ use Rattle.queue_words.specs.Streams.{isPaused, streamAt}
 use Rattle.queue_words.specs.declared.header.SchedulerState.{SchedulerState}
 use Rattle.queue_words.specs.declared.header.Totals.{Totals}
 use Rattle.queue_words.specs.declared.known.Known.{Known}
-use Rattle.queue_words.specs.declared.known.Found.the-variants.{At}
 use Rattle.queue_words.specs.declared.known.Spot.{Spot}
 use Rattle.queue_words.specs.declared.known.Spot.the-variants as spot
 use Rattle.queue_words.specs.declared.streams.OutgoingStream.{OutgoingStream}
@@ -27,7 +26,7 @@ use Rattle.queue_streams.specs.declared.answers.Flag.the-variants as flag
 use Rattle.queue_streams.specs.declared.answers.Number.the-variants as number
 use Rattle.queue_questions.specs.Questions.{waits, dataOf, readyAmong, readyOf}
 use Rattle.queue_questions.proofs.Exits.{ready-told}
-use Rattle.queue_restarts.specs.Ready.{pausedAt, oneMore, collected, countOf, readyCount}
+use Rattle.queue_restarts.specs.Ready.{pausedAt, oneMore, collected, readyCount}
 use Rattle.queue_state.proofs.Frames.{row-below}
 use Rattle.queue_state.proofs.Looks.{Lookup, known-at, new-at, lookup}
 use Rattle.linked_restarts.proofs.Marks.{accepted}

@@ -1,13 +1,10 @@
 -- Cases of two numbers, and what a choice by a test says of the test. Assumes nothing.
 use mathlib.Core.Path.{_≡_, refl}
 use mathlib.Core.Bool.{Bool, true, false}
-use Prim.Native.Nat.{ℕ, _≤_, _<_}
+use Prim.Native.Nat.{ℕ}
 use native.Mathlib.Omega.{arith}
 use native.Mathlib.Decide.{ℕ-discrete}
-use borrow.Author.Tests.{ltb-true, ltb-false}
-use lib.Dec.{ltb}
 use Rattle.queue_words.specs.Flags.{pick}
-use Rattle.queue_words.proofs.Finds.{by-lt}
 
 pub by-index : {G : Type 0} (i j : ℕ) → (i ≡ j → G) → ((i ≡ j → ⊥) → G) → G
 by-index {G} i j f g = go (ℕ-discrete i j)

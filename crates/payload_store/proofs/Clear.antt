@@ -10,7 +10,6 @@ use lib.Dec.{ltb, leb}
 use lib.ListN.{length}
 use Rattle.queue_words.specs.Flags.{pick}
 use Rattle.queue_words.specs.declared.header.Gaps.{Gaps}
-use Rattle.payload_store.specs.Words.{placeOf, sizeOf}
 use Rattle.payload_store.specs.Gaps.{room, spare, turned, gapsWrong, near, gapFor}
 use Rattle.payload_store.specs.Good.{ClearOf, Lay}
 use Rattle.payload_store.proofs.Cases.{pick-else, false-true}

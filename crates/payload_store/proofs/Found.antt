@@ -9,7 +9,7 @@ use native.Mathlib.Nat.{div-lt-iff-lt-mul, div-mul-le-self}
 use native.Mathlib.Numerals.{add-one}
 use borrow.Author.Tests.{lt-ltb, le-ltb, le-leb, lt-leb, eq-eqb, ne-eqb, ltb-false, leb-true}
 use lib.Dec.{ltb, leb}
-use lib.ListN.{length, getD, set, replicate, length-set, length-replicate}
+use lib.ListN.{length, getD, set, length-set, length-replicate}
 use lib.Seq.{getD-set-same, getD-set-other}
 use Rattle.queue_words.specs.Flags.{pick}
 use Rattle.queue_words.specs.declared.header.Gaps.{Gaps}
@@ -18,7 +18,7 @@ use Rattle.payload_store.specs.Words.{usedOf, placeOf, sizeOf}
 use Rattle.payload_store.specs.Gaps.{gaps}
 use Rattle.payload_store.specs.Searching.{lies, raised, reached, leftTo, reachTo, run, freeAt, greater, runOn, runTo, within, bytesOf, found}
 use Rattle.payload_store.specs.Good.{sumTo, ClearOf, Lay}
-use Rattle.payload_store.proofs.Cases.{by-index, pick-else, false-true}
+use Rattle.payload_store.proofs.Cases.{by-index, false-true}
 use Rattle.payload_store.proofs.Clear.{Ordered, lay-with}
 use Rattle.queue_words.proofs.Finds.{by-lt}
 

@@ -1,7 +1,7 @@
 -- The row that is moved next, by groups of rows: the best of the groups' least rows is the least row of all, and what is kept of a group holds while its
 -- row lies at or above the cursor. Assumes nothing.
 use mathlib.Core.Path.{_≡_, refl, sym, ap, _∙_}
-use mathlib.Core.Logic.{_⊎_, inl, inr, ⊎-elim}
+use mathlib.Core.Logic.{inl, inr, ⊎-elim}
 use mathlib.Core.List.{List}
 use Prim.Native.Nat.{ℕ, zero, suc, _+_, _*_, _/_, _≤_, _<_}
 use native.Mathlib.Omega.{arith}
@@ -13,7 +13,7 @@ use Rattle.queue_words.specs.Items.{putPlace}
 use Rattle.payload_store.specs.Words.{placeOf, sizeOf}
 use Rattle.payload_store.specs.Moving.{choose, least, leastIn, better, Hint, Hints, Exact}
 use Rattle.payload_store.proofs.Cases.{by-index}
-use Rattle.payload_store.proofs.Laws.{place-same, place-other, place-size}
+use Rattle.payload_store.proofs.Laws.{place-other, place-size}
 use Rattle.payload_store.proofs.Choice.{choose-dead, choose-low, choose-new, choose-less, choose-more}
 use Rattle.queue_words.proofs.Finds.{by-lt}
 

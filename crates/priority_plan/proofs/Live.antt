@@ -12,7 +12,7 @@ use Rattle.queue_model.specs.Types.{Item, Stream, Active, Options, Queue, Event
 use Rattle.queue_model.specs.Streams.{waiting}
 use Rattle.queue_model.specs.Refusals.{short-of, short-of-head}
 use Rattle.queue_model.specs.Amounts.{sent-events}
-use Rattle.queue_model.specs.Produce.{Look, look, numbered, make-fragment, handed-out-last, handed-out-part, handed-out, hand-out, after-look, pass-over, produce-checks, produce}
+use Rattle.queue_model.specs.Produce.{Look, look, numbered, make-fragment, handed-out, hand-out, after-look, pass-over, produce-checks, produce}
 use Rattle.queue_model.specs.Run.{step, run}
 use Rattle.queue_model.proofs.Tests.{holds, ltb-false, eqb-true}
 use Rattle.queue_model.proofs.Checks.{or-left, not-less, Passed, checked-past}

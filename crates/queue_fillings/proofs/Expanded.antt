@@ -1,24 +1,20 @@
 -- Each filling of a list may be replaced by its separate calls: the same queue is left, and every other call shows the same. Assumes nothing.
 use mathlib.Core.Path.{_≡_, refl, sym, ap, ap₂, _∙_, subst}
 use mathlib.Core.Bool.{Bool, true, false}
-use mathlib.Core.List.{List, [], _∷_, _++_, append-assoc, append-nil}
-use Prim.Native.Nat.{ℕ, _≤_, _<_, _^_}
+use mathlib.Core.List.{List, [], _∷_, _++_}
+use Prim.Native.Nat.{ℕ, _≤_}
 use native.Mathlib.Omega.{arith}
-use lib.ListN.{length, take}
+use lib.ListN.{length}
 use lib.Seq.{length-take-le}
 use Rattle.queue_words.specs.Flags.{pick}
-use Rattle.queue_model.specs.Types as plain
-use Rattle.queue_model.specs.Types.{Queue}
 use Rattle.queue_model.specs.Answers.{is-refused}
-use Rattle.queue_model.specs.Fill.{filling}
 use Rattle.queue_model.specs.Packets.{separate-calls}
 use Rattle.queue_model.specs.Run as run
 use Rattle.queue_model.proofs.Image.ByteRows.{take-bytes}
 use Rattle.queue_streams.specs.Events.{placesIn}
 use Rattle.packets.specs.declared.packet.Packet.{Packet}
 use Rattle.packets.specs.Filling.{packetOf}
-use Rattle.linked_packets.specs.Meaning.{filledOf}
-use Rattle.queue_runs.specs.Calls.{Call, add, produce, fill, discard, close, ready-ids, commit, rollback, reset, set-threshold, set-priority, set-interleaving, restore, ask-priority, ask-amount, ask-threshold, ask-total, ask-empty, ask-has-data, ask-streams-ready, ask-ready-count, ask-readiness, ask-room, callOf, Typed, NotFilling, Shown, filled}
+use Rattle.queue_runs.specs.Calls.{Call, add, produce, fill, discard, close, ready-ids, commit, rollback, reset, set-threshold, set-priority, set-interleaving, restore, ask-priority, ask-amount, ask-threshold, ask-total, ask-empty, ask-has-data, ask-streams-ready, ask-ready-count, ask-readiness, ask-room, Typed, NotFilling, Shown}
 use Rattle.queue_runs.specs.Run as runs
 use Rattle.queue_runs.specs.Run.{State, step}
 use Rattle.queue_runs.specs.Meaning.{queueOf, Good, AllTyped, callsOf}
@@ -26,7 +22,7 @@ use Rattle.queue_runs.specs.Refusals.{refusal}
 use Rattle.queue_runs.proofs.Steps.{step-link, meant}
 use Rattle.queue_runs.proofs.Runs.{run-link}
 use Rattle.queue_runs.proofs.Demand3.{stands}
-use Rattle.queue_fillings.specs.Expanded.{separately, sizesAsked, instead, expanded, apart, NoFillings, StandsFor, Request5-sizes, Request5-expanded}
+use Rattle.queue_fillings.specs.Expanded.{separately, sizesAsked, instead, expanded, apart, NoFillings, Request5-sizes, Request5-expanded}
 use Rattle.queue_fillings.proofs.Same.{Same, same-self, run-same, after-same}
 use Rattle.queue_fillings.proofs.Separate.{calls-next, AllWithin, sizes-within, accepted-next, refused-next, accepted-past, accepted-within}
 use Rattle.queue_fillings.proofs.Calls.{all-asked}

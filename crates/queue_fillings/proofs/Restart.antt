@@ -1,12 +1,11 @@
 -- After a strict reset the first fragment of every stream starts afresh (request 6/13), in packets too. Assumes nothing.
-use mathlib.Core.Path.{_≡_, refl, sym, ap, _∙_, subst}
+use mathlib.Core.Path.{_≡_, sym, ap, _∙_, subst}
 use mathlib.Core.Bool.{Bool, true, false}
 use mathlib.Core.List.{List, [], _∷_, _++_}
 use Prim.Native.Nat.{ℕ}
 use native.Mathlib.Omega.{arith}
 use Rattle.queue_words.specs.Flags.{pick}
-use Rattle.packets.specs.declared.packet.Packet.{Packet}
-use Rattle.queue_runs.specs.Calls.{Call, fill, reset, Typed, Shown}
+use Rattle.queue_runs.specs.Calls.{Call, fill, reset, Shown}
 use Rattle.queue_runs.specs.Run as runs
 use Rattle.queue_runs.specs.Run.{State, step}
 use Rattle.queue_runs.specs.Meaning.{Good, AllTyped}

@@ -1,7 +1,7 @@
 -- Every saved image is accepted by a new queue created alike, and restores what the Rust restores: demand 2 on images, on the code's definitions. Assumes nothing.
 use mathlib.Core.Path.{_≡_, refl, sym, ap, _∙_, subst}
 use mathlib.Core.Bool.{Bool}
-use mathlib.Core.List.{List, [], _∷_, _++_}
+use mathlib.Core.List.{List, [], _++_}
 use mathlib.Core.Option.{Option, none, some}
 use Prim.Native.Nat.{ℕ, _≤_, _<_, _^_}
 use native.Mathlib.Omega.{arith}
@@ -30,7 +30,7 @@ use Rattle.queue_runs.specs.Calls.{restore, set-interleaving, Shown}
 use Rattle.queue_runs.specs.Creation.{Arguments, optionsWith, newState, Creates}
 use Rattle.queue_runs.specs.Demand3.{Reached}
 use Rattle.queue_runs.specs.Meaning.{queueOf, Good, quietOf}
-use Rattle.queue_runs.specs.Run.{State, step, after}
+use Rattle.queue_runs.specs.Run.{State, after}
 use Rattle.queue_runs.proofs.Steps.{Stepped, step-link, meant}
 use Rattle.queue_runs.proofs.Runs.{run-link}
 use Rattle.queue_runs.proofs.News.{new-link, reached}

@@ -3,27 +3,24 @@ use mathlib.Core.Path.{_≡_, refl, sym}
 use mathlib.Core.Bool.{Bool, true, false}
 use mathlib.Core.List.{List, [], _∷_}
 use Prim.Native.Nat.{ℕ}
-use native.Mathlib.Omega.{arith}
 use lib.Dec.{eqb, ltb}
 use lib.ListN.{length}
 use borrow.Author.Tests.{ne-eqb}
 use Rattle.queue_words.specs.Flags.{pick}
 use Rattle.queue_words.specs.Header.{optionsAt}
 use Rattle.queue_streams.specs.Answers.{callNumber}
-use Rattle.queue_streams.specs.Settings.{Called, called}
+use Rattle.queue_streams.specs.Settings.{called}
 use Rattle.queue_streams.specs.declared.answers.Call.the-variants as call
 use Rattle.queue_messages.specs.Create.{createCode, create, newWords, newOptions}
-use Rattle.queue_runs.specs.Creation.{Arguments, creation}
 use Rattle.queue_runs.specs.Numbers.{among}
 use Rattle.queue_runs.specs.Refusals.{callRefused}
-use Rattle.queue_runs.specs.Run.{State}
 use Rattle.saving.specs.Bytes.{imageSize}
 use Rattle.saving.specs.Measure.{tallyQueue}
 use Rattle.saving.specs.Save.{SavedAs, savedAs, saveWith, saveImage}
 use Rattle.saving.specs.declared.image.Saved.the-variants.{Image, Refused}
 use Rattle.saving.specs.declared.measuring.Tally.{Tally}
 use Rattle.queue_images.specs.Refusals.{savedRefused}
-use Rattle.queue_images.specs.Numbers.{savedNumber, SaveRefusalsListed, SaveOtherStore, CreateRefused, CreateRefusals}
+use Rattle.queue_images.specs.Numbers.{savedNumber, SaveRefusalsListed, SaveOtherStore, CreateRefusals}
 use Rattle.payload_store.proofs.Cases.{false-true}
 
 -- ---- saving

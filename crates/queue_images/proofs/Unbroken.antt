@@ -36,7 +36,7 @@ use Rattle.queue_runs.proofs.Fragments.{data-append, step-data}
 use Rattle.queue_runs.proofs.MidMessage.{uninterleaved}
 use Rattle.queue_fillings.specs.Expanded.{separately, sizesAsked, instead}
 use Rattle.queue_fillings.proofs.Expanded.{stands-call}
-use Rattle.queue_images.specs.Demand2.{Saves, freshState}
+use Rattle.queue_images.specs.Demand2.{Saves}
 use Rattle.queue_images.specs.Unbroken.{Continues, starts, allIn, Onward, New, as-created, as-chosen, Sends, begins, goes-on, packs, changes-over, Request10-unbroken, Request10-together}
 use Rattle.queue_images.proofs.Demand2 as images
 

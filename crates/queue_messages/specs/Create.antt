@@ -1,9 +1,8 @@
 -- Creating a queue in lent words. Assumes nothing.
 use Prim.Native.Nat.{ℕ, zero, suc, _+_, _%_}
-use mathlib.Core.Bool.{Bool, true, false}
+use mathlib.Core.Bool.{Bool, false}
 use mathlib.Core.List.{List}
 use lib.Dec.{ltb, eqb}
-use lib.ListN.{length}
 use Rattle.queue_words.specs.Flags.{pick}
 use Rattle.queue_words.specs.Header.{isStrict, putOptions, putTotals, putScheduler}
 use Rattle.queue_words.specs.Items.{putNext, putPlace, putLength}

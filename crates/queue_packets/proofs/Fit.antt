@@ -1,10 +1,9 @@
 -- The numbers of the fragments that calls give have their widths. Assumes nothing.
-use mathlib.Core.Path.{_≡_, refl, sym, ap, _∙_, subst}
+use mathlib.Core.Path.{sym, subst}
 use mathlib.Core.List.{List, [], _∷_}
 use mathlib.Core.Option.{Option, none, some}
 use Prim.Native.Nat.{ℕ, _<_, _^_}
-use native.Mathlib.Omega.{arith}
-use Rattle.queue_model.specs.Types.{Queue, Fragment, Answer, refused, fragment, nothing-waits, Stream, Item, Active, Step, refuse}
+use Rattle.queue_model.specs.Types.{Queue, Fragment, Answer, Stream, Item, Active, Step}
 use Rattle.queue_model.specs.Answers.{fragment-in}
 use Rattle.queue_model.specs.Produce.{produce, make-fragment, numbered}
 use Rattle.queue_model.specs.Packets.{before, shown-fragments, separate-calls}

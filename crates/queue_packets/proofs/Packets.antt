@@ -3,43 +3,36 @@ use mathlib.Core.Path.{_≡_, refl, sym, ap, ap₂, _∙_, subst}
 use mathlib.Core.Bool.{Bool}
 use mathlib.Core.List.{List, [], _∷_, _++_}
 use mathlib.Core.Option.{Option, none, some}
-use Prim.Native.Nat.{ℕ, suc, _≤_, _<_, _%_, _^_}
+use Prim.Native.Nat.{ℕ, _<_, _^_}
 use native.Mathlib.Omega.{arith}
 use lib.ListN.{length, take, drop}
 use lib.Seq.{take-append-seam}
 use Rattle.types.specs.Wrap.{wrap-suc}
-use Rattle.types.specs.Keys.{key-of, key-id}
 use Rattle.types.specs.declared.StreamId.{StreamId}
-use Rattle.queue_model.specs.Types as plain
-use Rattle.queue_model.specs.Types.{Queue, Fragment, Event, Step, refuse, reply}
+use Rattle.queue_model.specs.Types.{Queue, Fragment, Event, Step, refuse}
 use Rattle.queue_model.specs.Fill as spec
-use Rattle.queue_model.specs.Fill.{common-header-length, fragment-chunk, packet-bytes, fill-checks}
+use Rattle.queue_model.specs.Fill.{common-header-length, packet-bytes, fill-checks}
 use Rattle.queue_model.specs.Packets.{shown-events, shown-fragments, separate-calls, cut-chunks, each-chunk, Writable, Fills}
 use Rattle.queue_model.specs.Packets as model
-use Rattle.queue_model.specs.Refusals.{first-refusal, refused-or, checked, event-places}
+use Rattle.queue_model.specs.Refusals.{first-refusal, refused-or, checked}
 use Rattle.queue_model.specs.Run as run
 use Rattle.queue_model.proofs.Fill.Request5 as theorem
-use Rattle.queue_streams.specs.Events.{placesIn, written}
-use Rattle.chunks.specs.Layout.{chunkBytes}
+use Rattle.queue_streams.specs.Events.{placesIn}
 use Rattle.chunks.specs.Promise.{InWidth, ReadsBack}
 use Rattle.chunks.proofs.Theorems.{reads-back}
 use Rattle.packets.specs.declared.packet.Packet.{Packet}
-use Rattle.packets.specs.declared.packet.PacketFilled.{PacketFilled}
 use Rattle.packets.specs.declared.packet.PacketFilled.the-variants as packet
 use Rattle.packets.specs.Filling.{packetOf, kindOf}
 use Rattle.linked_sending.specs.Meaning.{dataOf}
-use Rattle.linked_packets.specs.Meaning.{filledOf}
 use Rattle.linked_packets.proofs.Chunk.{chunk-same}
-use Rattle.queue_runs.specs.Calls.{fill, Typed, filled, Shown}
-use Rattle.queue_runs.specs.Calls as calls
+use Rattle.queue_runs.specs.Calls.{fill, filled, Shown}
 use Rattle.queue_runs.specs.Run.{State, step}
 use Rattle.queue_runs.specs.Meaning.{queueOf, packedOf}
-use Rattle.queue_runs.specs.Creation.{Arguments, optionsWith}
-use Rattle.queue_runs.specs.Demand3.{Reached}
+use Rattle.queue_runs.specs.Creation.{optionsWith}
 use Rattle.queue_runs.proofs.Steps.{step-link, meant}
 use Rattle.queue_runs.proofs.Demand3.{stands}
 use Rattle.queue_runs.proofs.Account.{key-same}
-use Rattle.queue_packets.specs.Packets.{EachRead, Separately, Request5}
+use Rattle.queue_packets.specs.Packets.{EachRead, Request5}
 use Rattle.queue_packets.proofs.Fit.{Fits, AllFit, all-fit}
 
 -- ---- the chunks read

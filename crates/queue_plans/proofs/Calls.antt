@@ -8,7 +8,7 @@ use lib.ListN.{length}
 use Rattle.queue_model.specs.Refusals.{event-places}
 use Rattle.queue_model.specs.Run as run
 use Rattle.queue_streams.specs.Events.{eventWords}
-use Rattle.queue_runs.specs.Calls.{Call, callOf, set-priority, set-interleaving}
+use Rattle.queue_runs.specs.Calls.{Call, callOf}
 use Rattle.queue_runs.specs.Meaning.{AllTyped, callsOf}
 use Rattle.priority_plan.specs.Works.{planned-streams}
 use Rattle.priority_plan.specs.Jobs as model

@@ -1,21 +1,21 @@
 -- Accepted messages make a job of the model. Assumes nothing.
-use mathlib.Core.Path.{_≡_, sym, ap, _∙_, subst}
+use mathlib.Core.Path.{_≡_, sym, _∙_, subst}
 use mathlib.Core.List.{List, map}
 use Prim.Native.Nat.{ℕ, _<_, _^_}
-use lib.ListN.{length, length-map}
+use lib.ListN.{length}
 use Rattle.queue_model.specs.Types as plain
 use Rattle.queue_model.specs.Demands as demands
 use Rattle.queue_runs.specs.Run.{State}
 use Rattle.queue_runs.specs.Meaning.{AllTyped}
 use Rattle.queue_runs.specs.Creation.{Arguments, optionsWith, Creates}
 use Rattle.queue_runs.proofs.News.{new-link}
-use Rattle.priority_plan.specs.Works.{All, IsPriority, PlannedStream, planned-streams}
+use Rattle.priority_plan.specs.Works.{All, IsPriority, planned-streams}
 use Rattle.priority_plan.specs.Jobs as model
 use Rattle.priority_plan.specs.Turns as turns
 use Rattle.priority_plan.specs.Runs as requests
 use Rattle.priority_plan.proofs.Answer.{GoodList}
-use Rattle.priority_plan.proofs.OwnJob.{plan-job, ids-are}
-use Rattle.queue_plans.specs.Jobs.{settings, Adding, addingCall, Later, times, addedLater, prepared, loaded, addingsOf, Load, Timely}
+use Rattle.priority_plan.proofs.OwnJob.{plan-job}
+use Rattle.queue_plans.specs.Jobs.{settings, Adding, addingCall, Later, addedLater, prepared, loaded, addingsOf, Load, Timely}
 use Rattle.queue_plans.proofs.Calls.{laterOf, addings-link, times-link, added-link, added-typed}
 use Rattle.queue_plans.proofs.Queues.{Stands, accepted-there, plain-messages, settings-typed, messages-typed, prepared-stands, loaded-stands}
 use Rattle.priority_plan.proofs.Loops.{planned-count}

@@ -10,7 +10,7 @@ use borrow.Author.Tests.{lt-ltb, le-ltb}
 use Rattle.queue_model.specs.Questions.{free-store}
 use Rattle.queue_words.specs.Find.{findStream}
 use Rattle.queue_words.specs.Header.{optionsAt, totalsAt}
-use Rattle.queue_words.specs.Known.{knownAt, knownCount}
+use Rattle.queue_words.specs.Known.{knownAt}
 use Rattle.queue_words.specs.Streams.{isPaused, streamAt}
 use Rattle.queue_words.specs.declared.header.Options.{Options}
 use Rattle.queue_words.specs.declared.header.Totals.{Totals}
@@ -23,7 +23,6 @@ use Rattle.stream_scheduler.specs.declared.Peeked.{Peeked}
 use Rattle.stream_scheduler.specs.declared.Peeked.the-variants as peeked
 use Rattle.queue_streams.specs.Known.{newStream}
 use Rattle.queue_questions.specs.Questions.{streamOrNew, priorityOf, amountOf, thresholdOf, dataOf, readyAmong, readyOf, readinessOf, roomOf}
-use Rattle.queue_streams.specs.declared.answers.Call.the-variants.{Refused}
 use Rattle.queue_streams.specs.declared.answers.Flag.the-variants as flag
 use Rattle.queue_streams.specs.declared.answers.Number.the-variants as number
 use Rattle.queue_questions.specs.declared.questions.Looked.{Looked}

@@ -6,7 +6,7 @@ use mathlib.Core.List.{List}
 use Prim.Native.Nat.{ℕ, _+_, _*_, _<_}
 use native.Mathlib.Omega.{arith, ne-cases}
 use lib.Dec.{ltb}
-use lib.ListN.{length, set, length-set}
+use lib.ListN.{length, length-set}
 use Rattle.queue_words.specs.Flags.{pick}
 use Rattle.queue_words.specs.Rows.{row}
 use Rattle.queue_words.specs.Header.{optionsOf, optionsAt, totalsOf, totalsAt, schedulerOf, schedulerAt}

@@ -34,9 +34,7 @@ use queue_words::streams::PauseState;
 use queue_words::streams::load_stream;
 use queue_words::streams::store_stream;
 use queue_words::whole;
-use types::Fsn;
 use types::Mid;
-use types::OutgoingMessageId;
 use types::Ssn;
 
 // The sent bytes of a head message, which come back.

@@ -21,8 +21,6 @@ use Rattle.queue_words.specs.declared.known.Found.the-variants as found
 use Rattle.queue_words.specs.declared.known.Known.{Known}
 use Rattle.queue_words.specs.declared.streams.OutgoingStream.{OutgoingStream}
 use Rattle.payload_store.proofs.Cases.{by-index, pick-else, pick-both, false-true}
-use Rattle.payload_store.specs.Dropping.{dropCode}
-use Rattle.payload_store.specs.Putting.{putCode}
 use Rattle.payload_store.specs.Reading.{readCode}
 use Rattle.queue_questions.specs.Questions.{priorityOf, amountOf, thresholdOf, streamOrNew, readyOf}
 use Rattle.queue_streams.specs.Answers.{callNumber, numberNumber}
@@ -34,7 +32,7 @@ use Rattle.queue_streams.specs.Waiting.{tallyStream, tallyKnown, tally, roomFor
 use Rattle.queue_streams.specs.declared.answers.Call.the-variants as call
 use Rattle.queue_streams.specs.declared.known.Place.the-variants as place
 use Rattle.queue_streams.specs.declared.waiting.Tally.{Tally}
-use Rattle.stream_scheduler.specs.Words.{waitsIn, peekWords}
+use Rattle.stream_scheduler.specs.Words.{waitsIn}
 use Rattle.message_chains.specs.Amounts.{rest}
 use Rattle.message_chains.specs.Dropping.{droppedInState}
 use Rattle.message_chains.specs.Heads.{headCode}
@@ -45,16 +43,16 @@ use Rattle.queue_messages.specs.Add as adding
 use Rattle.queue_messages.specs.Discard as discarding
 use Rattle.queue_messages.specs.declared.message.Message.{Message}
 use Rattle.queue_restarts.specs.Ready as readying
-use Rattle.queue_restarts.specs.Reset.{resetQueue, sumOf, sumAll, sumKnown, sumStream, putBack}
+use Rattle.queue_restarts.specs.Reset.{resetQueue, sumOf, sumAll, sumKnown, sumStream}
 use Rattle.queue_restarts.specs.declared.whole.Sum.{Sum}
 use Rattle.queue_sending.specs.Choice.{lookAhead, lookFor, lookAt}
 use Rattle.queue_sending.specs.Data.{producedNumber, refusedWith}
 use Rattle.queue_sending.specs.Fragment.{handedOut, sent, sendCode, leastOf}
-use Rattle.queue_sending.specs.Produce.{produceCode, produceNext, producedAfter, producedPast, pastFrom, passOver, expiredDropped}
+use Rattle.queue_sending.specs.Produce.{produceNext, producedAfter, producedPast, pastFrom, passOver, expiredDropped}
 use Rattle.queue_sending.specs.declared.choice.Look.the-variants as look
 use Rattle.queue_sending.specs.declared.data.Produced.the-variants as produced
 use Rattle.queue_runs.specs.Run.{State, step}
-use Rattle.queue_runs.specs.Broken.{Misplaced, Unplaced, UnplacedGets, UnplacedIsSixteen, LostGets, LostIsSixteen, CrowdedGets, CrowdedIsSixteen, AstrayGets, AstrayIsSixteen, ChosenBare, ChosenBareIsSixteen, Short, headOf, Unfit, UnfitChosenIsSixteen, UnfitExpiredIsSixteen, UnfitHead, UnfitHeadIsSixteen, restFrom, inTable, droppedFrom, ShortClosing, ShortClosingIsSixteen, Over, NoPlace, OverGets, OverIsSixteen, putBackAt, putBackBy, OverReset, OverResetIsSixteen}
+use Rattle.queue_runs.specs.Broken.{Unplaced, UnplacedIsSixteen, LostIsSixteen, CrowdedIsSixteen, AstrayIsSixteen, ChosenBare, ChosenBareIsSixteen, Short, headOf, Unfit, UnfitChosenIsSixteen, UnfitExpiredIsSixteen, UnfitHeadIsSixteen, restFrom, inTable, droppedFrom, ShortClosingIsSixteen, Over, NoPlace, OverIsSixteen, putBackAt, putBackBy, OverReset, OverResetIsSixteen}
 
 -- one refusal before another
 pick-16 : (b : Bool) {n : ℕ} → n ≡ 16 → pick b 16 n ≡ 16

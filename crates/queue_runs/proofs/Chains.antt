@@ -31,7 +31,7 @@ use Rattle.queue_runs.specs.Run as runs
 use Rattle.queue_runs.specs.Meaning.{queueOf, Good, AllTyped, callsOf, allShownOf}
 use Rattle.queue_runs.specs.Creation.{Arguments, optionsWith, newState, Creates}
 use Rattle.queue_runs.specs.History.{historyOf}
-use Rattle.queue_runs.specs.Chains.{noPlace, firstAt, lastAt, firstOf, lastOf, placesOf, chainMessages, Chain, Apart, newQueue, historyAfter, waitingAfter, arrivedAfter, Request4-chains}
+use Rattle.queue_runs.specs.Chains.{noPlace, firstAt, lastAt, firstOf, placesOf, chainMessages, Chain, Apart, newQueue, historyAfter, waitingAfter, arrivedAfter, Request4-chains}
 use Rattle.queue_runs.proofs.Runs.{run-link}
 use Rattle.queue_runs.proofs.News.{new-link}
 use Rattle.queue_runs.proofs.History.{history-same}

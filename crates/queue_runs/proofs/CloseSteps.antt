@@ -2,7 +2,6 @@
 use mathlib.Core.Path.{_≡_, refl, sym, ap, subst, _∙_}
 use mathlib.Core.Bool.{true, false}
 use mathlib.Core.List.{List, [], _∷_, _++_, append-assoc, append-nil}
-use mathlib.Core.Option.{none}
 use Prim.Native.Nat.{ℕ}
 use borrow.Author.Tests.{eq-eqb, ne-eqb}
 use lib.Dec.{eqb}
@@ -19,7 +18,6 @@ use Rattle.queue_model.specs.Demands.{Reachable, called}
 use Rattle.queue_model.proofs.Invariant.OneStream.{plain}
 use Rattle.queue_model.proofs.Invariant.Fates.{plain-pending, plain-paused, ready-pending, Discards, discard-stays, discard-ends, discard-pending, discard-paused, Sends, send-stays, send-further, send-delivers, send-expires, produce-pending, produce-paused}
 use Rattle.queue_model.proofs.Invariant.Closing.{paused-listed, pending-unlisted}
-use Rattle.queue_sending.specs.declared.data.Produced.the-variants as produced
 use Rattle.packets.specs.declared.packet.Packet.{Packet}
 use Rattle.linked_restarts.specs.Ids.{readyOf}
 use Rattle.linked_sending.specs.Meaning.{producedOf, bufferOf}

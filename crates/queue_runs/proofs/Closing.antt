@@ -13,7 +13,6 @@ use Rattle.queue_model.specs.Streams.{stream-at}
 use Rattle.queue_model.specs.Closing.{half-sent, unsent, FurtherOn, Pending, Paused}
 use Rattle.queue_model.specs.Waiting.{is-waiting}
 use Rattle.queue_model.specs.Questions.{amount-of}
-use Rattle.queue_model.specs.Run as run
 use Rattle.queue_model.proofs.Invariant.Well.{kept-at, amount-le}
 use Rattle.queue_model.proofs.Invariant.Serving.{waits-above}
 use Rattle.queue_model.proofs.Invariant.Closing.{Begins, Leaves, close-leaves, pending-offset, pending-waits, nothing-waits-then, Falls, is-refused, nothing-left, falls, produce-falls}
@@ -22,7 +21,7 @@ use Rattle.queue_streams.specs.Events.{placesIn}
 use Rattle.queue_sending.specs.declared.data.Produced.the-variants as produced
 use Rattle.linked_sending.specs.Meaning.{producedOf}
 use Rattle.linked_streams.proofs.Asks.{total-asked}
-use Rattle.queue_runs.specs.Calls.{Call, produce, discard, close, reset, callOf, Typed, Shown, sent}
+use Rattle.queue_runs.specs.Calls.{Call, produce, discard, close, callOf, Typed, Shown, sent}
 use Rattle.queue_runs.specs.Run as runs
 use Rattle.queue_runs.specs.Run.{State, step}
 use Rattle.queue_runs.specs.Meaning.{queueOf, AllTyped, sentOf, loudOf}

@@ -67,16 +67,15 @@ use Rattle.queue_runs.specs.Run.{step}
 use Rattle.queue_runs.specs.Refusals.{callRefused, sentRefused, fillRefused, numberRefused, flagRefused}
 use Rattle.queue_streams.specs.Answers.{callNumber, numberNumber, flagNumber}
 use Rattle.queue_sending.specs.Data.{producedNumber}
-use Rattle.queue_model.specs.Fill.{common-header-length, common-header}
+use Rattle.queue_model.specs.Fill.{common-header-length}
 use Rattle.types.specs.Wrap.{wrap-suc}
 use Rattle.queue_model.specs.Chunks.{padded}
 use Rattle.chunks.specs.Layout.{headerSize}
 use Rattle.chunks.specs.declared.chunk.ChunkKind.{ChunkKind}
-use Rattle.big_endian.specs.Numbers.{wrote}
 use Rattle.packets.specs.declared.filling.Filling.{Filling}
 use Rattle.packets.specs.declared.packet.Packet.{Packet}
 use Rattle.packets.specs.declared.packet.PacketFilled.the-variants as packet
-use Rattle.packets.specs.Filling.{packetOf, kindOf, fillCode, oneFilled, FillingWith, fillingWith, reached, afterOne, andOn, sizeAsked, fillOn, FilledWith, filledWith, filledNumber, finishedAnswer, finishedPacket, finished, fillPacket}
+use Rattle.packets.specs.Filling.{kindOf, fillCode, oneFilled, FillingWith, fillingWith, reached, afterOne, andOn, sizeAsked, fillOn, filledWith, filledNumber, finishedAnswer, finished, fillPacket}
 use Rattle.queue_runs.specs.Numbers.{among, RefusalsListed}
 use Rattle.payload_store.proofs.Cases.{false-true}
 

@@ -1,14 +1,12 @@
 -- A queue that never had interleaving remembers the stream in mid-message, and sends its rest first: document 02's 10/13 on the code. Assumes nothing.
 use mathlib.Core.Path.{_≡_, refl, sym, ap, subst, _∙_}
-use mathlib.Core.Bool.{Bool, true, false}
-use mathlib.Core.Option.{Option, none, some}
+use mathlib.Core.Bool.{false}
+use mathlib.Core.Option.{Option, some}
 use mathlib.Core.List.{List}
 use Prim.Native.Nat.{ℕ}
 use native.Mathlib.Omega.{arith}
-use lib.Dec.{ltb}
 use lib.ListN.{length}
 use Rattle.types.specs.declared.StreamId.{StreamId}
-use Rattle.queue_model.specs.Logic.{if_then_else_}
 use Rattle.queue_model.specs.Types as plain
 use Rattle.queue_model.specs.Types.{Item, Fragment, Outcome}
 use Rattle.queue_model.specs.Image.{Handover}

@@ -2,7 +2,7 @@
 use mathlib.Core.Path.{_≡_, refl, sym, ap, subst, _∙_}
 use mathlib.Core.Bool.{Bool, true, false}
 use mathlib.Core.List.{List}
-use Prim.Native.Nat.{ℕ, zero, suc, _+_, _-_, _*_, _≤_, _<_}
+use Prim.Native.Nat.{ℕ, suc, _+_, _-_, _*_, _≤_, _<_}
 use native.Mathlib.Numerals.{add-one}
 use native.Mathlib.Omega.{arith}
 use borrow.Author.Tests.{ltb-false}
@@ -24,7 +24,7 @@ use Rattle.undo_log.proofs.Changes.{drop-near, waiting-row-below}
 use Rattle.undo_log.proofs.Steps.{kept-step, keeping-before}
 use Rattle.queue_sending.specs.Choice.{lookAhead}
 use Rattle.queue_sending.specs.Passing.{Kept}
-use Rattle.queue_sending.specs.Produce.{expiredDropped, passed}
+use Rattle.queue_sending.specs.Produce.{expiredDropped}
 use Rattle.queue_sending.specs.declared.choice.Look.{Look}
 use Rattle.queue_sending.specs.declared.choice.Look.the-variants as look
 use Rattle.queue_sending.proofs.Counts.{Fits, Wrote, wrote-none, wrote-dropped}

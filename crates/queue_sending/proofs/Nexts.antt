@@ -17,7 +17,7 @@ use Rattle.queue_words.specs.declared.items.Item.{Item}
 use Rattle.queue_words.specs.declared.streams.OutgoingStream.{OutgoingStream}
 use Rattle.stream_scheduler.specs.Own.{HasRow}
 use Rattle.queue_streams.specs.Events.{placeWords, eventWords}
-use Rattle.queue_streams.specs.Settings.{CalledWith, calledWith}
+use Rattle.queue_streams.specs.Settings.{calledWith}
 use Rattle.queue_streams.specs.declared.answers.Call.{Call}
 use Rattle.queue_streams.specs.declared.answers.Call.the-variants as call
 use Rattle.undo_log.specs.Log.{header, undone}

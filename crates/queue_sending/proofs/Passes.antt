@@ -15,7 +15,6 @@ use Rattle.queue_words.specs.Active.{activeAt}
 use Rattle.queue_words.specs.Items.{itemAt, areGiven}
 use Rattle.queue_words.specs.Streams.{streamAt}
 use Rattle.queue_words.specs.Header.{optionsAt, totalsAt}
-use Rattle.queue_words.specs.declared.header.Totals.{Totals}
 use Rattle.queue_words.specs.declared.items.Item.{Item}
 use Rattle.queue_words.specs.declared.streams.OutgoingStream.{OutgoingStream}
 use Rattle.queue_streams.specs.Events.{placeWords, eventWords}

@@ -1,6 +1,6 @@
 -- What is read after a store of the words of a message that goes on: as if its three rows had been stored whole with those changed. Assumes nothing.
 use mathlib.Core.Path.{_≡_, ap, _∙_}
-use mathlib.Core.Logic.{_⊎_, inl, inr}
+use mathlib.Core.Logic.{inl, inr}
 use mathlib.Core.List.{List}
 use Prim.Native.Nat.{ℕ, _+_, _*_, _<_}
 use native.Mathlib.Omega.{arith, ne-cases}
@@ -14,7 +14,6 @@ use Rattle.queue_words.specs.Streams.{streamOf, streamAt}
 use Rattle.queue_words.specs.Items.{itemOf, itemAt}
 use Rattle.queue_words.specs.Active.{activeOf, activeAt}
 use Rattle.queue_sending.specs.Progress.{putProgress, withTotal, withAmount, withPart}
-use Rattle.queue_words.specs.declared.items.Item.{Item}
 use Rattle.queue_words.proofs.Rows.{Apart, row-set-word, row-word-other}
 
 module _ (ws : List ℕ) (r i total amount fsn offset : ℕ) where

@@ -1,7 +1,7 @@
 -- Words that are alike: the messages are the same, and alike is transitive. Assumes nothing.
-use mathlib.Core.Path.{_≡_, refl, sym, ap, _∙_}
+use mathlib.Core.Path.{_≡_, ap, _∙_}
 use mathlib.Core.List.{List}
-use Prim.Native.Nat.{ℕ, _≤_, _<_}
+use Prim.Native.Nat.{ℕ, _<_}
 use lib.ListN.{length}
 use Rattle.queue_words.specs.Header.{totalsAt, putTotals, FitsTotals}
 use Rattle.queue_words.specs.declared.header.Totals.{Totals}

@@ -31,7 +31,7 @@ use Rattle.stream_scheduler.proofs.Link.{remove-link, set-link}
 use Rattle.queue_streams.specs.Events.{eventWords, written}
 use Rattle.queue_streams.specs.Settings.{CalledWith, calledWith}
 use Rattle.queue_streams.specs.Waiting.{headSize, parametersFor, rescheduled}
-use Rattle.queue_streams.specs.declared.answers.Call.the-variants.{Accepted, Refused}
+use Rattle.queue_streams.specs.declared.answers.Call.the-variants.{Accepted}
 use Rattle.message_chains.specs.Amounts.{rest}
 use Rattle.message_chains.specs.Dropping.{scheduledBehind, endPending, behindDropped, droppedInState}
 use Rattle.message_chains.specs.Heads.{headCode, headDropped, dropNotes, withoutHead}

@@ -1,8 +1,8 @@
 -- What a call leaves alone: rows of streams, chains, messages. Every call's link uses these. Assumes nothing.
 use mathlib.Core.Path.{_≡_, refl, sym, ap, _∙_}
 use mathlib.Core.Bool.{Bool, true, false}
-use mathlib.Core.List.{List, [], _∷_}
-use Prim.Native.Nat.{ℕ, _+_, _≤_, _<_}
+use mathlib.Core.List.{List}
+use Prim.Native.Nat.{ℕ, _≤_, _<_}
 use native.Mathlib.Omega.{arith}
 use borrow.Author.Tests.{ltb-true}
 use lib.Dec.{ltb}
@@ -15,17 +15,13 @@ use Rattle.queue_words.specs.Streams.{streamAt}
 use Rattle.queue_words.specs.declared.items.Item.{Item}
 use Rattle.queue_words.specs.declared.known.Known.{Known}
 use Rattle.queue_words.specs.declared.streams.OutgoingStream.{OutgoingStream}
-use Rattle.queue_model.specs.Types.{Stream}
-use Rattle.queue_model.specs.Types as plain
-use Rattle.queue_model.specs.Streams.{find-stream, stream-key}
 use Rattle.payload_store.specs.Good.{payloadOf}
 use Rattle.payload_store.specs.Words.{sizeOf}
-use Rattle.queue_state.specs.Chains.{chain, Linked, lastOf, count, each, total, one, Split}
-use Rattle.queue_state.specs.Model.{nextOf, itemOf, itemIn, streamOf, rowAt, itemsAt, streamIn, streamsIn, tab}
+use Rattle.queue_state.specs.Chains.{Linked, count, each, one, Split}
+use Rattle.queue_state.specs.Model.{nextOf, itemIn, streamOf, rowAt, itemsAt, streamIn}
 use Rattle.queue_state.specs.Good.{Row, Shape}
 use Rattle.queue_state.proofs.Chains.{linked-frame, each-frame, linked-chain}
 use Rattle.queue_state.proofs.Splits.{row-short, total-has}
-use Rattle.payload_store.proofs.Cases.{by-index}
 
 -- The message in place x is as it was, and so is what is behind it.
 pub record Same (ws st ws′ st′ : List ℕ) (x : ℕ) : Type 0 where

@@ -1,26 +1,23 @@
 -- Where a stream is: in the words, and among the model's streams. Assumes nothing.
-use mathlib.Core.Path.{_≡_, refl, sym, ap, _∙_, subst}
-use mathlib.Core.Bool.{Bool, true, false, not, _&&_}
-use mathlib.Core.List.{List, [], _∷_}
-use mathlib.Core.Option.{Option, none, some}
+use mathlib.Core.Path.{_≡_, sym, _∙_, subst}
+use mathlib.Core.Bool.{false}
+use mathlib.Core.List.{List}
+use mathlib.Core.Option.{none, some}
 use Prim.Native.Nat.{ℕ, zero, suc, _≤_, _<_}
 use native.Mathlib.Omega.{arith}
-use borrow.Author.Tests.{lt-ltb, le-ltb, le-leb, lt-leb}
-use lib.Dec.{ltb, leb}
+use borrow.Author.Tests.{lt-ltb, le-ltb}
+use lib.Dec.{leb}
 use lib.ListN.{length}
-use Rattle.queue_words.specs.Flags.{pick}
 use Rattle.queue_words.specs.Header.{optionsAt, totalsAt}
-use Rattle.queue_words.specs.Known.{knownAt, idAt}
+use Rattle.queue_words.specs.Known.{idAt}
 use Rattle.queue_words.specs.Find.{findStream}
-use Rattle.queue_words.specs.declared.known.Found.{Found}
-use Rattle.queue_words.specs.declared.known.Found.the-variants.{At, Gap, Broken}
-use Rattle.queue_words.proofs.Finds.{find-at, find-gap, NotKnown, by-lt}
+use Rattle.queue_words.specs.declared.known.Found.the-variants.{At, Gap}
+use Rattle.queue_words.proofs.Finds.{find-at, find-gap, NotKnown}
 use Rattle.queue_model.specs.Logic.{is-some}
-use Rattle.queue_model.specs.Types.{Stream, Queue}
+use Rattle.queue_model.specs.Types.{Stream}
 use Rattle.queue_model.specs.Streams.{find-stream, stream-key, stream-at, new-stream, too-many}
 use Rattle.queue_model.proofs.Streams.{at-found, at-new}
-use Rattle.queue_streams.specs.Known.{lookUp, placeOf}
-use Rattle.queue_streams.specs.declared.known.Place.{Place}
+use Rattle.queue_streams.specs.Known.{lookUp}
 use Rattle.queue_streams.specs.declared.known.Place.the-variants as place
 use Rattle.queue_state.specs.Model.{rowAt, optionsOf, streamIn, streamsIn, model, tab}
 use Rattle.queue_state.specs.Good.{Shape}

@@ -3,7 +3,6 @@ use mathlib.Core.Path.{_≡_, refl, sym, ap, _∙_, subst}
 use mathlib.Core.List.{List, _∷_}
 use Prim.Native.Nat.{ℕ, _≤_, _<_}
 use native.Mathlib.Omega.{arith}
-use lib.ListN.{length}
 use Rattle.queue_words.specs.Header.{totalsAt}
 use Rattle.queue_words.specs.Items.{itemAt, putItem, FitsItem}
 use Rattle.queue_words.specs.Known.{idAt}
@@ -11,7 +10,6 @@ use Rattle.queue_words.specs.Streams.{streamAt}
 use Rattle.queue_words.specs.declared.header.Totals.{Totals}
 use Rattle.queue_words.specs.declared.items.Item.{Item}
 use Rattle.queue_words.proofs.Laws
-use Rattle.queue_model.specs.Types as plain
 use Rattle.queue_model.specs.Streams.{put-stream}
 use Rattle.payload_store.specs.Words.{sizeOf, usedOf, placeOf}
 use Rattle.payload_store.specs.Good.{payloadOf}

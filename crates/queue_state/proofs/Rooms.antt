@@ -9,7 +9,6 @@ use borrow.Author.Tests.{lt-ltb, le-ltb}
 use lib.Dec.{leb}
 use lib.ListN.{length}
 use Rattle.queue_words.specs.Header.{totalsAt, schedulerAt}
-use Rattle.queue_words.specs.Items.{itemAt}
 use Rattle.queue_words.specs.Known.{idAt}
 use Rattle.queue_words.proofs.Laws.{known-at-fits}
 use Rattle.queue_model.specs.Logic.{if_then_else_}
@@ -24,7 +23,7 @@ use Rattle.queue_model.proofs.Scheduler.{set-none, set-some, reschedule-of}
 use Rattle.queue_model.proofs.Streams.{size-unknown, head-size-nil}
 use Rattle.queue_model.proofs.Invariant.Waits.{Listed, scheduled-id}
 use Rattle.queue_model.proofs.Invariant.Well.{Well}
-use Rattle.stream_scheduler.specs.Link.{GoodScheduler, Room, listed, free, Unlike, Untouched, FitsParameters, entryAt, tableOf, modelScheduler, Steps}
+use Rattle.stream_scheduler.specs.Link.{GoodScheduler, Room, listed, free, Unlike, Untouched, entryAt, tableOf, modelScheduler, Steps}
 use Rattle.stream_scheduler.specs.Rows.{weightOf}
 use Rattle.stream_scheduler.specs.Words.{setBytesRemaining, removeStream, acceptAt}
 use Rattle.stream_scheduler.specs.Anew.{acceptLast}

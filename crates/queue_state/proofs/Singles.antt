@@ -1,41 +1,36 @@
 -- Steps that touch one part: the scheduler, one stream's row, the totals. Assumes nothing.
-use mathlib.Core.Path.{_≡_, refl, sym, ap, _∙_, subst}
+use mathlib.Core.Path.{_≡_, refl, sym, ap, _∙_}
 use mathlib.Core.Bool.{Bool}
-use mathlib.Core.List.{List, [], _∷_}
-use Prim.Native.Nat.{ℕ, _+_, _≤_, _<_}
+use mathlib.Core.List.{List}
+use Prim.Native.Nat.{ℕ, _≤_, _<_}
 use native.Mathlib.Omega.{arith}
 use lib.ListN.{length}
-use Rattle.queue_words.specs.Header.{optionsAt, totalsAt, putTotals, schedulerAt, FitsTotals}
+use Rattle.queue_words.specs.Header.{optionsAt, totalsAt, putTotals, FitsTotals}
 use Rattle.queue_words.specs.Items.{itemAt}
-use Rattle.queue_words.specs.Active.{activeAt}
 use Rattle.queue_words.specs.Known.{knownAt, idAt}
 use Rattle.queue_words.specs.Streams.{streamAt, putStream, FitsStream}
-use Rattle.queue_words.specs.declared.header.Options.{Options}
-use Rattle.queue_words.specs.declared.header.SchedulerState.{SchedulerState}
 use Rattle.queue_words.specs.declared.header.Totals.{Totals}
 use Rattle.queue_words.specs.declared.items.Item.{Item}
 use Rattle.queue_words.specs.declared.known.Known.{Known}
 use Rattle.queue_words.specs.declared.streams.OutgoingStream.{OutgoingStream}
 use Rattle.queue_words.proofs.Finds.{rising-same, by-lt}
 use Rattle.queue_words.proofs.Laws
-use Rattle.queue_model.specs.Types.{Stream, Queue, Active, Scheduler}
+use Rattle.queue_model.specs.Types.{Stream, Scheduler}
 use Rattle.queue_model.specs.Types as plain
-use Rattle.queue_model.specs.Streams.{put-stream, stream-key}
-use Rattle.payload_store.specs.Words.{sizeOf, usedOf, gapsOf, placeOf}
-use Rattle.payload_store.specs.Good.{payloadOf}
-use Rattle.payload_store.specs.Good as payload
+use Rattle.queue_model.specs.Streams.{put-stream}
+use Rattle.payload_store.specs.Words.{sizeOf, usedOf, gapsOf}
 use Rattle.payload_store.specs.Promise.{SamePlaces}
 use Rattle.payload_store.proofs.Goods.{good-same, payload-kept}
-use Rattle.stream_scheduler.specs.Link.{GoodScheduler, Untouched, entryAt, modelScheduler, tableOf, currentOf}
+use Rattle.stream_scheduler.specs.Link.{GoodScheduler, Untouched, modelScheduler}
 use Rattle.stream_scheduler.proofs.Link.{scheduler-same}
-use Rattle.queue_state.specs.Chains.{Linked, count, sumOf, total, upd, each, Split}
-use Rattle.queue_state.specs.Model.{nextOf, itemIn, streamOf, rowAt, optionsOf, streamIn, streamsIn, model, tab}
+use Rattle.queue_state.specs.Chains.{count, sumOf, total, each}
+use Rattle.queue_state.specs.Model.{itemIn, streamOf, rowAt, optionsOf, streamIn, streamsIn, model}
 use Rattle.queue_state.specs.Good.{Row, Shape}
 use Rattle.queue_state.proofs.Chains.{sum-frame}
 use Rattle.queue_state.proofs.Splits.{total-agree}
 use Rattle.queue_state.proofs.Tabs.{tab-same}
-use Rattle.queue_state.proofs.Frames.{Same, Kept, same-item, row-frame, free-frame, items-frame, stream-frame, row-fits, free-fits, short, row-below, stream-row, stream-is}
-use Rattle.queue_state.proofs.Steps.{Step, After, step}
+use Rattle.queue_state.proofs.Frames.{Same, Kept, same-item, row-frame, free-frame, items-frame, stream-frame, row-fits, free-fits, short, row-below}
+use Rattle.queue_state.proofs.Steps.{After, step}
 
 -- ---- the model, put together from its parts
 

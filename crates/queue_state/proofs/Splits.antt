@@ -1,16 +1,15 @@
 -- Laws of a family of lists that split the places. Assumes nothing.
-use mathlib.Core.Path.{_≡_, refl, sym, ap, _∙_}
+use mathlib.Core.Path.{_≡_, refl, ap, _∙_}
 use mathlib.Core.Bool.{Bool, true, false}
-use mathlib.Core.List.{List, [], _∷_, _++_}
-use Prim.Native.Nat.{ℕ, zero, suc, _+_, _*_, _≤_, _<_}
+use mathlib.Core.List.{List, [], _∷_}
+use Prim.Native.Nat.{ℕ, zero, suc, _+_, _≤_, _<_}
 use native.Mathlib.Omega.{arith}
-use native.Mathlib.Decide.{ℕ-discrete}
-use borrow.Author.Tests.{lt-ltb, le-ltb, eq-eqb, ne-eqb, ltb-true, ltb-false}
-use lib.Dec.{eqb, ltb}
+use borrow.Author.Tests.{eq-eqb, ne-eqb, ltb-true, ltb-false}
+use lib.Dec.{ltb}
 use lib.ListN.{length}
 use Rattle.queue_words.specs.Flags.{pick}
-use Rattle.queue_state.specs.Chains.{hit, count, upd, sumTo, total, one, range, Linked, Split}
-use Rattle.queue_state.proofs.Chains.{hit-same, hit-eq, hit-other, count-head, count-snoc, length-snoc}
+use Rattle.queue_state.specs.Chains.{count, upd, sumTo, total, one, range, Linked, Split}
+use Rattle.queue_state.proofs.Chains.{hit-same, hit-eq, hit-other}
 use Rattle.payload_store.proofs.Sums.{sum-same, sum-has, sum-both}
 use Rattle.payload_store.proofs.Cases.{by-index}
 

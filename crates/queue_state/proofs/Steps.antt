@@ -1,7 +1,7 @@
 -- ONE STEP of a call on the stream in position i: what a call has to show, and what follows for the whole state. Every call's link goes through this.
 -- Assumes nothing.
 use mathlib.Core.Path.{_≡_, refl, sym, ap, _∙_, subst}
-use mathlib.Core.List.{List, [], _∷_}
+use mathlib.Core.List.{List}
 use Prim.Native.Nat.{ℕ, _+_, _≤_, _<_}
 use native.Mathlib.Omega.{arith}
 use lib.ListN.{length}
@@ -11,19 +11,18 @@ use Rattle.queue_words.specs.Streams.{streamAt}
 use Rattle.queue_words.specs.declared.known.Known.{Known}
 use Rattle.queue_words.specs.declared.streams.OutgoingStream.{OutgoingStream}
 use Rattle.queue_words.proofs.Finds.{rising-same, by-lt}
-use Rattle.queue_model.specs.Types.{Stream}
 use Rattle.queue_model.specs.Streams.{put-stream, stream-key}
 use Rattle.payload_store.specs.Words.{sizeOf, usedOf}
 use Rattle.payload_store.specs.Good as payload
 use Rattle.payload_store.proofs.Cases.{by-index}
 use Rattle.stream_scheduler.specs.Link.{GoodScheduler}
-use Rattle.queue_state.specs.Chains.{Linked, count, sumOf, total, upd, sumTo, each, Split}
+use Rattle.queue_state.specs.Chains.{Linked, count, sumOf, upd, each}
 use Rattle.queue_state.specs.Model.{nextOf, itemIn, streamOf, rowAt, streamIn, streamsIn, tab}
 use Rattle.queue_state.specs.Good.{Row, Shape}
 use Rattle.queue_state.proofs.Chains.{sum-frame}
 use Rattle.queue_state.proofs.Splits.{upd-same, upd-other, total-change, free-apart, rows-apart, split-move, total-upd}
-use Rattle.queue_state.proofs.Tabs.{Rises, tab-put, tab-same}
-use Rattle.queue_state.proofs.Frames.{Same, Kept, row-frame, stream-row, stream-frame, row-fits, short, stream-is, row-below, stream-key-in}
+use Rattle.queue_state.proofs.Tabs.{Rises, tab-put}
+use Rattle.queue_state.proofs.Frames.{Same, Kept, row-frame, stream-frame, row-fits, short, stream-is, row-below, stream-key-in}
 
 -- The call leaves ws′ and st′; the stream in position i then has the places v, and fr′ are free.
 pub record Step (ws st : List ℕ) (g : Shape ws st) (i : ℕ) (ws′ st′ v fr′ : List ℕ) : Type 0 where

@@ -1,20 +1,16 @@
 -- The counts in the totals are the model's sums. Assumes nothing.
-use mathlib.Core.Path.{_≡_, refl, sym, ap, _∙_, subst}
+use mathlib.Core.Path.{_≡_, refl, sym, ap, _∙_}
 use mathlib.Core.List.{List, [], _∷_}
-use Prim.Native.Nat.{ℕ, zero, suc, _+_, _≤_, _<_}
+use Prim.Native.Nat.{ℕ, suc, _≤_, _<_}
 use native.Mathlib.Omega.{arith}
 use lib.ListN.{length}
 use Rattle.queue_words.specs.Header.{totalsAt}
-use Rattle.queue_words.specs.Items.{itemAt}
-use Rattle.queue_model.specs.Table.{sum-by}
 use Rattle.queue_model.specs.Types.{Stream}
-use Rattle.queue_model.specs.Types as plain
 use Rattle.queue_model.specs.Streams.{waiting, occupied, payload-bytes}
-use Rattle.payload_store.specs.Good.{payloadOf}
 use Rattle.payload_store.specs.Words.{sizeOf, usedOf, gapsOf}
 use Rattle.payload_store.proofs.Goods.{payload-length}
-use Rattle.queue_state.specs.Chains.{count, sumOf, total, sumTo, each}
-use Rattle.queue_state.specs.Model.{itemIn, streamIn, streamsIn, tab}
+use Rattle.queue_state.specs.Chains.{count, sumOf, each}
+use Rattle.queue_state.specs.Model.{itemIn, streamIn, streamsIn}
 use Rattle.queue_state.specs.Good.{Shape}
 use Rattle.queue_state.proofs.Chains.{count-head}
 use Rattle.queue_state.proofs.Splits.{total-upto, sum-agree}

@@ -1,6 +1,6 @@
 -- Chains of places. `nx` gives the next place of a place; 1024 is the end. Nothing here speaks of words. Assumes nothing.
 use mathlib.Core.Path.{_≡_}
-use mathlib.Core.List.{List, [], _∷_, _++_}
+use mathlib.Core.List.{List, [], _∷_}
 use Prim.Native.Nat.{ℕ, zero, suc, _+_, _<_}
 use Rattle.queue_words.specs.Flags.{pick}
 use lib.Dec.{eqb, ltb}

@@ -1,8 +1,7 @@
 -- What a call promises from good words: it is the model's step. Assumes nothing.
 use Prim.Native.Nat.{ℕ}
 use mathlib.Core.Path.{_≡_}
-use mathlib.Core.Bool.{Bool}
-use mathlib.Core.List.{List, []}
+use mathlib.Core.List.{List}
 use lib.ListN.{length}
 use Rattle.queue_model.specs.Types.{Answer, refused, done, number, flag, ids, fragment, nothing-waits, filled, Outcome}
 use Rattle.queue_model.specs.Answers.{answer-number, event-count}
@@ -11,8 +10,6 @@ use Rattle.queue_streams.specs.Answers.{callNumber, callEvents}
 use Rattle.queue_streams.specs.Events.{written}
 use Rattle.queue_streams.specs.declared.answers.Call.{Call}
 use Rattle.queue_streams.specs.declared.answers.Call.the-variants.{Accepted, Refused}
-use Rattle.queue_streams.specs.declared.answers.Flag.{Flag}
-use Rattle.queue_streams.specs.declared.answers.Flag.the-variants as flag-answer
 use Rattle.queue_streams.specs.declared.answers.Number.{Number}
 use Rattle.queue_streams.specs.declared.answers.Number.the-variants as number-answer
 use Rattle.queue_state.specs.Model.{model}

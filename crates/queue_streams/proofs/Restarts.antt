@@ -1,16 +1,16 @@
 -- The ways out of commit, rollback and switching interleaving, over plain values. Assumes nothing.
-use mathlib.Core.Path.{_≡_, refl, sym, ap, ap₂, _∙_, subst}
+use mathlib.Core.Path.{_≡_, refl, sym, ap, _∙_, subst}
 use mathlib.Core.Bool.{Bool, true, false, not}
 use mathlib.Core.List.{List}
-use Prim.Native.Nat.{ℕ, suc, _+_, _≤_, _<_}
+use Prim.Native.Nat.{ℕ, _+_, _≤_, _<_}
 use native.Mathlib.Omega.{arith}
 use native.Mathlib.Numerals.{add-one}
 use lib.Dec.{ltb}
 use borrow.Author.Tests.{lt-ltb, le-ltb, ltb-false}
-use Rattle.queue_model.proofs.Tests.{holds, Tri, less, same, more, tri}
+use Rattle.queue_model.proofs.Tests.{holds, less, same, more, tri}
 use Rattle.queue_words.specs.Flags.{pick}
 use Rattle.queue_words.specs.Header.{totalsAt, putTotals}
-use Rattle.queue_words.specs.Known.{knownAt, knownCount}
+use Rattle.queue_words.specs.Known.{knownAt}
 use Rattle.queue_words.specs.Streams.{isResetting, streamAt, putStream}
 use Rattle.queue_words.specs.declared.header.Totals.{Totals}
 use Rattle.queue_words.specs.declared.known.Known.{Known}

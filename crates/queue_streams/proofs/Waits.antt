@@ -1,27 +1,26 @@
 -- The ways out of the functions that let streams wait, over plain values. Assumes nothing.
-use mathlib.Core.Path.{_≡_, refl, sym, ap, ap₂, _∙_}
+use mathlib.Core.Path.{_≡_, sym, ap, ap₂, _∙_}
 use mathlib.Core.Bool.{Bool, true, false}
 use mathlib.Core.List.{List}
-use Prim.Native.Nat.{ℕ, suc, _+_, _-_, _≤_, _<_}
+use Prim.Native.Nat.{ℕ, _+_, _-_, _≤_, _<_}
 use native.Mathlib.Omega.{arith}
 use native.Mathlib.Numerals.{add-one}
 use lib.Dec.{ltb, leb, eqb}
 use borrow.Author.Tests.{lt-ltb, le-ltb, eq-eqb, ne-eqb}
 use Rattle.queue_words.specs.Items.{itemAt}
 use Rattle.queue_words.specs.declared.active.SchedulingParameters.{SchedulingParameters}
-use Rattle.queue_words.specs.declared.active.SchedulingParameters.the-variants.{RoundRobin, WeightedFairQueuing}
+use Rattle.queue_words.specs.declared.active.SchedulingParameters.the-variants.{WeightedFairQueuing}
 use Rattle.queue_words.specs.declared.items.Item.{Item}
 use Rattle.stream_scheduler.specs.Words.{Outcome, outcome, setBytesRemaining}
 use Rattle.queue_words.specs.Flags.{pick}
 use Rattle.queue_words.specs.Header.{totalsAt, schedulerAt}
-use Rattle.queue_words.specs.Known.{knownAt, knownCount}
+use Rattle.queue_words.specs.Known.{knownAt}
 use Rattle.queue_words.specs.Streams.{streamAt}
 use Rattle.queue_words.specs.declared.header.SchedulerState.{SchedulerState}
 use Rattle.queue_words.specs.declared.header.Totals.{Totals}
 use Rattle.queue_words.specs.declared.known.Known.{Known}
 use Rattle.queue_words.specs.declared.streams.OutgoingStream.{OutgoingStream}
 use Rattle.stream_scheduler.specs.Words.{waitsIn}
-use Rattle.queue_streams.specs.Restart.{opened, reopenedIn, reopenedAt, reopenedAll, reopen, switchedAt, switchedAll, withInterleaving, alike, setInterleaving}
 use Rattle.queue_streams.specs.Waiting.{remainingAt, headSize, parametersFor, rescheduled, passedOver, tallyStream, tallyKnown, tally, roomFor}
 use Rattle.queue_streams.specs.Settled.{rescheduleDone}
 use Rattle.queue_streams.specs.declared.waiting.Tally.{Tally}

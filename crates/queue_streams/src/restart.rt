@@ -7,7 +7,6 @@ ghost use Rattle.queue_streams.specs.Restart.{opened, reopenedIn, reopen
 ghost use Rattle.queue_streams.specs.Settled.{reopenDoneIn, reopenDoneAt, ReopenSteps, switchDoneAt, SwitchSteps};
 ghost use Rattle.queue_streams.specs.Waiting.{roomFor};
 ghost use Rattle.queue_streams.specs.declared.answers.Call.the-variants.{Accepted};
-ghost use Rattle.queue_words.specs.Known.{knownAt};
 use crate::answers::Call;
 use crate::commit::commit_all;
 use crate::commit::nothing_starts;

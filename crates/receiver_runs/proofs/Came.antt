@@ -12,7 +12,7 @@ use Rattle.receiver_model.specs.Types.{Kind, Chunk, Assembled, Receiver, Answer
 use Rattle.receiver_model.specs.Tsn.{is-far}
 use Rattle.receiver_model.specs.Assembly.{whole-among}
 use Rattle.receiver_model.specs.Receive as model
-use Rattle.receiver_model.specs.Receive.{Passed, pass, settle, accept, repeats, differs, no-room, same-kind, refused-or, receive-chunk, receive-new, new-receiver, early-checks, late-checks}
+use Rattle.receiver_model.specs.Receive.{pass, accept, repeats, differs, no-room, same-kind, refused-or, receive-chunk, receive-new, new-receiver, early-checks, late-checks}
 use Rattle.receiver_model.specs.Fetch as fetching
 use Rattle.receiver_model.specs.Fetch.{as-message, with-ready, fetch-from}
 use Rattle.receiver_model.specs.Run.{Call, receive, fetch, step, after}

@@ -38,7 +38,7 @@ use Rattle.receiver_calls.specs.Receiving.{fragmentOf}
 use Rattle.queue_runs.proofs.Account.{key-same}
 use Rattle.queue_packets.proofs.Fit.{Fits, AllFit}
 use Rattle.queue_packets.proofs.Packets.{in-width}
-use Rattle.receiver_runs.specs.Calls.{Call, AllTyped}
+use Rattle.receiver_runs.specs.Calls.{AllTyped}
 use Rattle.receiver_runs.specs.Meaning.{chunkAs, chunkRead, callOf}
 use Rattle.receiver_runs.specs.Sender.{Piece}
 use Rattle.receiver_runs.specs.Promise.{pieceOf, Feed, arrive, take-out, writeOf, Told, written, callFor, callsFor, Fed, AllFed, moveOf}

@@ -13,7 +13,7 @@ use Rattle.queue_model.specs.Streams.{waiting}
 use Rattle.queue_model.specs.Refusals.{first-refusal, _when_}
 use Rattle.queue_model.specs.Demands as demands
 use Rattle.queue_model.specs.Run as queue-run
-use Rattle.receiver_model.specs.Types.{Kind, Assembled, Receiver, Message, Answer, none-ready, fetched, reply}
+use Rattle.receiver_model.specs.Types.{Kind, Assembled, Receiver, Answer, none-ready, fetched, reply}
 use Rattle.receiver_model.specs.Receive.{refused-or, new-receiver}
 use Rattle.receiver_model.specs.Fetch as fetching
 use Rattle.receiver_model.specs.Fetch.{as-message, with-ready, fetch-from}

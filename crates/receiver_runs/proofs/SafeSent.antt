@@ -9,7 +9,7 @@ use Rattle.queue_model.specs.Types as plain
 use Rattle.queue_model.specs.Types.{Queue, Fragment}
 use Rattle.queue_model.specs.Streams.{waiting}
 use Rattle.queue_model.specs.Run as queue-run
-use Rattle.receiver_model.specs.Types.{Kind, Chunk, Message}
+use Rattle.receiver_model.specs.Types.{Kind, Chunk}
 use Rattle.receiver_model.specs.Receive.{new-receiver}
 use Rattle.receiver_model.specs.Run as run
 use Rattle.receiver_model.specs.Run.{came-out}

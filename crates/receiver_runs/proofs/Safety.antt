@@ -9,7 +9,6 @@ use Rattle.receiver_model.specs.Types.{Kind, Chunk}
 use Rattle.receiver_model.specs.Receive.{new-receiver}
 use Rattle.receiver_model.specs.Run as run
 use Rattle.receiver_model.specs.Run.{came-out}
-use Rattle.receiver_model.specs.Sent.{Sent}
 use Rattle.receiver_model.specs.Claim.{SoFar}
 use Rattle.receiver_model.proofs.Theorem.{receives-safely}
 use Rattle.receiver_words.specs.Chunks.{kindOf}

@@ -28,11 +28,11 @@ use Rattle.stream_reset_handler.specs.declared.handler.Underway.the-variants as
 use Rattle.stream_reset_handler.specs.declared.making.RequestAnswer.the-variants as making
 use Rattle.stream_reset_handler.specs.declared.receiving.ResponseAnswer.the-variants as receiving
 use Rattle.stream_reset_handler.specs.Handler.{isUnderway}
-use Rattle.stream_reset_handler.specs.Making.{MadeWith, makeRequest, requestIn, requestFor, writtenFor, madeWith, told}
+use Rattle.stream_reset_handler.specs.Making.{makeRequest, requestIn, requestFor, writtenFor, madeWith, told}
 use Rattle.stream_reset_handler.specs.Receiving.{HandledWith, handledWith, handled, handleResponse, respondTo, finishedBy, finished, ignoredIn, resetBy}
-use Rattle.reset_runs.specs.Uses.{Use, Allowed, AllAllowed, Pair, readyIn, endsIn, used, after}
+use Rattle.reset_runs.specs.Uses.{Use, Allowed, Pair, readyIn, endsIn, used, after}
 use Rattle.reset_runs.specs.Uses as uses
-use Rattle.reset_runs.specs.AsCalls.{QueueCalls, HandlerAsCalls}
+use Rattle.reset_runs.specs.AsCalls.{HandlerAsCalls}
 
 -- Words that some calls leave.
 record Leaves (s : State) (ws′ : List ℕ) : Type 0 where

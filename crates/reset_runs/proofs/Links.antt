@@ -1,5 +1,5 @@
 -- Every list of the handler's calls and other calls is the model's. Assumes nothing.
-use mathlib.Core.Path.{_≡_, refl, sym, ap, ap₂, _∙_, subst}
+use mathlib.Core.Path.{_≡_, refl, ap, ap₂, _∙_, subst}
 use mathlib.Core.List.{List, [], _∷_}
 use mathlib.Core.Option.{Option, some}
 use Prim.Native.Nat.{ℕ, _<_, _^_}
@@ -7,11 +7,10 @@ use lib.ListN.{length, take}
 use lib.Seq.{take-at}
 use Rattle.big_endian.specs.Numbers.{wrote}
 use Rattle.queue_model.specs.Types.{Queue}
-use Rattle.queue_model.specs.Run as run
 use Rattle.queue_restarts.specs.Reset.{resetQueue}
 use Rattle.linked_restarts.proofs.Contracts.{reset-meets}
 use Rattle.queue_runs.specs.Calls.{Call, callOf}
-use Rattle.queue_runs.specs.Run.{State, step}
+use Rattle.queue_runs.specs.Run.{State}
 use Rattle.queue_runs.specs.Meaning.{queueOf, Good}
 use Rattle.queue_runs.proofs.Steps.{step-link, typed-call}
 use Rattle.reset_model.specs.Handler as handlers

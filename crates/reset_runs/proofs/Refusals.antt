@@ -16,7 +16,7 @@ use Rattle.queue_streams.specs.declared.answers.Call.{Call}
 use Rattle.queue_streams.specs.declared.answers.Call.the-variants as call
 use Rattle.queue_streams.specs.declared.answers.Number.{Number}
 use Rattle.queue_streams.specs.declared.answers.Number.the-variants as number
-use Rattle.queue_restarts.specs.Ready.{ready, readyCount}
+use Rattle.queue_restarts.specs.Ready.{readyCount}
 use Rattle.queue_restarts.specs.Reset.{resetQueue}
 use Rattle.queue_runs.specs.Calls as calls
 use Rattle.queue_runs.specs.Run.{State, state, step}
@@ -28,7 +28,6 @@ use Rattle.reset_model.specs.Wire as wire
 use Rattle.reset_wire.specs.Reading.{responseOf}
 use Rattle.reset_wire.specs.declared.reading.Response.{Response}
 use Rattle.reset_wire.specs.declared.reading.Response.the-variants as response
-use Rattle.stream_reset_handler.specs.declared.handler.StreamResetHandler.{StreamResetHandler}
 use Rattle.stream_reset_handler.specs.declared.handler.Underway.{Underway}
 use Rattle.stream_reset_handler.specs.declared.handler.Underway.the-variants as underway
 use Rattle.stream_reset_handler.specs.declared.making.RequestAnswer.{RequestAnswer}
@@ -39,7 +38,7 @@ use Rattle.stream_reset_handler.specs.Handler.{isUnderway}
 use Rattle.stream_reset_handler.specs.Making.{MadeWith, makeRequest, requestIn, requestFor, writtenFor, madeWith, told}
 use Rattle.stream_reset_handler.specs.Receiving.{HandledWith, handledWith, handled, handleResponse, respondTo, finishedBy, finished, ignoredIn, resetBy}
 use Rattle.reset_model.specs.Wire.{request-size}
-use Rattle.reset_runs.specs.Uses.{Use, Pair, pair, readyIn, endsIn, requested, responded, wasReset, used}
+use Rattle.reset_runs.specs.Uses.{Pair, pair, readyIn, endsIn, requested, responded, wasReset, used}
 use Rattle.reset_runs.specs.Uses as uses
 use Rattle.reset_runs.specs.Refusals.{Refused, HandlerRefused}
 

@@ -1,5 +1,5 @@
 -- Request 9/13 on the words and stores that the calls leave (specs/Request9): the model's theorem, carried over. Assumes nothing.
-use mathlib.Core.Path.{_≡_, refl, sym, ap, subst}
+use mathlib.Core.Path.{refl, sym, subst}
 use mathlib.Core.List.{List}
 use mathlib.Core.Option.{Option, none, some}
 use Prim.Native.Nat.{ℕ}
@@ -7,8 +7,7 @@ use lib.ListN.{length}
 use Rattle.queue_model.specs.Types.{Options, Queue}
 use Rattle.queue_runs.specs.Calls.{restore}
 use Rattle.queue_runs.specs.Run.{State}
-use Rattle.queue_runs.specs.Creation.{Arguments, optionsWith, newState}
-use Rattle.queue_runs.specs.Demand3.{restored}
+use Rattle.queue_runs.specs.Creation.{Arguments, optionsWith}
 use Rattle.queue_runs.specs.Meaning.{queueOf, Good}
 use Rattle.queue_runs.proofs.Steps.{step-link, store-small}
 use Rattle.queue_runs.proofs.News.{new-link}
@@ -16,12 +15,11 @@ use Rattle.queue_runs.proofs.Demand3.{stands, restores}
 use Rattle.reset_model.specs.Handler as handlers
 use Rattle.reset_model.specs.Uses as model
 use Rattle.reset_model.proofs.Request9.{request9-message}
-use Rattle.stream_reset_handler.specs.declared.handler.Underway.{Underway}
 use Rattle.stream_reset_handler.specs.declared.handler.StreamResetHandler.{StreamResetHandler}
 use Rattle.stream_reset_handler.specs.Handler.{underwayOf}
-use Rattle.reset_runs.specs.Uses.{Use, AllAllowed, Pair, after, lastMessage}
+use Rattle.reset_runs.specs.Uses.{after}
 use Rattle.reset_runs.specs.Request9.{Starts, new, restored-from, started, resettingIn, Named, Request9}
-use Rattle.reset_runs.proofs.Links.{usesOf, allowed-uses, Linked, Ran, run-link}
+use Rattle.reset_runs.proofs.Links.{usesOf, allowed-uses, run-link}
 
 -- The queue at the handler's start is the model's, new or restored.
 record Begun (s : State) : Type 0 where

@@ -1,18 +1,17 @@
 -- What the handler's contracts promise of the words is the step that lists of calls take: the theorems on `used` are about the code. Assumes nothing.
-use mathlib.Core.Path.{_≡_, refl, ap, ap₂}
+use mathlib.Core.Path.{_≡_, refl}
 use mathlib.Core.List.{List}
 use Prim.Native.Nat.{ℕ}
-use Rattle.queue_streams.specs.Restart.{reopen}
 use Rattle.queue_restarts.specs.Ready.{ready, readyCount}
 use Rattle.queue_restarts.specs.Reset.{resetQueue}
 use Rattle.linked_restarts.proofs.Contracts.{count-meets, ready-meets, commit-meets, rollback-meets, reset-meets}
-use Rattle.queue_runs.specs.Run.{State, state}
+use Rattle.queue_runs.specs.Run.{state}
 use Rattle.stream_reset_handler.specs.declared.handler.StreamResetHandler.{StreamResetHandler}
 use Rattle.stream_reset_handler.specs.declared.making.MadeRequest.{MadeRequest}
 use Rattle.stream_reset_handler.specs.declared.receiving.HandledResponse.{HandledResponse}
 use Rattle.stream_reset_handler.specs.declared.receiving.QueueReset.{QueueReset}
-use Rattle.stream_reset_handler.specs.Making.{MadeWith, madeWith, IsReady, MakeMeets}
-use Rattle.stream_reset_handler.specs.Receiving.{HandledWith, handledWith, IsEnds, HandleMeets, ResetWith, resetWith, ResetHandlerMeets}
+use Rattle.stream_reset_handler.specs.Making.{madeWith, IsReady, MakeMeets}
+use Rattle.stream_reset_handler.specs.Receiving.{handledWith, IsEnds, HandleMeets, resetWith, ResetHandlerMeets}
 use Rattle.reset_runs.specs.Uses.{pair, readyIn, outcomeOf, endsIn, requested, responded, wasReset}
 
 -- The definitions that the queue's contracts cite meet them.

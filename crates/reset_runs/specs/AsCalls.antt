@@ -1,6 +1,5 @@
 -- What the handler does to its queue are calls of the queue's own: what is proved of every list of those (no 16, the account, demand 3) is proved of a
 -- queue behind a handler. Assumes nothing.
-use Prim.Native.Nat.{ℕ}
 use mathlib.Core.Path.{_≡_}
 use mathlib.Core.List.{List}
 use Rattle.queue_runs.specs.Calls.{Call}

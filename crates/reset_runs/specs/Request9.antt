@@ -3,7 +3,6 @@ use Prim.Native.Nat.{ℕ}
 use mathlib.Core.Path.{_≡_}
 use mathlib.Core.List.{List, []}
 use mathlib.Core.Option.{Option, none}
-use Rattle.queue_model.specs.Types.{Stream}
 use Rattle.queue_runs.specs.Run.{State}
 use Rattle.queue_runs.specs.Creation.{Arguments, newState, Creates}
 use Rattle.queue_runs.specs.Demand3.{Reached, Accepts, restored}

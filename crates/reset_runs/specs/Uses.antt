@@ -4,7 +4,7 @@ use mathlib.Core.Path.{_≡_}
 use mathlib.Core.Bool.{true, false}
 use mathlib.Core.List.{List, [], _∷_}
 use mathlib.Core.Option.{Option, some}
-use lib.ListN.{length, take}
+use lib.ListN.{take}
 use Rattle.queue_streams.specs.Restart.{reopen}
 use Rattle.queue_streams.specs.Settings.{Called}
 use Rattle.queue_restarts.specs.Ready.{ready, readyCount}

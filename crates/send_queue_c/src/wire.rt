@@ -10,7 +10,6 @@ use host_numbers::is_yes;
 use host_numbers::show;
 use out_array::OUT_WORDS;
 use out_array::VALUE;
-use send_queue::Chunk;
 use send_queue::ChunkKind;
 use send_queue::ChunkRead;
 use send_queue::ChunkWritten;

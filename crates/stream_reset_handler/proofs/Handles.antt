@@ -5,7 +5,6 @@ use mathlib.Core.List.{List, [], map}
 use mathlib.Core.Option.{Option, none, some}
 use Prim.Native.Nat.{ℕ, _+_}
 use native.Mathlib.Omega.{arith}
-use lib.Dec.{eqb}
 use lib.ListN.{length}
 use Rattle.queue_model.specs.Logic.{if_then_else_}
 use Rattle.queue_model.specs.Types as queue
@@ -21,18 +20,17 @@ use Rattle.send_queue.specs.Queue as state
 use Rattle.send_queue.specs.Queue.{Good}
 use Rattle.send_queue.specs.Queue.{callOf, shown, Does}
 use Rattle.send_queue.specs.Restarts.{ResetMeets}
-use Rattle.send_queue.proofs.Restarts.{Same, call-same}
+use Rattle.send_queue.proofs.Restarts.{call-same}
 use Rattle.reset_model.specs.Wire as wire
 use Rattle.reset_model.specs.Handler as model
 use Rattle.reset_wire.specs.Reading.{judgedAs, responseOf}
 use Rattle.reset_wire.specs.declared.reading.Response.{Response}
 use Rattle.reset_wire.specs.declared.reading.Response.the-variants as response
 use Rattle.stream_reset_handler.specs.declared.handler.StreamResetHandler.{StreamResetHandler}
-use Rattle.stream_reset_handler.specs.declared.receiving.ResponseAnswer.the-variants.{Ignored, Committed, RolledBack, StillWaiting, Refused}
+use Rattle.stream_reset_handler.specs.declared.receiving.ResponseAnswer.the-variants.{Ignored, StillWaiting, Refused}
 use Rattle.stream_reset_handler.specs.declared.receiving.ResponseStep.{ResponseStep}
 use Rattle.stream_reset_handler.specs.declared.receiving.ResponseStep.the-variants as step
 use Rattle.stream_reset_handler.specs.declared.receiving.HandledResponse.{HandledResponse}
-use Rattle.stream_reset_handler.specs.declared.receiving.QueueReset.{QueueReset}
 use Rattle.stream_reset_handler.specs.Handler.{handlerOf, underwayOf, sameNumber, isUnderway, endedAs}
 use Rattle.stream_reset_handler.specs.Receiving.{Outcome, HandledWith, handledWith, handled, finishAnswer, finishedBy, finished, ignoredIn, Ends, respondTo, handleResponse, stepOf, IsEnds, resetBy, Handles, verdictFor, FinishedAs, FinishMeets, HandleMeets, Restarts, ResetHandlerMeets}
 

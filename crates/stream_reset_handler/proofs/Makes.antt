@@ -1,15 +1,14 @@
 -- Making a request, over plain values: a callee's result is a variable, what it ensures a hypothesis. Assumes nothing.
 use mathlib.Core.Path.{_≡_, refl, sym, ap, ap₂, _∙_, subst}
 use mathlib.Core.Bool.{Bool, true, false}
-use mathlib.Core.List.{List, [], _∷_, _++_}
+use mathlib.Core.List.{List, [], _∷_}
 use mathlib.Core.Option.{Option, none, some}
-use Prim.Native.Nat.{ℕ, suc, _≤_, _<_}
+use Prim.Native.Nat.{ℕ, _≤_, _<_}
 use native.Mathlib.Omega.{arith}
 use borrow.Author.Tests.{le-ltb, lt-ltb, eq-eqb, ne-eqb, ltb-true, ltb-false}
 use lib.Dec.{eqb, ltb, eqb→eq}
 use lib.ListN.{length, take}
 use lib.Seq.{take-at}
-use Rattle.types.specs.Wrap.{wrap-suc}
 use Rattle.queue_model.specs.Types.{Queue}
 use Rattle.queue_model.specs.Types as queue
 use Rattle.queue_model.specs.Calls
@@ -23,10 +22,10 @@ use Rattle.send_queue.specs.ReadyStreams.{ReadyStreams}
 use Rattle.send_queue.specs.Queue as state
 use Rattle.send_queue.specs.Queue.{Good}
 use Rattle.big_endian.specs.Numbers.{wrote}
-use Rattle.send_queue.specs.Restarts.{readyOf, Readies}
+use Rattle.send_queue.specs.Restarts.{readyOf}
 use Rattle.send_queue.specs.Restarts.{CountMeets, ReadyMeets}
-use Rattle.send_queue.proofs.Restarts.{Same, count-same, ready-same}
-use Rattle.send_queue.specs.Queue.{shown, numberOf}
+use Rattle.send_queue.proofs.Restarts.{count-same, ready-same}
+use Rattle.send_queue.specs.Queue.{numberOf}
 use Rattle.reset_model.specs.Wire.{request-size, request-bytes}
 use Rattle.reset_model.specs.Handler as model
 use Rattle.reset_wire.proofs.Puts.{request-long}

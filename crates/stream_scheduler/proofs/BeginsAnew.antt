@@ -25,7 +25,7 @@ use Rattle.stream_scheduler.specs.Link.{entryAt, tableOf, modelScheduler
 use Rattle.stream_scheduler.proofs.Index.{rising-table, put-without, without-twice}
 use Rattle.stream_scheduler.proofs.Link.{make, id-fits, current-none, forget-none, start-none, dropped-rest, count, none-there, some-there, row-link, refreshed-steps, row-fits, row-entry}
 use Rattle.stream_scheduler.proofs.Handing.{moved-is, last-is, accept-last-link}
-use Rattle.stream_scheduler.proofs.Frames.{Kept, kept-done, kept-if, kept-refused, untouched-same, untouched-both, untouched-if, untouched-refreshed, outcome-if, untouched-dropped}
+use Rattle.stream_scheduler.proofs.Frames.{untouched-same, untouched-both, untouched-if, untouched-refreshed, outcome-if, untouched-dropped}
 use Rattle.queue_model.proofs.FairTurns.Entries.{forget-own}
 
 -- ---- the model's scheduler without the stream

@@ -1,6 +1,6 @@
 -- The ways out of the functions for a last fragment, over plain values: a callee's result is a variable, what it ensures a hypothesis. Assumes nothing.
 use mathlib.Core.Path.{_≡_}
-use mathlib.Core.Bool.{true, false}
+use mathlib.Core.Bool.{true}
 use mathlib.Core.List.{List}
 use Prim.Native.Nat.{ℕ, _-_, _≤_, _<_}
 use borrow.Author.Tests.{le-ltb, lt-leb, eq-eqb, ne-eqb}

@@ -1,19 +1,16 @@
 -- What the scheduler's functions leave alone, for any words: a refused one changes nothing, and no function changes another part of the queue. From good words each leaves
 -- good ones, whether it is done or refused. Assumes nothing.
-use mathlib.Core.Path.{_≡_, refl, sym, ap, _∙_, subst}
+use mathlib.Core.Path.{_≡_, refl, sym, _∙_, subst}
 use mathlib.Core.Bool.{Bool, true, false}
 use mathlib.Core.List.{List}
-use Prim.Native.Nat.{ℕ, zero, suc, _+_, _-_, _≤_, _<_}
+use Prim.Native.Nat.{ℕ, zero, suc, _≤_, _<_}
 use native.Mathlib.Omega.{arith}
 use lib.Dec.{eqb, ltb, leb}
 use Rattle.queue_model.specs.Logic.{if_then_else_}
-use Rattle.queue_model.proofs.Tests.{holds, Tri, ltb-true, ltb-false, leb-true, eqb-true, eqb-false, less, same, more, tri}
-use Rattle.queue_words.specs.Active.{activeAt, putActive, parametersWord}
-use Rattle.queue_words.specs.Header.{optionsAt, totalsAt, schedulerAt, putScheduler}
-use Rattle.queue_words.specs.Items.{itemAt}
-use Rattle.queue_words.specs.Known.{knownAt}
+use Rattle.queue_model.proofs.Tests.{holds, ltb-false, leb-true, eqb-false, less, same, more, tri}
+use Rattle.queue_words.specs.Active.{activeAt, putActive}
+use Rattle.queue_words.specs.Header.{schedulerAt, putScheduler}
 use Rattle.queue_words.specs.Leasts.{putLeast}
-use Rattle.queue_words.specs.Streams.{streamAt}
 use Rattle.queue_words.specs.declared.active.ActiveStreamInfo.{ActiveStreamInfo}
 use Rattle.queue_words.specs.declared.active.SchedulingParameters.{SchedulingParameters}
 use Rattle.queue_words.specs.declared.header.SchedulerState.{SchedulerState}
@@ -22,9 +19,8 @@ use Rattle.active_table.specs.Groups.{refreshed}
 use Rattle.active_table.specs.Rows.{seek}
 use Rattle.active_table.proofs.Choice.{refreshed-puts}
 use Rattle.queue_words.specs.declared.header.Remembered.{Remembered}
-use Rattle.stream_scheduler.specs.Rows.{advanced, scheduledRow}
-use Rattle.stream_scheduler.specs.Words.{Outcome, outcome, forgotten, rested, stateOf, droppedRow, takenOut, removeStream, setIn, setBytesRemaining, rememberedBy, partRow, acceptRow, acceptAt}
-use Rattle.stream_scheduler.specs.Link.{entryAt, GoodScheduler, Steps, FitsParameters, Room, listed, free, Untouched}
+use Rattle.stream_scheduler.specs.Words.{Outcome, outcome, droppedRow, takenOut, removeStream, setIn, setBytesRemaining, acceptRow, acceptAt}
+use Rattle.stream_scheduler.specs.Link.{GoodScheduler, FitsParameters, listed, free, Untouched}
 use Rattle.stream_scheduler.proofs.Search.{Sought, hit, miss, sought}
 use Rattle.stream_scheduler.proofs.Link.{set-link, remove-link}
 use Rattle.stream_scheduler.proofs.Handing.{accept-link}

@@ -1,15 +1,15 @@
 -- From good words `accept` leaves good words that stand for the model's, and `peek` chooses what the model chooses. Assumes nothing.
 use mathlib.Core.Path.{_≡_, refl, sym, ap, ap₂, _∙_, subst}
 use mathlib.Core.Bool.{Bool, true, false}
-use mathlib.Core.List.{List, [], _∷_}
+use mathlib.Core.List.{List, []}
 use mathlib.Core.Option.{Option, none, some}
-use Prim.Native.Nat.{ℕ, zero, suc, _+_, _-_, _≤_, _<_}
+use Prim.Native.Nat.{ℕ, suc, _-_, _≤_, _<_}
 use native.Mathlib.Omega.{arith}
-use lib.Dec.{eqb, ltb, leb}
+use lib.Dec.{eqb, leb}
 use Rattle.queue_model.specs.Logic.{if_then_else_}
-use Rattle.queue_model.specs.Types.{Weight, round-robin, weighted, Active, Scheduler}
+use Rattle.queue_model.specs.Types.{Active}
 use Rattle.queue_model.specs.Scheduler.{moved, scheduled, find-active, put-active, without-active, forget, rest-time, remove-stream, least-of, remembered, or-else, peek, remember, accept-last, accept-part, accept}
-use Rattle.queue_model.proofs.Tests.{Tri, ltb-true, ltb-false, leb-true, leb-false, eqb-true, eqb-false, less, same, more, tri}
+use Rattle.queue_model.proofs.Tests.{ltb-true, ltb-false, leb-false, eqb-true, eqb-false}
 use Rattle.queue_words.specs.Active.{activeAt, putActive, FitsActive, parametersOf}
 use Rattle.queue_words.specs.declared.active.SchedulingParameters.{SchedulingParameters}
 use Rattle.types.specs.declared.StreamId.{StreamId}
@@ -18,13 +18,12 @@ use Rattle.queue_words.specs.declared.header.Remembered.{Remembered}
 use Rattle.queue_words.specs.declared.header.Remembered.the-variants.{NoStream, Stream}
 use Rattle.queue_words.specs.declared.active.ActiveStreamInfo.{ActiveStreamInfo}
 use Rattle.queue_words.proofs.Laws.{active-at-fits}
-use Rattle.stream_scheduler.specs.declared.Peeked.{Peeked}
 use Rattle.stream_scheduler.specs.declared.Peeked.the-variants.{At, Nothing, Broken}
 use Rattle.queue_words.specs.declared.active.SchedulingParameters.the-variants.{RoundRobin, WeightedFairQueuing}
 use Rattle.active_table.specs.Groups.{leastKnown, refreshed}
 use Rattle.active_table.specs.Rows.{seek}
-use Rattle.stream_scheduler.specs.Rows.{weightOf, weightAt, advanced, scheduledRow}
-use Rattle.stream_scheduler.specs.Words.{Outcome, outcome, currentRow, peekAmong, peekWords, stateOf, droppedRow, rememberedIn, rememberedBy, partRow, acceptRow, acceptAt}
+use Rattle.stream_scheduler.specs.Rows.{weightOf, weightAt, advanced}
+use Rattle.stream_scheduler.specs.Words.{outcome, currentRow, peekAmong, peekWords, stateOf, droppedRow, rememberedIn, rememberedBy, partRow, acceptRow, acceptAt}
 use Rattle.stream_scheduler.specs.Link.{entryOf, entryAt, tableOf, currentOf, modelScheduler, GoodScheduler, Steps, Chooses, row-chosen, none-chosen}
 use Rattle.stream_scheduler.proofs.Index.{table-nil, table-at, table-none, table-least}
 use Rattle.stream_scheduler.proofs.Search.{Sought, hit, miss, sought, known-in, known-least}

@@ -1,13 +1,12 @@
 -- Entries by index and the table that they are: what is found in it, and how it changes when an entry is set, added or taken out by the last one. Assumes nothing.
 use mathlib.Core.Path.{_≡_, refl, sym, ap, ap₂, _∙_, subst}
-use mathlib.Core.List.{List, [], _∷_}
-use mathlib.Core.Option.{Option, none, some}
-use Prim.Native.Nat.{ℕ, zero, suc, _≤_, _<_}
+use mathlib.Core.List.{List, []}
+use mathlib.Core.Option.{none, some}
+use Prim.Native.Nat.{ℕ, zero, suc, _<_}
 use native.Mathlib.Omega.{arith}
-use Rattle.queue_model.specs.Table.{find, put, without}
 use Rattle.queue_model.specs.Types.{Active}
 use Rattle.queue_model.specs.Scheduler.{active-key, find-active, put-active, without-active, least-of}
-use Rattle.queue_model.proofs.Tests.{Tri, less, same, more, tri}
+use Rattle.queue_model.proofs.Tests.{less, same, more, tri}
 use Rattle.queue_model.proofs.Table.{find-nil, find-put-same, find-put-other, find-without-same, find-without-other, Rising, rising-put, rising-without, same-table, Own, own, other, is-own}
 use Rattle.queue_model.proofs.Choice.{AtMost, least-is}
 use Rattle.stream_scheduler.specs.Link.{tableOf, Unlike}

@@ -5,17 +5,16 @@ use mathlib.Core.List.{List, [], _∷_}
 use mathlib.Core.Option.{Option, none, some}
 use Prim.Native.Nat.{ℕ, zero, suc, _+_, _-_, _≤_, _<_}
 use native.Mathlib.Omega.{arith}
-use lib.Dec.{eqb, ltb, leb}
+use lib.Dec.{eqb, ltb}
 use lib.ListN.{length}
 use Rattle.queue_model.specs.Logic.{if_then_else_}
-use Rattle.queue_model.specs.Table.{put}
-use Rattle.queue_model.specs.Types.{Weight, round-robin, weighted, Active, Scheduler}
-use Rattle.queue_model.specs.Scheduler.{saturating, cost, moved, scheduled, active-key, find-active, put-active, without-active, forget, rest-time, remove-stream, start-of, set-bytes-remaining, least-of, remembered, or-else, peek, remember, accept-last, accept-part, accept}
-use Rattle.queue_model.proofs.Tests.{Tri, ltb-true, ltb-false, leb-true, leb-false, eqb-true, eqb-false, less, same, more, tri}
+use Rattle.queue_model.specs.Types.{Weight, Active, Scheduler}
+use Rattle.queue_model.specs.Scheduler.{scheduled, active-key, find-active, put-active, without-active, forget, rest-time, remove-stream, start-of, set-bytes-remaining}
+use Rattle.queue_model.proofs.Tests.{Tri, ltb-true, ltb-false, eqb-true, eqb-false, less, same, more, tri}
 use Rattle.queue_model.proofs.Table.{put-later, put-here, put-before, put-end}
 use Rattle.queue_model.proofs.Scheduler.{set-none, set-some}
 use Rattle.types.specs.declared.StreamId.{StreamId}
-use Rattle.queue_words.specs.Active.{activeAt, putActive, FitsActive, parametersOf, parametersWord}
+use Rattle.queue_words.specs.Active.{activeAt, putActive, FitsActive, parametersWord}
 use Rattle.queue_words.specs.Header.{optionsAt, schedulerAt, putScheduler, FitsRemembered}
 use Rattle.queue_words.specs.declared.active.ActiveStreamInfo.{ActiveStreamInfo}
 use Rattle.queue_words.specs.declared.active.SchedulingParameters.{SchedulingParameters}
@@ -26,15 +25,13 @@ use Rattle.queue_words.specs.declared.header.Remembered.the-variants.{NoStream,
 use Rattle.queue_words.specs.declared.header.SchedulerState.{SchedulerState}
 use Rattle.queue_words.specs.Leasts.{leastsAt}
 use Rattle.queue_words.proofs.Laws.{leasts-put-active, leasts-put-scheduler, active-at-fits, active-at-put, active-at-put-other, active-put-scheduler, scheduler-put-active, scheduler-at-put, active-count-put, remembered-at-fits, options-put-active, options-put-scheduler, whole-put-active, whole-put-scheduler}
-use Rattle.stream_scheduler.specs.declared.Peeked.{Peeked}
-use Rattle.stream_scheduler.specs.declared.Peeked.the-variants.{At, Nothing, Broken}
 use Rattle.active_table.specs.Groups.{refreshed, Leasts}
 use Rattle.active_table.specs.Rows.{seek}
 use Rattle.active_table.proofs.Choice.{leasts-same, leasts-stored, refreshed-whole, refreshed-options, refreshed-scheduler, refreshed-rows, refreshed-leasts}
 use Rattle.stream_scheduler.specs.Rows.{weightOf, weightAt, advanced, scheduledRow}
-use Rattle.stream_scheduler.specs.Words.{Outcome, outcome, currentRow, peekAmong, peekWords, forgotten, rested, stateOf, droppedRow, takenOut, removeStream, setIn, setBytesRemaining, rememberedBy, partRow, acceptRow, acceptAt}
+use Rattle.stream_scheduler.specs.Words.{outcome, forgotten, rested, stateOf, droppedRow, takenOut, removeStream, setIn, setBytesRemaining}
 use Rattle.stream_scheduler.specs.Link.{entryOf, entryAt, tableOf, currentOf, modelScheduler, Unlike, GoodScheduler, Steps, FitsParameters, Room, listed, free}
-use Rattle.stream_scheduler.proofs.Index.{table-nil, table-suc, table-at, table-none, table-same, table-set, table-add, unlike-same, unlike-add, unlike-drop, table-drop, table-without, table-least}
+use Rattle.stream_scheduler.proofs.Index.{table-nil, table-suc, table-at, table-none, table-same, table-set, table-add, unlike-same, unlike-add, unlike-drop, table-drop, table-without}
 use Rattle.stream_scheduler.proofs.Search.{Sought, hit, miss, sought}
 
 -- ---- the scheduler by its parts

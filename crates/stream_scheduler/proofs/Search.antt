@@ -2,17 +2,16 @@
 use mathlib.Core.Path.{_≡_, sym, ap, _∙_, subst}
 use mathlib.Core.Bool.{Bool}
 use mathlib.Core.List.{List}
-use Prim.Native.Nat.{ℕ, zero, suc, _+_, _-_, _≤_, _<_}
+use Prim.Native.Nat.{ℕ, zero, suc, _+_, _<_}
 use native.Mathlib.Omega.{arith}
 use lib.Dec.{eqb}
 use Rattle.queue_model.specs.Logic.{if_then_else_}
-use Rattle.queue_model.specs.Types.{Active}
 use Rattle.queue_model.proofs.Tests.{Tri, eqb-true, eqb-false, less, same, more, tri}
 use Rattle.queue_model.proofs.Choice.{AtMost, sooner, level}
 use Rattle.queue_words.specs.Active.{activeAt}
 use Rattle.active_table.specs.Groups as groups
 use Rattle.active_table.specs.Groups.{leastKnown, Leasts, bestAt}
-use Rattle.active_table.specs.Rows.{seekFrom, seek, bestOf}
+use Rattle.active_table.specs.Rows.{seekFrom, seek}
 use Rattle.active_table.specs.declared.Best.{Best}
 use Rattle.active_table.proofs.Choice.{known-is}
 use Rattle.stream_scheduler.specs.Link.{entryAt}

@@ -5,7 +5,7 @@ use mathlib.Core.Option.{Option, none, some}
 use Prim.Native.Nat.{ℕ, suc, _+_, _≤_, _<_, min}
 use native.Mathlib.Omega.{arith}
 use lib.ListN.{length}
-use Rattle.queue_model.specs.Types.{Weight, Active, Scheduler}
+use Rattle.queue_model.specs.Types.{Active, Scheduler}
 use Rattle.queue_model.specs.Scheduler.{cost, set-bytes-remaining, peek, accept, new-scheduler}
 use Rattle.queue_words.specs.Header.{optionsAt, putOptions, FitsOptions, schedulerAt, putScheduler}
 use Rattle.queue_words.specs.declared.header.Options.{Options}
@@ -16,7 +16,7 @@ use Rattle.queue_words.specs.declared.active.SchedulingParameters.the-variants.
 use Rattle.stream_scheduler.specs.declared.Peeked.{Peeked}
 use Rattle.stream_scheduler.specs.declared.Peeked.the-variants.{At, Nothing, Broken}
 use Rattle.stream_scheduler.specs.Rows.{weightOf, advanced}
-use Rattle.stream_scheduler.specs.Words.{Outcome, peekWords, setBytesRemaining, acceptAt}
+use Rattle.stream_scheduler.specs.Words.{peekWords, setBytesRemaining, acceptAt}
 use Rattle.stream_scheduler.specs.Link.{entryAt, tableOf, currentOf, modelScheduler, GoodScheduler, at-rest, FitsParameters, free, Chooses, row-chosen, none-chosen}
 use Rattle.stream_scheduler.proofs.Link.{set-link}
 use Rattle.stream_scheduler.proofs.Handing.{accept-link, peek-link}

@@ -25,7 +25,6 @@ use queue_words::active::ActiveStreamInfo;
 use queue_words::active::SchedulingParameters;
 use queue_words::active::load_active;
 use queue_words::active::parameters_of;
-use queue_words::active::parameters_word;
 use queue_words::active::store_active;
 use queue_words::header::Remembered;
 use queue_words::header::SchedulerState;

@@ -1,13 +1,13 @@
 -- A drop put into the log: undone from there, the words behind the header are those that the log before it gives from the words before the drop. Assumes
 -- nothing.
-use mathlib.Core.Path.{_≡_, refl, sym, ap, subst, _∙_}
+use mathlib.Core.Path.{_≡_, refl, ap, _∙_}
 use mathlib.Core.Bool.{Bool, true, false}
 use mathlib.Core.List.{List}
-use Prim.Native.Nat.{ℕ, zero, suc, _+_, _-_, _*_, _≤_, _<_}
+use Prim.Native.Nat.{ℕ, zero, suc, _+_, _*_, _≤_, _<_}
 use native.Mathlib.Nat.{mul-le-mul-right, suc-mul}
 use native.Mathlib.Omega.{arith}
 use lib.Dec.{ltb}
-use lib.ListN.{length, getD, drop}
+use lib.ListN.{length, drop}
 use Rattle.queue_words.specs.Flags.{pick}
 use Rattle.queue_words.specs.Streams.{streamAt}
 use Rattle.undo_log.specs.Log.{header, block, undoneBlock, kept, undoneDrop, undone, waitingRow, keptDrop}

@@ -1,10 +1,10 @@
 -- A turn of the loop that copies words, and its end. Assumes nothing.
-use mathlib.Core.Path.{_≡_, refl, sym, subst, _∙_}
+use mathlib.Core.Path.{_≡_, subst}
 use mathlib.Core.List.{List}
-use Prim.Native.Nat.{ℕ, zero, suc, _+_, _-_, _≤_, _<_}
+use Prim.Native.Nat.{ℕ, suc, _+_, _-_, _≤_, _<_}
 use native.Mathlib.Numerals.{add-one}
 use native.Mathlib.Omega.{arith}
-use lib.ListN.{length, getD, set}
+use lib.ListN.{getD, set}
 use Rattle.queue_words.specs.Rows.{rowFrom, putFrom}
 
 pub copy-start : (to from : List ℕ) (at start n : ℕ) → putFrom to at 0 (rowFrom from start 0 (n - 0)) ≡ putFrom to at 0 (rowFrom from start 0 n)

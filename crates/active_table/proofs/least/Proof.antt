@@ -2,7 +2,7 @@
 -- The invariant: where t turns are left, i + t is the number of rows, and `best` holds `bestAmong (rowsOf ys) start first i`.
 -- Assumes nothing.
 use mathlib.Core.Path.{_≡_, refl, sym, _∙_, ap, subst}
-use mathlib.Core.Bool.{Bool, true, false}
+use mathlib.Core.Bool.{Bool}
 use Prim.Native.Nat.{ℕ, zero, suc, _+_, _<_, _*_, _^_}
 use native.Mathlib.Nat.{zero-add, add-zero, lt-suc-self}
 use native.Mathlib.Numerals.{add-one}

@@ -1,6 +1,5 @@
 -- `owned_restarts::commit_reset_streams` meets its contract: the rows suffice. Assumes nothing.
 use mathlib.Core.Bool.{false}
-use borrow.Author.Needs.{needs}
 use Rattle.linked_restarts.proofs.Contracts.{commit-meets}
 use Rattle.owned_restarts.proofs.Own.{own-room}
 use Rattle.owned_restarts.proofs.commit_reset_streams.Statement.{statement}

@@ -1,6 +1,5 @@
 -- `owned_restarts::enable_message_interleaving` meets its contract: the rows suffice. Assumes nothing.
 use mathlib.Core.Bool.{true}
-use borrow.Author.Needs.{needs}
 use Rattle.linked_restarts.proofs.Contracts.{switch-meets}
 use Rattle.owned_restarts.proofs.Own.{own-room}
 use Rattle.owned_restarts.proofs.enable_message_interleaving.Statement.{statement}

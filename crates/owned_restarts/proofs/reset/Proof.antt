@@ -1,6 +1,5 @@
 -- `owned_restarts::reset` meets its contract: the rows and the sums suffice. Assumes nothing.
 use mathlib.Core.Bool.{true}
-use borrow.Author.Needs.{needs}
 use Rattle.linked_restarts.proofs.Contracts.{reset-meets}
 use Rattle.owned_restarts.proofs.Own.{own-room, own-sum}
 use Rattle.owned_restarts.proofs.reset.Statement.{statement}

@@ -1,7 +1,7 @@
 -- `payload_store::read_own` meets its contract: each way out is a case of `readPart`, by its test. Assumes nothing.
 use borrow.Author.Needs.{needs}
 use native.Mathlib.Omega.{arith}
-use mathlib.Core.Path.{refl, sym}
+use mathlib.Core.Path.{sym}
 use Rattle.payload_store.proofs.Reading.{read-ok, read-done}
 use Rattle.payload_store.proofs.read_own.Statement.{statement}
 use Rattle.payload_store.proofs.read_own.Tie as tie

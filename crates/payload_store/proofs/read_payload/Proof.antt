@@ -1,7 +1,6 @@
 -- `payload_store::read_payload` meets its contract: it is its test, and what follows it. Assumes nothing.
 use borrow.Author.Needs.{needs}
 use native.Mathlib.Omega.{arith}
-use mathlib.Core.Path.{sym}
 use Rattle.payload_store.proofs.Reading.{read-refused}
 use Rattle.payload_store.proofs.read_payload.Statement.{statement}
 use Rattle.payload_store.proofs.read_payload.Tie as tie

@@ -1,7 +1,6 @@
 -- Written by scripts/auto-proof; again, after `rt goals stream_scheduler`: scripts/auto-proof --again stream_scheduler has_row
 -- `stream_scheduler::has_row` meets its contract: each return is what its definition says, by what the calls ensure and the tests taken. Assumes
 -- nothing.
-use borrow.Author.Needs.{needs}
 use borrow.Author.Tests.{eq-eqb, le-ltb, lt-ltb, ne-eqb}
 use Rattle.stream_scheduler.specs.Own.{hasRow}
 use Rattle.stream_scheduler.proofs.has_row.Statement.{statement}

@@ -1,8 +1,7 @@
 -- `undo_log::undo` meets its contract: what undoing the rest leaves is what undoing all leaves. Assumes nothing.
 use mathlib.Core.Path.{_≡_, refl}
-use Prim.Native.Nat.{_≤_, _*_}
+use Prim.Native.Nat.{_≤_}
 use native.Mathlib.Omega.{arith}
-use lib.ListN.{length}
 use Rattle.undo_log.specs.Log.{undone}
 use Rattle.undo_log.proofs.Exits.{undo-turn, undo-end}
 use Rattle.undo_log.proofs.undo.Statement.{statement}

@@ -1,7 +1,6 @@
 -- Written by scripts/auto-proof; again, after `rt goals message_chains`: scripts/auto-proof --again message_chains heads/last_behind
 -- `message_chains::heads::last_behind` meets its contract: each return is what its definition says, by what the calls ensure and the tests taken.
 -- Assumes nothing.
-use borrow.Author.Needs.{needs}
 use borrow.Author.Tests.{le-ltb, lt-ltb}
 use Rattle.message_chains.specs.Heads.{lastBehind}
 use Rattle.message_chains.proofs.heads.last_behind.Statement.{statement}

@@ -1,5 +1,4 @@
 -- `owned_c::questions::dsq_owned_buffered_amount` meets its contract: the owned call's promise of the words. Assumes nothing.
-use borrow.Author.Needs.{needs}
 use Rattle.owned_c.proofs.questions.dsq_owned_buffered_amount.Statement.{statement}
 use Rattle.owned_c.proofs.questions.dsq_owned_buffered_amount.Tie as tie
 

@@ -1,5 +1,4 @@
 -- `owned_c::restarts::dsq_owned_enable_message_interleaving` meets its contract: the owned call's promise of the words. Assumes nothing.
-use borrow.Author.Needs.{needs}
 use Rattle.owned_c.proofs.restarts.dsq_owned_enable_message_interleaving.Statement.{statement}
 use Rattle.owned_c.proofs.restarts.dsq_owned_enable_message_interleaving.Tie as tie
 

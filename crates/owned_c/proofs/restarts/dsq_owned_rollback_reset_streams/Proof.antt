@@ -1,5 +1,4 @@
 -- `owned_c::restarts::dsq_owned_rollback_reset_streams` meets its contract: the owned call's promise of the words. Assumes nothing.
-use borrow.Author.Needs.{needs}
 use Rattle.owned_c.proofs.restarts.dsq_owned_rollback_reset_streams.Statement.{statement}
 use Rattle.owned_c.proofs.restarts.dsq_owned_rollback_reset_streams.Tie as tie
 

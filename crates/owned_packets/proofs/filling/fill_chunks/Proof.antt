@@ -1,5 +1,5 @@
 -- `owned_packets::filling::fill_chunks` meets its contract: what the calls leave from here on is what they leave from the start on, and the words are those of a queue (proofs/Turns.antt). The measure is how many turns are left. Assumes nothing.
-use mathlib.Core.Path.{_≡_, refl, sym, ap, _∙_}
+use mathlib.Core.Path.{_≡_, refl, ap, _∙_}
 use Prim.Native.Nat.{_+_, _≤_}
 use native.Mathlib.Omega.{arith}
 use lib.ListN.{length}

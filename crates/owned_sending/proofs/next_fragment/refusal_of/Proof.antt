@@ -1,5 +1,4 @@
 -- `owned_sending::next_fragment::refusal_of` meets its contract: each return is what its number says. Assumes nothing.
-use borrow.Author.Needs.{needs}
 use mathlib.Core.Path.{sym}
 use Rattle.owned_sending.proofs.Answers.{last-refusal}
 use Rattle.owned_sending.proofs.next_fragment.refusal_of.Statement.{statement}

@@ -1,6 +1,5 @@
 -- `owned_sending::passing::pass_own` meets its contract: passing over from here on leaves what it leaves from the start on, and the words are those of a queue (proofs/Steps.antt). The measure is how many messages wait. Assumes nothing.
 use borrow.Author.Needs.{needs}
-use mathlib.Core.Path.{_∙_}
 use Rattle.queue_words.specs.Header.{totalsAt}
 use Rattle.owned_sending.proofs.Steps.{unbroken, Passed, at-first, ends-nothing, ends-head, may-go, goes-on, fewer-wait}
 use Rattle.owned_sending.proofs.passing.pass_own.Statement.{statement}

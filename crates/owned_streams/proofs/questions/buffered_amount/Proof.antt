@@ -1,6 +1,5 @@
 -- `owned_streams::questions::buffered_amount` meets its contract: the checked call's contract, of the value. Assumes nothing.
 use mathlib.Core.Path.{refl}
-use borrow.Author.Needs.{needs}
 use Rattle.queue_questions.proofs.Exits.{amount-told}
 use Rattle.linked_streams.proofs.Asks.{amount-meets}
 use Rattle.owned_streams.proofs.Own.{own-findable}

@@ -1,6 +1,5 @@
 -- `owned_streams::questions::get_priority` meets its contract: the checked call's contract, of the value. Assumes nothing.
 use mathlib.Core.Path.{refl}
-use borrow.Author.Needs.{needs}
 use Rattle.queue_questions.proofs.Exits.{priority-told}
 use Rattle.linked_streams.proofs.Asks.{priority-meets}
 use Rattle.owned_streams.proofs.Own.{own-findable}

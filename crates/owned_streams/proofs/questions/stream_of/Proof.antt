@@ -1,5 +1,5 @@
 -- `owned_streams::questions::stream_of` meets its contract: each return is a case of `streamOrNew`. Assumes nothing.
-use mathlib.Core.Path.{refl, ap}
+use mathlib.Core.Path.{ap}
 use borrow.Author.Needs.{needs}
 use Rattle.queue_words.specs.Find.{foundBy}
 use Rattle.queue_questions.proofs.Exits.{stream-known, stream-new}

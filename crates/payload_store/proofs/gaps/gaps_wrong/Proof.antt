@@ -1,6 +1,5 @@
 -- Written by scripts/auto-proof; again, after `rt goals payload_store`: scripts/auto-proof --again payload_store gaps/gaps_wrong
 -- `payload_store::gaps::gaps_wrong` meets its contract: each return is what its definition says, by what the calls ensure and the tests taken. Assumes nothing.
-use borrow.Author.Needs.{needs}
 use borrow.Author.Tests.{le-ltb, lt-ltb}
 use Rattle.payload_store.specs.Gaps.{gapsWrong}
 use Rattle.payload_store.proofs.gaps.gaps_wrong.Statement.{statement}

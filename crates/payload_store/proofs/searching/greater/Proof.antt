@@ -1,7 +1,6 @@
 -- Written by scripts/auto-proof; again, after `rt goals payload_store`: scripts/auto-proof --again payload_store searching/greater
 -- `payload_store::searching::greater` meets its contract: each return is what its definition says, by what the calls ensure and the tests taken. Assumes
 -- nothing.
-use borrow.Author.Needs.{needs}
 use borrow.Author.Tests.{le-ltb, lt-ltb}
 use Rattle.payload_store.specs.Searching.{greater}
 use Rattle.payload_store.proofs.searching.greater.Statement.{statement}

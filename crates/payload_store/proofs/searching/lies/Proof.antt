@@ -1,6 +1,5 @@
 -- Written by scripts/auto-proof; again, after `rt goals payload_store`: scripts/auto-proof --again payload_store searching/lies
 -- `payload_store::searching::lies` meets its contract: each return is what its definition says, by what the calls ensure and the tests taken. Assumes nothing.
-use borrow.Author.Needs.{needs}
 use borrow.Author.Tests.{le-ltb, lt-ltb}
 use Rattle.payload_store.specs.Searching.{lies}
 use Rattle.payload_store.proofs.searching.lies.Statement.{statement}

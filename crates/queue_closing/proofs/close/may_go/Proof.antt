@@ -1,5 +1,4 @@
 -- `queue_closing::close::may_go` meets its contract: each return is what its definition says, by what the calls ensure and the tests taken. Assumes nothing.
-use borrow.Author.Needs.{needs}
 use borrow.Author.Tests.{eq-eqb, le-ltb, lt-ltb, ne-eqb}
 use Rattle.queue_closing.specs.Walk.{mayGo}
 use Rattle.queue_closing.proofs.close.may_go.Statement.{statement}

@@ -1,7 +1,6 @@
 -- Written by scripts/auto-proof; again, after `rt goals queue_messages`: scripts/auto-proof --again queue_messages creation/create_code
 -- `queue_messages::creation::create_code` meets its contract: each return is what its definition says, by what the calls ensure and the tests taken.
 -- Assumes nothing.
-use borrow.Author.Needs.{needs}
 use borrow.Author.Tests.{eq-eqb, le-ltb, lt-ltb, ne-eqb}
 use Rattle.queue_messages.specs.Create.{createCode}
 use Rattle.queue_messages.proofs.creation.create_code.Statement.{statement}

@@ -2,7 +2,6 @@
 use mathlib.Core.Path.{_≡_}
 use Prim.Native.Nat.{_-_, _≤_}
 use native.Mathlib.Omega.{arith}
-use borrow.Author.Needs.{needs}
 use Rattle.queue_messages.specs.Create.{freed}
 use Rattle.queue_messages.proofs.Lemmas.{freed-none, freed-next, freed-all}
 use Rattle.queue_messages.proofs.creation.free_all.Statement.{statement}

@@ -1,6 +1,5 @@
 -- `queue_restarts::whole::whole_item` meets its contract: each return is what its definition says, by the test taken. Assumes nothing.
 use borrow.Author.Needs.{needs}
-use Rattle.queue_restarts.specs.Reset.{wholeItem}
 use Rattle.queue_restarts.proofs.whole.whole_item.Statement.{statement}
 use Rattle.queue_restarts.proofs.whole.whole_item.Tie as tie
 

@@ -1,6 +1,5 @@
 -- Written by scripts/auto-proof; again, after `rt goals queue_sending`: scripts/auto-proof --again queue_sending next_fragment/lent_code
 -- `queue_sending::next_fragment::lent_code` meets its contract: each return is what its definition says, by the tests taken. Assumes nothing.
-use borrow.Author.Needs.{needs}
 use borrow.Author.Tests.{eq-eqb, le-ltb, lt-ltb, ne-eqb}
 use Rattle.queue_sending.proofs.next_fragment.lent_code.Statement.{statement}
 use Rattle.queue_sending.proofs.next_fragment.lent_code.Tie as tie

@@ -1,7 +1,6 @@
 -- Written by scripts/auto-proof; again, after `rt goals queue_sending`: scripts/auto-proof --again queue_sending numbers/next_numbers
 -- `queue_sending::numbers::next_numbers` meets its contract: each return is what its definition says, by what the calls ensure and the tests taken.
 -- Assumes nothing.
-use borrow.Author.Needs.{needs}
 use Rattle.queue_sending.proofs.numbers.next_numbers.Statement.{statement}
 use Rattle.queue_sending.proofs.numbers.next_numbers.Tie as tie
 
