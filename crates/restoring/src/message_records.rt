@@ -3,6 +3,7 @@ ghost use mathlib.Core.Path.{_≡_};
 ghost use Prim.Native.Nat.{_+_, _≤_, _<_};
 ghost use lib.ListN.{length};
 ghost use Rattle.queue_model.specs.Reader.{has-flag};
+ghost use Rattle.queue_messages.specs.Add.{linkedLast};
 ghost use Rattle.restoring.specs.Messages.{restoredNumbers, restoredExpiry, restoredItem, unsentOf, countedRestored, restored, hungAt, hung, homed, homeOf, hungWith, recordRestored, messageRestored, messagesRestored};
 use handover_records::records::HandoverStreamMessage;
 use image_reader::read_message;
@@ -28,6 +29,7 @@ use queue_words::limits::NO_MESSAGE;
 use queue_words::limits::STREAM_ROWS;
 use queue_words::streams::OutgoingStream;
 use queue_words::streams::load_stream;
+use queue_words::streams::store_chain;
 use types::Fsn;
 use types::Mid;
 use types::OutgoingMessageId;
@@ -107,6 +109,23 @@ fn count_restored(queue: &mut [u64; QUEUE_WORDS], free: u64, n: u64)
     store_totals(queue, t);
 }
 
+// Hangs a message's place to the end of a stream's chain. A last place outside its table, which cannot be, is passed over.
+fn link(queue: &mut [u64; QUEUE_WORDS], row: usize, s: OutgoingStream, place: u64, n: u64)
+    requires { ⌜ row < 256 ⌝ }
+    ensures { λ _. ⌜ now (queue .exit) ≡ linkedLast (now (queue .entry)) row s place n ⌝ }
+{
+    if s.last < NO_MESSAGE {
+        link_last(queue, row, s, place, n);
+        return;
+    }
+    if s.first > LAST_MESSAGE {
+        link_last(queue, row, s, place, n);
+        return;
+    }
+    let amount = plus(s.buffered_amount, n);
+    store_chain(queue, row, amount, s.first, place);
+}
+
 // The message in a place, at the end of its stream's chain, with its payload.
 fn hang_at(
     queue: &mut [u64; QUEUE_WORDS],
@@ -125,7 +144,7 @@ fn hang_at(
 {
     store_item(queue, place, m);
     put_payload(queue, store, place, payload);
-    link_last(queue, row, s, place as u64, n);
+    link(queue, row, s, place as u64, n);
     count_restored(queue, free, n);
     at
 }

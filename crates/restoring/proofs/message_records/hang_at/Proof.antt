@@ -12,7 +12,7 @@ returns c =
     rw (
       ← (c .before .before .before .before .before .before .before .before .before .store-item .ensures),
       ← (c .before .before .before .before .before .before .put-payload .ensures),
-      ← (c .before .before .link-last .ensures),
+      ← (c .before .before .link .ensures),
       ← (c .count-restored .ensures),
     )
 
