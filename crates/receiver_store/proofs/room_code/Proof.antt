@@ -1,8 +1,8 @@
 -- Written by scripts/auto-proof; again, after `rt goals receiver_store`: scripts/auto-proof --again receiver_store room_code
 -- `receiver_store::room_code` meets its contract: each return is what its definition says, by what the calls ensure and the tests taken. Assumes nothing.
 use borrow.Author.Needs.{needs}
-use native.Mathlib.Omega.{arith}
 use borrow.Author.Tests.{le-leb, le-ltb, lt-leb, lt-ltb}
+use native.Mathlib.Omega.{arith}
 use Rattle.receiver_store.specs.Putting.{roomCode}
 use Rattle.receiver_store.proofs.room_code.Statement.{statement}
 use Rattle.receiver_store.proofs.room_code.Tie as tie
@@ -47,6 +47,9 @@ returns-4 c =
       le-leb _ _ (c .if4 .taken),
     )
 
+pack-code-requires : tie.Need-pack-code-requires
+pack-code-requires c κs = omega (arith, c .before .before .before .before .before .load-header .ensures, c .before .before .before .before .if1 .left, c .before .before .before .if2 .left)
+
 returns-5 : tie.Need-returns-5
 unfolding roomCode
 returns-5 c =
@@ -59,9 +62,6 @@ returns-5 c =
       lt-leb _ _ (c .before .if4 .left),
       ← (c .pack-code .ensures),
     )
-
-pack-code-requires : tie.Need-pack-code-requires
-pack-code-requires c κs = omega (arith, c .before .before .before .before .before .load-header .ensures, c .before .before .before .before .if1 .left, c .before .before .before .if2 .left)
 
 pub room-code-spec : {M : Type 1} → statement M
 room-code-spec =
