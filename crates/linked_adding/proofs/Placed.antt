@@ -37,7 +37,7 @@ pub record Placed (ws st : List ℕ) (p : ℕ) (m : Item) (bs us ut : List ℕ) 
   pub known : (j : ℕ) → j < 256 → knownAt us j ≡ knownAt ws j
   pub streams : (j : ℕ) → j < 256 → streamAt us j ≡ streamAt ws j
   pub store : length ut ≡ length st
-  pub lay : payload.Good us ut
+  pub lay : payload.GoodPayloads us ut
   -- the new message
   pub new-next : nextOf us p ≡ m .next
   pub new-size : sizeOf us p ≡ length bs
@@ -58,7 +58,7 @@ unfolding itemIn
 item-in ws st x a b m e = ap (λ k. itemOf k (payloadOf ws st x)) e
 
 module _ (ws st : List ℕ) (p : ℕ) (m : Item) (l : length ws ≡ 20768) (h : p < 1024) (fits : FitsItem m) (no-place : m .place ≡ 0) (no-length : m .length ≡ 0)
-    (lay : payload.Good ws st) (dead : sizeOf ws p ≡ 0) where
+    (lay : payload.GoodPayloads ws st) (dead : sizeOf ws p ≡ 0) where
   -- the row stored, its payload not yet
   us : List ℕ
   us = putItem ws p m
@@ -102,7 +102,7 @@ module _ (ws st : List ℕ) (p : ℕ) (m : Item) (l : length ws ≡ 20768) (h : 
       (λ e. let z : placeOf us x ≡ 0 = subst (λ y. placeOf us y ≡ 0) e (ap (λ (k : Item). k .place) own ∙ no-place) in let y : sizeOf ws x ≡ 0 = subst (λ y. sizeOf ws y ≡ 0) e dead in omega (arith, sizes x))
       (λ ne. omega (arith, ap (λ (k : Item). k .place) (other x ne), sizes x, lay .inside x b))
 
-  lay-row : payload.Good us st
+  lay-row : payload.GoodPayloads us st
   lay-row = rw gaps-kept (record {
     long = whole;
     limit-in = lay .limit-in;

@@ -38,7 +38,7 @@ restAt ws y = rest (itemAt ws y)
 -- A chain whose messages can be dropped: each place once, each with a payload of which nothing is sent.
 pub record Ready (ws st : List ℕ) (p : ℕ) (ps : List ℕ) : Type 0 where
   pub long : length ws ≡ 20768
-  pub lay : payload.Good ws st
+  pub lay : payload.GoodPayloads ws st
   pub linked : Linked (nextOf ws) p ps
   pub once : (y : ℕ) → count y ps ≤ 1
   pub live : (y : ℕ) → 1 ≤ count y ps → 1 ≤ sizeOf ws y
@@ -108,7 +108,7 @@ cleared ws (x ∷ xs) = cleared (released ws x (restAt ws x)) xs
 -- The messages in ps are gone; of those in hd at most the next places are changed.
 pub record Clear (ws st hd ps us : List ℕ) : Type 0 where
   pub long : length us ≡ length ws
-  pub lay : payload.Good us st
+  pub lay : payload.GoodPayloads us st
   -- the free places: the dropped ones, the last first, before those that were free
   pub free : (fr : List ℕ) → Linked (nextOf ws) (totalsAt ws .free) fr → ((y : ℕ) → 1 ≤ count y fr → y < 1024) → ((y : ℕ) → 1 ≤ count y fr → count y hd + count y ps ≡ 0)
       → Linked (nextOf us) (totalsAt us .free) (reverseAux ps fr)
@@ -132,7 +132,7 @@ pub record Clear (ws st hd ps us : List ℕ) : Type 0 where
   pub active : (j : ℕ) → activeAt us j ≡ activeAt ws j
   pub leasts : leastsAt us ≡ leastsAt ws
 
-pub clear-none : (ws st : List ℕ) → payload.Good ws st → Clear ws st [] [] ws
+pub clear-none : (ws st : List ℕ) → payload.GoodPayloads ws st → Clear ws st [] [] ws
 clear-none ws st g = record {
   long = refl;
   lay = g;

@@ -124,7 +124,7 @@ fresh-each ws st (x ∷ xs) f y h = by-index y x
     (λ e. subst (λ (z : ℕ). (itemIn ws st z) .offset ≡ 0) (sym e) (f .0))
     (λ ne. fresh-each ws st xs (f .1) y (omega (arith, hit-other y x ne)))
 
-rests-are : (ws st : List ℕ) (ps : List ℕ) → payload.Good ws st → ((y : ℕ) → 1 ≤ count y ps → y < 1024) → unsent-bytes (each (itemIn ws st) ps) ≡ sumOf (restAt ws) ps
+rests-are : (ws st : List ℕ) (ps : List ℕ) → payload.GoodPayloads ws st → ((y : ℕ) → 1 ≤ count y ps → y < 1024) → unsent-bytes (each (itemIn ws st) ps) ≡ sumOf (restAt ws) ps
 rests-are ws st [] g f = refl
 rests-are ws st (x ∷ xs) g f = omega (arith, rest-is ws st x g (f x (count-head x xs)), rests-are ws st xs g (λ y h. f y (omega arith)))
 

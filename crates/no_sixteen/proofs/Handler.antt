@@ -16,7 +16,7 @@ use Rattle.queue_restarts.specs.Reset.{resetQueue}
 use Rattle.queue_runs.specs.Calls as calls
 use Rattle.queue_runs.specs.Run.{State, step}
 use Rattle.queue_runs.specs.Creation.{sixteen}
-use Rattle.queue_runs.specs.Meaning.{Good}
+use Rattle.queue_runs.specs.Meaning.{GoodState}
 use Rattle.queue_runs.proofs.Runs.{run-link}
 use Rattle.queue_runs.proofs.Steps.{step-link}
 use Rattle.reset_model.specs.Wire as wire
@@ -40,7 +40,7 @@ use Rattle.no_sixteen.proofs.Calls.{good-call}
 
 -- ---- the queue's own answers
 
-module _ (s : State) (g : Good s) where
+module _ (s : State) (g : GoodState s) where
   count-not : sixteen (calls.number (readyCount (s .words))) ≡ false
   unfolding step
   count-not = good-call calls.ask-ready-count s g tt
@@ -70,11 +70,11 @@ module _ (out : List ℕ) (response-number last-tsn : ℕ) (p : Pair) where
   for-count (number.Refused k) e = e
   for-count (number.Value k) e = for-value k (eqb k 0) (ltb (length out) (request-size k))
 
-  for-underway : (u : Underway) → Good (p .queue) → sixteenRequest (requestIn u (readyIn ws) ws (p .handler) out response-number last-tsn .made .answer) ≡ false
+  for-underway : (u : Underway) → GoodState (p .queue) → sixteenRequest (requestIn u (readyIn ws) ws (p .handler) out response-number last-tsn .made .answer) ≡ false
   for-underway (underway.Number k) g = refl
   for-underway underway.Nothing g = for-count (readyCount ws) (count-not (p .queue) g)
 
-  request-not : Good (p .queue) → sixteenRequest (requested out response-number last-tsn p .made .answer) ≡ false
+  request-not : GoodState (p .queue) → sixteenRequest (requested out response-number last-tsn p .made .answer) ≡ false
   unfolding makeRequest
   request-not g = for-underway (p .handler .underway) g
 
@@ -89,7 +89,7 @@ either : (b : Bool) (x y : HandledWith) → sixteenResponse (x .handled-as .answ
 either true x y e f = e
 either false x y e f = f
 
-by-response : (p : Pair) (r : Response) → Good (p .queue) → sixteenResponse (respondTo r (endsIn (p .queue .words)) (p .queue .words) (p .handler) .handled-as .answer) ≡ false
+by-response : (p : Pair) (r : Response) → GoodState (p .queue) → sixteenResponse (respondTo r (endsIn (p .queue .words)) (p .queue .words) (p .handler) .handled-as .answer) ≡ false
 by-response p (response.Commits k) g =
     either (isUnderway (p .handler) k) (finished true (endsIn (p .queue .words) .commit) (p .handler)) (ignoredIn (p .queue .words) (p .handler))
     (finished-not true (reopen true (p .queue .words) .answer) (reopen true (p .queue .words) .next) (p .handler) (reopen-not (p .queue) g true)) refl
@@ -99,7 +99,7 @@ by-response p (response.RollsBack k) g =
 by-response p (response.KeepsWaiting k) g = either (isUnderway (p .handler) k) (handledWith (handled receiving.StillWaiting (p .handler)) (p .queue .words)) (ignoredIn (p .queue .words) (p .handler)) refl refl
 by-response p response.Malformed g = refl
 
-response-not : (bs : List ℕ) (p : Pair) → Good (p .queue) → sixteenResponse (responded bs p .handled-as .answer) ≡ false
+response-not : (bs : List ℕ) (p : Pair) → GoodState (p .queue) → sixteenResponse (responded bs p .handled-as .answer) ≡ false
 unfolding handleResponse
 response-not bs p g = by-response p (responseOf (wire.read-response bs)) g
 
@@ -111,27 +111,27 @@ restart-not (call.Refused k) ws h e = e
 
 -- ---- any use, and lists of them
 
-pub good-use : (u : Use) (p : Pair) → Good (p .queue) → UseTyped u → useShows u p ≡ false
+pub good-use : (u : Use) (p : Pair) → GoodState (p .queue) → UseTyped u → useShows u p ≡ false
 good-use (uses.request out r t) p g h = request-not out r t p g
 good-use (uses.response bs) p g h = response-not bs p g
 good-use uses.reset p g h = restart-not (resetQueue (p .queue .words) .answer) (resetQueue (p .queue .words) .next) (p .handler) (reset-not (p .queue) g)
 good-use (uses.other c) p g h = good-call c (p .queue) g h
 
 -- the handler's own calls are calls of the queue's
-own-good : (u : Use) (p : Pair) → Allowed u → Good (p .queue) → Good (used u p .queue)
+own-good : (u : Use) (p : Pair) → Allowed u → GoodState (p .queue) → GoodState (used u p .queue)
 unfolding after
-own-good u p a g = let q = handler-as-calls (u ∷ []) p (a, tt) in subst Good (sym (q .same)) (run-link (q .calls) (p .queue) g (q .typed) .good)
+own-good u p a g = let q = handler-as-calls (u ∷ []) p (a, tt) in subst GoodState (sym (q .same)) (run-link (q .calls) (p .queue) g (q .typed) .good)
 
-other-good : (c : calls.Call) (p : Pair) → calls.Typed c → Good (p .queue) → Good (used (uses.other c) p .queue)
+other-good : (c : calls.Call) (p : Pair) → calls.Typed c → GoodState (p .queue) → GoodState (used (uses.other c) p .queue)
 unfolding used
 other-good c p t g = step-link c (p .queue) g t .good
 
-pub kept-good : (u : Use) (p : Pair) → Good (p .queue) → UseTyped u → Good (used u p .queue)
+pub kept-good : (u : Use) (p : Pair) → GoodState (p .queue) → UseTyped u → GoodState (used u p .queue)
 kept-good (uses.request out r t) p g h = own-good (uses.request out r t) p tt g
 kept-good (uses.response bs) p g h = own-good (uses.response bs) p tt g
 kept-good uses.reset p g h = own-good uses.reset p tt g
 kept-good (uses.other c) p g h = other-good c p h g
 
-pub good-uses : (us : List Use) (p : Pair) → Good (p .queue) → UsesTyped us → NoUseShows us p
+pub good-uses : (us : List Use) (p : Pair) → GoodState (p .queue) → UsesTyped us → NoUseShows us p
 good-uses [] p g t = tt
 good-uses (u ∷ us) p g t = (good-use u p g (t .0), good-uses us (used u p) (kept-good u p g (t .0)) (t .1))

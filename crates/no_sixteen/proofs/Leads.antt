@@ -4,7 +4,7 @@ use mathlib.Core.List.{List, [], _∷_}
 use Rattle.queue_runs.specs.Calls.{Call}
 use Rattle.queue_runs.specs.Run.{State, after, step}
 use Rattle.queue_runs.specs.Creation.{Arguments}
-use Rattle.queue_runs.specs.Meaning.{Good, AllTyped}
+use Rattle.queue_runs.specs.Meaning.{GoodState, AllTyped}
 use Rattle.stream_reset_handler.specs.declared.handler.StreamResetHandler.{StreamResetHandler}
 use Rattle.stream_reset_handler.specs.Handler.{handlerOf}
 use Rattle.reset_model.specs.Handler as model
@@ -16,16 +16,16 @@ use Rattle.no_sixteen.specs.NoSixteen.{Led, Broken}
 use Rattle.no_sixteen.proofs.Calls.{good-start}
 use Rattle.no_sixteen.proofs.Handler.{kept-good}
 
-uses-good : (us : List Use) (p : Pair) → Good (p .queue) → UsesTyped us → Good (mixed.after us p .queue)
+uses-good : (us : List Use) (p : Pair) → GoodState (p .queue) → UsesTyped us → GoodState (mixed.after us p .queue)
 unfolding mixed.after
 uses-good [] p g t = g
 uses-good (u ∷ us) p g t = uses-good us (used u p) (kept-good u p g (t .0)) (t .1)
 
-pub led-good : (s : State) → Led s → Good s
-led-good s l = subst Good (sym (l .state-is)) (uses-good (l .uses) (pair (l .handler) (l .start)) (good-start (l .arguments) (l .start) (l .starts)) (l .typed))
+pub led-good : (s : State) → Led s → GoodState s
+led-good s l = subst GoodState (sym (l .state-is)) (uses-good (l .uses) (pair (l .handler) (l .start)) (good-start (l .arguments) (l .start) (l .starts)) (l .typed))
 
 -- what no good state has is broken
-pub broken : (s : State) → (Good s → ⊥) → Broken s
+pub broken : (s : State) → (GoodState s → ⊥) → Broken s
 broken s f = record { not-good = f; not-led = λ l. f (led-good s l) }
 
 -- ---- the queue's calls alone

@@ -11,7 +11,7 @@ use Rattle.queue_model.specs.Image as image
 use Rattle.queue_model.specs.Answers.{saving-number}
 use Rattle.queue_state.specs.Model.{model}
 use Rattle.queue_runs.specs.Run.{State}
-use Rattle.queue_runs.specs.Meaning.{Good}
+use Rattle.queue_runs.specs.Meaning.{GoodState}
 use Rattle.saving.specs.Save.{savedNumber, saveImage}
 use Rattle.saving.specs.declared.image.Saved.{Saved}
 use Rattle.saving.specs.declared.image.Saved.the-variants as saved
@@ -34,7 +34,7 @@ saved-not : (r : Saved) → eqb (savedNumber r) 16 ≡ false → sixteenSaved r 
 saved-not (saved.Image n) e = refl
 saved-not (saved.Refused n) e = e
 
-pub good-saving : (s : State) (buffer : List ℕ) (time : ℕ) → Good s → saveShows buffer time s ≡ false
+pub good-saving : (s : State) (buffer : List ℕ) (time : ℕ) → GoodState s → saveShows buffer time s ≡ false
 good-saving s buffer time g =
     let r = saveImage (s .words) (s .store) buffer time in
     saved-not (r .answer)

@@ -9,7 +9,7 @@ use lib.ListN.{length}
 use Rattle.queue_runs.specs.Calls.{Call, Typed}
 use Rattle.queue_runs.specs.Run.{State, run, after}
 use Rattle.queue_runs.specs.Creation.{Arguments, NoSixteen}
-use Rattle.queue_runs.specs.Meaning.{Good, AllTyped}
+use Rattle.queue_runs.specs.Meaning.{GoodState, AllTyped}
 use Rattle.stream_reset_handler.specs.declared.handler.StreamResetHandler.{StreamResetHandler}
 use Rattle.reset_runs.specs.Uses.{Use, Pair, pair}
 use Rattle.reset_runs.specs.Uses as mixed
@@ -60,7 +60,7 @@ pub record NoCallsLead : Type 0 where
 
 -- The words and the store are no queue's, so no calls lead to them.
 pub record Broken (s : State) : Type 0 where
-  pub not-good : Good s → ⊥
+  pub not-good : GoodState s → ⊥
   pub not-led : Led s → ⊥
 
 -- A typed call that shows 16 was handed a state that no calls lead to.

@@ -16,7 +16,7 @@ use Rattle.queue_words.specs.Items.{putLength}
 use Rattle.payload_store.specs.Words.{usedOf, gapsOf, placeOf, sizeOf, putBytes}
 use Rattle.payload_store.specs.Gaps.{gaps, keeps, gapsLeft}
 use Rattle.payload_store.specs.Dropping.{dropCode, gapsThen, dropped, dropPayload}
-use Rattle.payload_store.specs.Good.{payloadOf, sumTo, ClearOf, Good}
+use Rattle.payload_store.specs.Good.{payloadOf, sumTo, ClearOf, GoodPayloads}
 use Rattle.payload_store.specs.Promise.{Dropped}
 use Rattle.payload_store.proofs.Cases.{by-index, pick-else}
 use Rattle.payload_store.proofs.Laws.{size-length, size-same, size-other, size-place, bytes-length, bytes-place, bytes-size, bytes-used, bytes-gaps}
@@ -70,7 +70,7 @@ record Clear (ws st : List ℕ) (r : ℕ) (g : Gaps) : Type 0 where
   others : ClearBut ws r (g .end) (g .limit)
   asides : ClearBut ws r (g .from) (g .upto)
 
-module _ (ws st : List ℕ) (r : ℕ) (l : Good ws st) (h : r < 1024) (live : 1 ≤ sizeOf ws r) where
+module _ (ws st : List ℕ) (r : ℕ) (l : GoodPayloads ws st) (h : r < 1024) (live : 1 ≤ sizeOf ws r) where
   abbrev g : Gaps
   g = gapsOf ws
 
@@ -134,7 +134,7 @@ module _ (ws st : List ℕ) (r : ℕ) (l : Good ws st) (h : r < 1024) (live : 1 
       stays true = same-clear
       stays false = new-clear
 
-module _ (ws st : List ℕ) (r : ℕ) (e : Gaps) (g : Good ws st) (h : r < 1024) (eo : Clear ws st r e) where
+module _ (ws st : List ℕ) (r : ℕ) (e : Gaps) (g : GoodPayloads ws st) (h : r < 1024) (eo : Clear ws st r e) where
   abbrev ws′ : List ℕ
   ws′ = putBytes (putLength ws r 0) (usedOf ws - sizeOf ws r) e
 
@@ -192,7 +192,7 @@ module _ (ws st : List ℕ) (r : ℕ) (e : Gaps) (g : Good ws st) (h : r < 1024)
   }
 
 -- where nothing is used any more, any gap in the store does
-none-clear : (ws st : List ℕ) (r : ℕ) (g : Gaps) → Good ws st → r < 1024 → usedOf ws ≡ sizeOf ws r → Ordered g (length st) → Clear ws st r (gaps 0 (g .limit) 0 0)
+none-clear : (ws st : List ℕ) (r : ℕ) (g : Gaps) → GoodPayloads ws st → r < 1024 → usedOf ws ≡ sizeOf ws r → Ordered g (length st) → Clear ws st r (gaps 0 (g .limit) 0 0)
 none-clear ws st r g l h q o = record {
   order = record { limit-in = o .limit-in; end-in = omega arith; upto-in = omega arith; from-in = omega arith };
   beside = inl (omega arith);
@@ -201,7 +201,7 @@ none-clear ws st r g l h q o = record {
 }
 
 -- THE THEOREM of dropping
-pub drop-law : (ws st : List ℕ) (r : ℕ) → Good ws st → r < 1024 → 1 ≤ sizeOf ws r → (dropCode ws r ≡ 0) × Dropped ws st r (dropPayload ws r)
+pub drop-law : (ws st : List ℕ) (r : ℕ) → GoodPayloads ws st → r < 1024 → 1 ≤ sizeOf ws r → (dropCode ws r ≡ 0) × Dropped ws st r (dropPayload ws r)
 unfolding dropPayload dropped dropCode gapsThen
 drop-law ws st r g h s =
     let b : sizeOf ws r ≤ usedOf ws = omega (arith, g .used-is, sum-has (sizeOf ws) r 1024 h) in

@@ -9,13 +9,13 @@ use lib.Seq.{length-take-le}
 use Rattle.queue_words.specs.declared.header.Gaps.{Gaps}
 use Rattle.payload_store.specs.Words.{usedOf, gapsOf, placeOf, sizeOf}
 use Rattle.payload_store.specs.Gaps.{gaps}
-use Rattle.payload_store.specs.Good.{payloadOf, ClearOf, Lay, Good}
+use Rattle.payload_store.specs.Good.{payloadOf, ClearOf, Lay, GoodPayloads}
 use Rattle.payload_store.specs.Promise.{SamePlaces}
 use Rattle.payload_store.proofs.Sums.{sum-same, sum-zero}
 use Rattle.payload_store.proofs.Together.{together-law}
 
 -- a new queue: no row has a payload, and nothing is used
-pub new-good : (ws st : List ℕ) → length ws ≡ 20768 → ((i : ℕ) → i < 1024 → placeOf ws i ≡ 0) → ((i : ℕ) → i < 1024 → sizeOf ws i ≡ 0) → usedOf ws ≡ 0 → gapsOf ws ≡ gaps 0 0 0 0 → Good ws st
+pub new-good : (ws st : List ℕ) → length ws ≡ 20768 → ((i : ℕ) → i < 1024 → placeOf ws i ≡ 0) → ((i : ℕ) → i < 1024 → sizeOf ws i ≡ 0) → usedOf ws ≡ 0 → gapsOf ws ≡ gaps 0 0 0 0 → GoodPayloads ws st
 new-good ws st l p s u e = rw e (record {
   long = l;
   limit-in = omega arith;
@@ -35,7 +35,7 @@ same-clear ws ws′ k a b c i h q =
     ⊎-elim (λ x. inl (omega (arith, k .places i h, k .sizes i h))) (λ x. inr (omega (arith, k .places i h))) (c i h (omega (arith, k .sizes i h)))
 
 -- the invariant and the payloads are told by places, lengths, used bytes and gaps
-pub good-same : (ws ws′ st : List ℕ) → SamePlaces ws ws′ → Good ws st → Good ws′ st
+pub good-same : (ws ws′ st : List ℕ) → SamePlaces ws ws′ → GoodPayloads ws st → GoodPayloads ws′ st
 good-same ws ws′ st k g = rw (k .gaps) (record {
   long = k .long ∙ g .long;
   limit-in = g .limit-in;

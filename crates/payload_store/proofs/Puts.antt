@@ -18,7 +18,7 @@ use Rattle.payload_store.specs.Gaps.{gaps, room, gapsWrong, gapFor}
 use Rattle.payload_store.specs.Searching.{found}
 use Rattle.payload_store.specs.Moving.{Pack, together}
 use Rattle.payload_store.specs.Putting.{allFit, Outcome, outcome, written, placed, putCode, putElsewhere, putPayload}
-use Rattle.payload_store.specs.Good.{payloadOf, sumTo, Apart, Lay, Good}
+use Rattle.payload_store.specs.Good.{payloadOf, sumTo, Apart, Lay, GoodPayloads}
 use Rattle.payload_store.specs.Promise.{Together, Put}
 use Rattle.payload_store.proofs.Cases.{by-index}
 use Rattle.payload_store.proofs.Laws.{place-length, place-same, place-other, place-size, size-length, size-same, size-other, size-place, bytes-length, bytes-place, bytes-size, bytes-used, bytes-gaps}
@@ -185,7 +185,7 @@ module _ (ws st : List ℕ) (g : Gaps) (r : ℕ) (bs : List ℕ) (l : Lay ws st 
   }
 
 -- the test passes
-module _ (ws st : List ℕ) (r n : ℕ) (g : Good ws st) (h : r < 1024) (dead : sizeOf ws r ≡ 0) (fits : usedOf ws + n ≤ length st) where
+module _ (ws st : List ℕ) (r n : ℕ) (g : GoodPayloads ws st) (h : r < 1024) (dead : sizeOf ws r ≡ 0) (fits : usedOf ws + n ≤ length st) where
   ordered : gapsWrong (gapsOf ws) (length st) ≡ false
   ordered = ordered-right (gapsOf ws) (length st) (lay-ordered ws st (gapsOf ws) g)
 
@@ -244,7 +244,7 @@ after-moving ws st t r bs o m p = record {
 }
 
 -- elsewhere: in the gap that is found, or after moving together
-elsewhere-law : (ws st : List ℕ) (r : ℕ) (bs : List ℕ) → Good ws st → r < 1024 → sizeOf ws r ≡ 0 → usedOf ws + length bs ≤ length st → Put ws st r bs (putElsewhere ws st r bs)
+elsewhere-law : (ws st : List ℕ) (r : ℕ) (bs : List ℕ) → GoodPayloads ws st → r < 1024 → sizeOf ws r ≡ 0 → usedOf ws + length bs ≤ length st → Put ws st r bs (putElsewhere ws st r bs)
 elsewhere-law ws st r bs g h dead fits =
     let f = found ws (usedOf ws) (length st) in
     let l = found-lay ws st (gapsOf ws) g in
@@ -261,7 +261,7 @@ elsewhere-law ws st r bs g h dead fits =
     rw (← e) (placed-law ws st f r bs l h dead (omega (arith, l .end-in))))
 
 -- THE THEOREM of putting
-pub put-law : (ws st : List ℕ) (r : ℕ) (bs : List ℕ) → Good ws st → r < 1024 → sizeOf ws r ≡ 0 → usedOf ws + length bs ≤ length st → Put ws st r bs (putPayload ws st r bs)
+pub put-law : (ws st : List ℕ) (r : ℕ) (bs : List ℕ) → GoodPayloads ws st → r < 1024 → sizeOf ws r ≡ 0 → usedOf ws + length bs ≤ length st → Put ws st r bs (putPayload ws st r bs)
 put-law ws st r bs g h dead fits =
     let f = gapFor (gapsOf ws) (length bs) in
     let l = for-lay ws st (gapsOf ws) (length bs) g in
@@ -274,7 +274,7 @@ put-law ws st r bs g h dead fits =
     rw (← e) (placed-law ws st f r bs l h dead (omega (arith, l .end-in))))
 
 -- and one for which they do not is refused, and changes nothing
-pub put-full : (ws st : List ℕ) (r : ℕ) (bs : List ℕ) → Good ws st → r < 1024 → sizeOf ws r ≡ 0 → length st < usedOf ws + length bs → putPayload ws st r bs ≡ outcome 8 ws st
+pub put-full : (ws st : List ℕ) (r : ℕ) (bs : List ℕ) → GoodPayloads ws st → r < 1024 → sizeOf ws r ≡ 0 → length st < usedOf ws + length bs → putPayload ws st r bs ≡ outcome 8 ws st
 put-full ws st r bs g h dead full =
     let c = code-full ws (length st) r (length bs) h dead (used-fits ws st (gapsOf ws) g) full in
     sym (out-refused ws st bs r 8 (sym c) (λ z. omega arith) (λ z. omega arith))

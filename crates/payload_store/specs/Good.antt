@@ -38,5 +38,5 @@ pub record Lay (ws st : List ℕ) (g : Gaps) : Type 0 where
   pub apart : Apart ws
   pub used-is : usedOf ws ≡ sumTo (sizeOf ws) 1024
 
-abbrev pub Good : List ℕ → List ℕ → Type 0
-Good ws st = Lay ws st (gapsOf ws)
+abbrev pub GoodPayloads : List ℕ → List ℕ → Type 0
+GoodPayloads ws st = Lay ws st (gapsOf ws)

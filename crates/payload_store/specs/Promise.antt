@@ -13,7 +13,7 @@ use Rattle.payload_store.specs.Words.{usedOf, gapsOf, placeOf, sizeOf, w
 use Rattle.payload_store.specs.Gaps.{gaps}
 use Rattle.payload_store.specs.Moving.{Pack}
 use Rattle.payload_store.specs.Putting.{Outcome}
-use Rattle.payload_store.specs.Good.{payloadOf, Lay, Good}
+use Rattle.payload_store.specs.Good.{payloadOf, Lay, GoodPayloads}
 
 -- moved together: every row has its length and its payload, and the payloads lie without a gap
 pub record Together (ws st : List ℕ) (t : Pack) : Type 0 where
@@ -27,7 +27,7 @@ pub record Together (ws st : List ℕ) (t : Pack) : Type 0 where
 -- put: row r has the payload bs, every other row has its own
 pub record Put (ws st : List ℕ) (r : ℕ) (bs : List ℕ) (o : Outcome) : Type 0 where
   pub accepted : o .answer ≡ 0
-  pub good : Good (o .words) (o .store)
+  pub good : GoodPayloads (o .words) (o .store)
   pub same : length (o .store) ≡ length st
   pub used : usedOf (o .words) ≡ usedOf ws + length bs
   pub new-size : sizeOf (o .words) r ≡ length bs
@@ -37,7 +37,7 @@ pub record Put (ws st : List ℕ) (r : ℕ) (bs : List ℕ) (o : Outcome) : Type
 
 -- dropped: row r has no payload, every other row has its own
 pub record Dropped (ws st : List ℕ) (r : ℕ) (ws′ : List ℕ) : Type 0 where
-  pub good : Good ws′ st
+  pub good : GoodPayloads ws′ st
   pub free : sizeOf ws′ r ≡ 0
   pub used : usedOf ws′ + sizeOf ws r ≡ usedOf ws
   pub sizes : (j : ℕ) → (r ≡ j → ⊥) → sizeOf ws′ j ≡ sizeOf ws j

@@ -25,7 +25,7 @@ use Rattle.packets.specs.Filling.{packetOf}
 use Rattle.queue_runs.specs.Calls.{Call, produce, fill, close, ready-ids, reset, Typed, Shown, sent, filled}
 use Rattle.queue_runs.specs.Run as runs
 use Rattle.queue_runs.specs.Run.{State, step}
-use Rattle.queue_runs.specs.Meaning.{queueOf, Good, AllTyped}
+use Rattle.queue_runs.specs.Meaning.{queueOf, GoodState, AllTyped}
 use Rattle.queue_runs.specs.Refusals.{refusal}
 use Rattle.queue_runs.specs.Closing as separate
 use Rattle.queue_runs.specs.Closing.{tells, Ready, ready-now, told-before}
@@ -148,7 +148,7 @@ sent-accepted plain.nothing-waits k = refl
 sent-accepted (plain.filled bs n) k = refl
 
 -- The separate calls of a filling that is not refused are not refused either.
-separately-ask : (es bs : List ℕ) (time : ℕ) (ns : List ℕ) (s : State) → Good s → AllTyped (separately es bs time ns) → AllWithin (length bs) ns → AllGive (length (s .store)) (placesIn es) time ns (queueOf s)
+separately-ask : (es bs : List ℕ) (time : ℕ) (ns : List ℕ) (s : State) → GoodState s → AllTyped (separately es bs time ns) → AllWithin (length bs) ns → AllGive (length (s .store)) (placesIn es) time ns (queueOf s)
     → separate.AllAsk (separately es bs time ns) s
 unfolding run.step
 separately-ask es bs time [] s g t w a = tt
@@ -178,7 +178,7 @@ record InItsPlace (cs ds : List Call) (s : State) : Type 0 where
   all-ask : separate.AllAsk ds s
   as-many : length cs ≤ length ds
 
-packs-ask : (es bs : List ℕ) (time : ℕ) (p : Packet) (s : State) → Good s → Typed (fill es bs time p) → refusal (step (fill es bs time p) s .shows .answer) ≡ false → InItsPlace (fill es bs time p ∷ []) (instead (fill es bs time p) s) s
+packs-ask : (es bs : List ℕ) (time : ℕ) (p : Packet) (s : State) → GoodState s → Typed (fill es bs time p) → refusal (step (fill es bs time p) s .shows .answer) ≡ false → InItsPlace (fill es bs time p ∷ []) (instead (fill es bs time p) s) s
 packs-ask es bs time p s g t r =
     let e : is-refused (meant (fill es bs time p) s .outcome .answer) ≡ false = sym (told es bs time p s g t) ∙ r in
     let z = accepted-past (length (s .store)) (placesIn es) (length bs) time (packetOf p) (queueOf s) e in
@@ -194,11 +194,11 @@ packs-ask es bs time p s g t r =
     long [] l = l
     long (n ∷ ns) l = omega arith
 
-one-asks : (c : Call) (s : State) → Good s → Typed c → Asks s c → InItsPlace (c ∷ []) (instead c s) s
+one-asks : (c : Call) (s : State) → GoodState s → Typed c → Asks s c → InItsPlace (c ∷ []) (instead c s) s
 one-asks c s g t (asks es bs time size r) = record { all-ask = (separate.asks es bs time size r, tt); as-many = omega arith }
 one-asks c s g t (packs es bs time p r) = packs-ask es bs time p s g t r
 
-asks-expanded : (ps : List Call) (s : State) → Good s → AllTyped ps → AllAsk ps s → InItsPlace ps (expanded ps s) s
+asks-expanded : (ps : List Call) (s : State) → GoodState s → AllTyped ps → AllAsk ps s → InItsPlace ps (expanded ps s) s
 unfolding expanded
 asks-expanded [] s g t a = record { all-ask = tt; as-many = omega arith }
 asks-expanded (c ∷ ps) s g t a =
@@ -227,7 +227,7 @@ record OneFilled (es bs : List ℕ) (time : ℕ) (p : Packet) (s : State) : Type
   says : step (produce es (take (suc less) bs) time (suc less)) s .shows .answer ≡ sent (produced.Nothing events)
 
 -- Where it is accepted and asks for one size, at which nothing waits.
-module _ (es bs : List ℕ) (time : ℕ) (p : Packet) (s : State) (g : Good s) (t : Typed (fill es bs time p)) (accepted : refusal (step (fill es bs time p) s .shows .answer) ≡ false) (m : ℕ)
+module _ (es bs : List ℕ) (time : ℕ) (p : Packet) (s : State) (g : GoodState s) (t : Typed (fill es bs time p)) (accepted : refusal (step (fill es bs time p) s .shows .answer) ≡ false) (m : ℕ)
     (sizes-are : sizesAsked es time p s ≡ suc m ∷ []) (short : suc m ≤ length bs) (none-waits : run.step (run.produce (length (s .store)) (placesIn es) (suc m) time (suc m)) (queueOf s) .outcome .answer ≡ plain.nothing-waits) where
   abbrev one : Call
   one = produce es (take (suc m) bs) time (suc m)
@@ -250,7 +250,7 @@ module _ (es bs : List ℕ) (time : ℕ) (p : Packet) (s : State) (g : Good s) (
     says = ap (λ (x : Shown). x .answer) (step-link one s g typed-one .shows-are) ∙ ap (λ (x : plain.Answer). sent (producedOf x (length (meant one s .outcome .events)))) answers;
   }
 
-module _ (es bs : List ℕ) (time : ℕ) (p : Packet) (n : ℕ) (s : State) (g : Good s) (t : Typed (fill es bs time p)) (e : step (fill es bs time p) s .shows .answer ≡ filled (packet.Filled n 0 0)) where
+module _ (es bs : List ℕ) (time : ℕ) (p : Packet) (n : ℕ) (s : State) (g : GoodState s) (t : Typed (fill es bs time p)) (e : step (fill es bs time p) s .shows .answer ≡ filled (packet.Filled n 0 0)) where
   abbrev said : Outcome
   said = meant (fill es bs time p) s .outcome
 
@@ -279,7 +279,7 @@ module _ (es bs : List ℕ) (time : ℕ) (p : Packet) (n : ℕ) (s : State) (g :
 
 -- ------------------------------------------------------------------ THE THEOREM
 
-module _ (k : ℕ) (is : List plain.Item) (s : State) (g : Good s) (d : separate.Closed k is s) where
+module _ (k : ℕ) (is : List plain.Item) (s : State) (g : GoodState s) (d : separate.Closed k is s) where
   nothing : (cs : List Call) (es bs : List ℕ) (time size n : ℕ) → AllTyped cs → NoReset cs → Typed (produce es bs time size)
       → step (produce es bs time size) (runs.after cs s) .shows .answer ≡ sent (produced.Nothing n) → Ready k s (cs ++ produce es bs time size ∷ [])
   unfolding expanded

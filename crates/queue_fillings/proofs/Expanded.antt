@@ -17,7 +17,7 @@ use Rattle.packets.specs.Filling.{packetOf}
 use Rattle.queue_runs.specs.Calls.{Call, add, produce, fill, discard, close, ready-ids, commit, rollback, reset, set-threshold, set-priority, set-interleaving, restore, ask-priority, ask-amount, ask-threshold, ask-total, ask-empty, ask-has-data, ask-streams-ready, ask-ready-count, ask-readiness, ask-room, Typed, NotFilling, Shown}
 use Rattle.queue_runs.specs.Run as runs
 use Rattle.queue_runs.specs.Run.{State, step}
-use Rattle.queue_runs.specs.Meaning.{queueOf, Good, AllTyped, callsOf}
+use Rattle.queue_runs.specs.Meaning.{queueOf, GoodState, AllTyped, callsOf}
 use Rattle.queue_runs.specs.Refusals.{refusal}
 use Rattle.queue_runs.proofs.Steps.{step-link, meant}
 use Rattle.queue_runs.proofs.Runs.{run-link}
@@ -69,7 +69,7 @@ pub record Stands (c : Call) (s : State) : Type 0 where
   pub no-fillings : NoFillings (instead c s)
   pub leads : Same (runs.after (instead c s) s) (step c s .next)
 
-module _ (es bs : List ℕ) (time : ℕ) (p : Packet) (s : State) (g : Good s) (t : Typed (fill es bs time p)) where
+module _ (es bs : List ℕ) (time : ℕ) (p : Packet) (s : State) (g : GoodState s) (t : Typed (fill es bs time p)) where
   abbrev c : Call
   c = fill es bs time p
 
@@ -121,7 +121,7 @@ module _ (es bs : List ℕ) (time : ℕ) (p : Packet) (s : State) (g : Good s) (
   stands-fill = let h = stood (refusal (step (fill es bs time p) s .shows .answer)) refl in record { typed = h .stood-typed; no-fillings = h .stood-none; leads = h .stood-leads }
 
 -- Any other call by itself.
-one-leads : (c : Call) (s : State) → Good s → Typed c → Same (runs.after (c ∷ []) s) (step c s .next)
+one-leads : (c : Call) (s : State) → GoodState s → Typed c → Same (runs.after (c ∷ []) s) (step c s .next)
 unfolding runs.after
 one-leads c s g t = same-self (step c s .next) (step-link c s g t .good)
 
@@ -155,14 +155,14 @@ kind-of ask-ready-count s = alone (λ u v w x e. let z : _≡_ {A = ℕ} 0 1 = c
 kind-of ask-readiness s = alone (λ u v w x e. let z : _≡_ {A = ℕ} 0 1 = cc in omega arith) refl
 kind-of (ask-room r) s = alone (λ u v w x e. let z : _≡_ {A = ℕ} 0 1 = cc in omega arith) refl
 
-stands-one : (c : Call) (s : State) → Good s → Typed c → NotFilling c → instead c s ≡ c ∷ [] → Stands c s
+stands-one : (c : Call) (s : State) → GoodState s → Typed c → NotFilling c → instead c s ≡ c ∷ [] → Stands c s
 stands-one c s g t n e = record {
   typed = subst AllTyped (sym e) (t, tt);
   no-fillings = subst NoFillings (sym e) (n, tt);
   leads = subst (λ (cs : List Call). Same (runs.after cs s) (step c s .next)) (sym e) (one-leads c s g t);
 }
 
-pub stands-call : (c : Call) (s : State) → Good s → Typed c → Stands c s
+pub stands-call : (c : Call) (s : State) → GoodState s → Typed c → Stands c s
 stands-call c s g t = go (kind-of c s)
   where
     go : Kind c s → Stands c s
@@ -196,7 +196,7 @@ whole-more c cs s h w =
     through : (x y z v : State) → x ≡ y → Same y z → Same z v → Same x v
     through x y z v e a b = subst (λ (u : State). Same u v) (sym e) (record { good = a .good; good′ = b .good′; queues = a .queues ∙ b .queues; stores = a .stores ∙ b .stores })
 
-pub whole : (cs : List Call) (s : State) → Good s → AllTyped cs → Whole cs s
+pub whole : (cs : List Call) (s : State) → GoodState s → AllTyped cs → Whole cs s
 whole [] s g t = unfold expanded apart runs.after runs.run in record { typed = tt; no-fillings = tt; leads = same-self s g; shows = refl }
 whole (c ∷ cs) s g t = whole-more c cs s (stands-call c s g (t .0)) (whole cs (step c s .next) (step-link c s g (t .0) .good) (t .1))
 

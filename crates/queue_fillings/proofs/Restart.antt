@@ -8,7 +8,7 @@ use Rattle.queue_words.specs.Flags.{pick}
 use Rattle.queue_runs.specs.Calls.{Call, fill, reset, Shown}
 use Rattle.queue_runs.specs.Run as runs
 use Rattle.queue_runs.specs.Run.{State, step}
-use Rattle.queue_runs.specs.Meaning.{Good, AllTyped}
+use Rattle.queue_runs.specs.Meaning.{GoodState, AllTyped}
 use Rattle.queue_runs.specs.Refusals.{refusal}
 use Rattle.queue_runs.specs.Restart as separate
 use Rattle.queue_runs.specs.Restart.{fragments, FirstAfresh}
@@ -49,7 +49,7 @@ instead-none c s n = go (kind-of c s)
     go (alone m e) = subst (λ (cs : List Call). separate.NoneRestored cs s) (sym e) ((n, m), tt)
     go (fills es bs time p e) = subst (λ (d : Call). separate.NoneRestored (instead d s) s) (sym e) (chosen es bs time (sizesAsked es time p s) (refusal (step (fill es bs time p) s .shows .answer)))
 
-expanded-none : (cs : List Call) (s : State) → Good s → AllTyped cs → NoneRestored cs s → separate.NoneRestored (expanded cs s) s
+expanded-none : (cs : List Call) (s : State) → GoodState s → AllTyped cs → NoneRestored cs s → separate.NoneRestored (expanded cs s) s
 unfolding expanded
 expanded-none [] s g t n = tt
 expanded-none (c ∷ cs) s g t n =

@@ -8,16 +8,16 @@ use Rattle.queue_model.specs.Run as run
 use Rattle.queue_runs.specs.Calls.{Call, callOf, Typed, Shown}
 use Rattle.queue_runs.specs.Run as runs
 use Rattle.queue_runs.specs.Run.{State, step}
-use Rattle.queue_runs.specs.Meaning.{queueOf, Good, AllTyped, shownOf}
+use Rattle.queue_runs.specs.Meaning.{queueOf, GoodState, AllTyped, shownOf}
 use Rattle.queue_runs.proofs.Steps.{step-link, meant}
 
 pub record Same (s t : State) : Type 0 where
-  pub good : Good s
-  pub good′ : Good t
+  pub good : GoodState s
+  pub good′ : GoodState t
   pub queues : queueOf s ≡ queueOf t
   pub stores : length (s .store) ≡ length (t .store)
 
-pub same-self : (s : State) → Good s → Same s s
+pub same-self : (s : State) → GoodState s → Same s s
 same-self s g = record { good = g; good′ = g; queues = refl; stores = refl }
 
 pub same-back : {s t : State} → Same s t → Same t s

@@ -29,7 +29,7 @@ use Rattle.linked_saving.proofs.Saves.{save-is}
 use Rattle.queue_runs.specs.Calls.{restore, set-interleaving, Shown}
 use Rattle.queue_runs.specs.Creation.{Arguments, optionsWith, newState, Creates}
 use Rattle.queue_runs.specs.Demand3.{Reached}
-use Rattle.queue_runs.specs.Meaning.{queueOf, Good, quietOf}
+use Rattle.queue_runs.specs.Meaning.{queueOf, GoodState, quietOf}
 use Rattle.queue_runs.specs.Run.{State, after}
 use Rattle.queue_runs.proofs.Steps.{Stepped, step-link, meant}
 use Rattle.queue_runs.proofs.Runs.{run-link}
@@ -65,7 +65,7 @@ image-in b after size (saved-as bs) img f h e =
     let c : after ≡ bs ++ drop (length bs) b = ap (λ (x : SavedAs). x .image) e in
     (a ∙ ap length k, c ∙ ap (λ l. l ++ drop (length l) b) k, h bs refl)
 
-pub the-image : (s : State) (saved size : ℕ) (buffer after : List ℕ) → Good s → Saves s saved buffer after size
+pub the-image : (s : State) (saved size : ℕ) (buffer after : List ℕ) → GoodState s → Saves s saved buffer after size
     → (take size after ≡ write-image saved (queueOf s)) × (length (write-image saved (queueOf s)) ≤ length buffer)
 the-image s at size buffer after g h =
     let x : Saving = save (length (s .store)) (length buffer) at (queueOf s) in
@@ -82,7 +82,7 @@ fresh-is o b = refl
 
 -- A reached queue is good, and stands for a reachable queue of the model.
 record Stands (o : plain.Options) (s : State) : Type 0 where
-  good : Good s
+  good : GoodState s
   reachable : Reachable o (queueOf s)
 
 stands : (a : Arguments) (len : ℕ) (s : State) → Reached a len s → Stands (optionsWith a len) s
@@ -94,7 +94,7 @@ stands a len s r =
 
 -- A new queue with an interleaving choice.
 pub record Begins (a : Arguments) (len : ℕ) (b : Bool) (t : State) : Type 0 where
-  pub good : Good t
+  pub good : GoodState t
   pub queue-is : queueOf t ≡ fresh (optionsWith a len) b
   pub store-is : length (t .store) ≡ len
 
@@ -107,7 +107,7 @@ begins a len new b c e =
     record { good = f .good; queue-is = q ∙ ap (λ (k : ℕ). fresh (optionsWith a k) b) e; store-is = f .same-store ∙ e }
 
 -- Restoring the image into it is the model's restoring of the model's image.
-module _ (a : Arguments) (len : ℕ) (s t : State) (at time : ℕ) (b : Bool) (i : List ℕ) (g : Good s) (n : Begins a len b t) (ht : time ≤ 4611686018427387903) (ei : i ≡ write-image at (queueOf s)) (short : length i < 2 ^ 64) where
+module _ (a : Arguments) (len : ℕ) (s t : State) (at time : ℕ) (b : Bool) (i : List ℕ) (g : GoodState s) (n : Begins a len b t) (ht : time ≤ 4611686018427387903) (ei : i ≡ write-image at (queueOf s)) (short : length i < 2 ^ 64) where
   bytes : T (areBytes i)
   bytes = subst (λ l. T (areBytes l)) (sym ei) (image-is-bytes at (queueOf s) (g .well))
 
@@ -121,7 +121,7 @@ module _ (a : Arguments) (len : ℕ) (s t : State) (at time : ℕ) (b : Bool) (i
       ∙ ap (λ (l : List ℕ). run.step (run.restore len time l) (fresh (optionsWith a len) b)) ei
 
 -- What the model restores from the record, it restores.
-module _ (by : ℕ → HandoverState → Queue → Queue) (a : Arguments) (len : ℕ) (s new : State) (at time : ℕ) (b : Bool) (i : List ℕ) (g : Good s) (n : Begins a len b (freshState a new b))
+module _ (by : ℕ → HandoverState → Queue → Queue) (a : Arguments) (len : ℕ) (s new : State) (at time : ℕ) (b : Bool) (i : List ℕ) (g : GoodState s) (n : Begins a len b (freshState a new b))
     (ht : time ≤ 4611686018427387903) (ei : i ≡ write-image at (queueOf s)) (short : length i < 2 ^ 64)
     (model : image.restore len time (write-image at (queueOf s)) (fresh (optionsWith a len) b) ≡ reply done [] (forget-plain (by time (handover-state at (queueOf s)) (fresh (optionsWith a len) b)))) where
   abbrev left : Queue

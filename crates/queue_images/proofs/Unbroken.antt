@@ -28,7 +28,7 @@ use Rattle.queue_runs.specs.Fragments.{dataIn}
 use Rattle.queue_runs.specs.Run as runs
 use Rattle.queue_runs.specs.Run.{State, step}
 use Rattle.queue_runs.specs.Creation.{Arguments, optionsWith, newState}
-use Rattle.queue_runs.specs.Meaning.{queueOf, Good, AllTyped}
+use Rattle.queue_runs.specs.Meaning.{queueOf, GoodState, AllTyped}
 use Rattle.queue_runs.specs.Refusals.{refusal}
 use Rattle.queue_runs.proofs.Steps.{step-link, typed-call, store-small, meant}
 use Rattle.queue_runs.proofs.News.{new-link}
@@ -44,7 +44,7 @@ use Rattle.queue_images.proofs.Demand2 as images
 
 -- The queue is good, and stands for one of the model that has sent the same.
 record Stands (a : Arguments) (len : ℕ) (s : State) (ds : List DataToSend) : Type 0 where
-  good : Good s
+  good : GoodState s
   store-is : length (s .store) ≡ len
   fragments : List Fragment
   sends : model.Sends (optionsWith a len) (queueOf s) fragments

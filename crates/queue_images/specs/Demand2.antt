@@ -13,7 +13,7 @@ use Rattle.saving.specs.declared.image.Saved.the-variants.{Image}
 use Rattle.queue_runs.specs.Calls.{restore, set-interleaving, called}
 use Rattle.queue_runs.specs.Creation.{Arguments, optionsWith, newState, Creates}
 use Rattle.queue_runs.specs.Demand3.{Reached}
-use Rattle.queue_runs.specs.Meaning.{queueOf, Good}
+use Rattle.queue_runs.specs.Meaning.{queueOf, GoodState}
 use Rattle.queue_runs.specs.Run.{State, step}
 
 -- Saving the queue s at a time into a lent buffer is accepted: the image is the first `size` bytes of what the buffer is then.
@@ -30,7 +30,7 @@ freshState a new b = step (set-interleaving b) (newState a new) .next
 -- restore.
 pub record Restores (by : ℕ → HandoverState → Queue → Queue) (a : Arguments) (len : ℕ) (s new : State) (saved time : ℕ) (b : Bool) (image : List ℕ) : Type 0 where
   pub accepted : step (restore time image) (freshState a new b) .shows .answer ≡ called (Accepted 0)
-  pub good : Good (step (restore time image) (freshState a new b) .next)
+  pub good : GoodState (step (restore time image) (freshState a new b) .next)
   pub stands-for : queueOf (step (restore time image) (freshState a new b) .next)
       ≡ forget-plain (by time (handover-state saved (queueOf s)) (fresh (optionsWith a len) b))
 

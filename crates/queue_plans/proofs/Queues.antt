@@ -12,7 +12,7 @@ use Rattle.queue_model.specs.Demands as demands
 use Rattle.queue_runs.specs.Calls.{Call}
 use Rattle.queue_runs.specs.Run as runs
 use Rattle.queue_runs.specs.Run.{State}
-use Rattle.queue_runs.specs.Meaning.{queueOf, Good, AllTyped, callsOf}
+use Rattle.queue_runs.specs.Meaning.{queueOf, GoodState, AllTyped, callsOf}
 use Rattle.queue_runs.specs.Creation.{Arguments, optionsWith, newState, Creates}
 use Rattle.queue_runs.proofs.Steps.{typed-call, store-small}
 use Rattle.queue_runs.proofs.Runs.{run-link}
@@ -29,7 +29,7 @@ use Rattle.queue_plans.proofs.Shows.{Plain, adds, sets, switches, accep
 
 -- A state whose words and store are good, which stands for a queue and has a store of a length.
 pub record Stands (len : ℕ) (q : Queue) (s : State) : Type 0 where
-  pub good : Good s
+  pub good : GoodState s
   pub queue-is : queueOf s ≡ q
   pub store-is : length (s .store) ≡ len
 

@@ -21,7 +21,7 @@ use Rattle.linked_sending.specs.Meaning.{producedOf}
 use Rattle.queue_runs.specs.Calls.{Call, sent, Shown}
 use Rattle.queue_runs.specs.Run as runs
 use Rattle.queue_runs.specs.Run.{State, step}
-use Rattle.queue_runs.specs.Meaning.{queueOf, Good, AllTyped}
+use Rattle.queue_runs.specs.Meaning.{queueOf, GoodState, AllTyped}
 use Rattle.queue_runs.specs.Creation.{Arguments, optionsWith}
 use Rattle.queue_runs.specs.Refusals.{refusal}
 use Rattle.queue_runs.proofs.Steps.{step-link, meant, fine}
@@ -67,7 +67,7 @@ unrefused-accepts q x h =
 unrefused : (o : Outcome) → refusal (sent (producedOf (o .answer) (length (o .events)))) ≡ false → (n : ℕ) → o .answer ≡ plain.refused n → ⊥
 unrefused o e n f = holds false (sym e ∙ ap (λ (a : plain.Answer). refusal (sent (producedOf a (length (o .events))))) f)
 
-asking-accepts : (x : Asking) (s : State) → Good s → AllTyped (askingCall x ∷ []) → refusal (step (askingCall x) s .shows .answer) ≡ false → requests.Accepts (queueOf s .options) (askingOf (length (s .store)) x)
+asking-accepts : (x : Asking) (s : State) → GoodState s → AllTyped (askingCall x ∷ []) → refusal (step (askingCall x) s .shows .answer) ≡ false → requests.Accepts (queueOf s .options) (askingOf (length (s .store)) x)
 asking-accepts x s g t r =
     let m = asked (length (s .store)) x in
     let e : refusal (sent (producedOf (meant (askingCall x) s .outcome .answer) (length (meant (askingCall x) s .outcome .events)))) ≡ false = ap (λ (o : Shown). refusal (o .answer)) (sym (step-link (askingCall x) s g (t .0) .shows-are)) ∙ r in
@@ -75,7 +75,7 @@ asking-accepts x s g t r =
 
 -- ------------------------------------------------------------------ lists of them
 
-accepts-all : (xs : List Asking) (s : State) (len : ℕ) (o : plain.Options) → Good s → length (s .store) ≡ len → queueOf s .options ≡ o → AllTyped (map askingCall xs) → All (λ (x : Shown). refusal (x .answer) ≡ false) (runs.run (map askingCall xs) s) → All (requests.Accepts o) (map (askingOf len) xs)
+accepts-all : (xs : List Asking) (s : State) (len : ℕ) (o : plain.Options) → GoodState s → length (s .store) ≡ len → queueOf s .options ≡ o → AllTyped (map askingCall xs) → All (λ (x : Shown). refusal (x .answer) ≡ false) (runs.run (map askingCall xs) s) → All (requests.Accepts o) (map (askingOf len) xs)
 unfolding runs.run
 accepts-all [] s len o g e f t r = tt
 accepts-all (x ∷ xs) s len o g e f t r =

@@ -38,7 +38,7 @@ use Rattle.queue_state.specs.Promise as promise
 use Rattle.linked_streams.proofs.Asks.{amount-asked, total-asked}
 use Rattle.queue_runs.specs.Calls.{Call, add, produce, fill, discard, close, ready-ids, commit, rollback, reset, set-threshold, set-priority, set-interleaving, restore, ask-priority, ask-amount, ask-threshold, ask-total, ask-empty, ask-has-data, ask-streams-ready, ask-ready-count, ask-readiness, ask-room, callOf, Typed, Shown, called, sent, filled}
 use Rattle.queue_runs.specs.Run.{State, step, after}
-use Rattle.queue_runs.specs.Meaning.{queueOf, Good, AllTyped, callsOf}
+use Rattle.queue_runs.specs.Meaning.{queueOf, GoodState, AllTyped, callsOf}
 use Rattle.queue_runs.specs.Creation.{optionsWith, newState}
 use Rattle.queue_runs.specs.Account.{valueOf, sum-ids, handed, unlessRefused, account, accounts, Request11-account}
 use Rattle.queue_runs.proofs.Steps.{step-link, typed-call, store-small, meant}
@@ -96,10 +96,10 @@ sum-table o (s ∷ ss) n r e =
     let d = sum-table o ss n (r .1) (e .1) in omega arith
 
 -- What the questions answer is the model's amounts.
-pub value-is : (s : State) (k : ℕ) → Good s → valueOf (amountOf (s .words) k) ≡ amount-of (queueOf s) k
+pub value-is : (s : State) (k : ℕ) → GoodState s → valueOf (amountOf (s .words) k) ≡ amount-of (queueOf s) k
 value-is s k g = ap valueOf (amount-asked (s .words) (s .store) g k ∙ amount-answer k (queueOf s))
 
-total-sum : (s : State) → Good s → queueOf s .total ≡ sum-ids (λ (j : ℕ). valueOf (amountOf (s .words) j)) 65536
+total-sum : (s : State) → GoodState s → queueOf s .total ≡ sum-ids (λ (j : ℕ). valueOf (amountOf (s .words) j)) 65536
 unfolding amount-of
 total-sum s g =
     let w = g .well in
@@ -153,7 +153,7 @@ filled-refusal plain.nothing-waits m = refl
 filled-refusal (plain.filled bs c) m = refl
 
 -- A call moves what the model's call moves.
-account-link : (k : ℕ) (c : Call) (s : State) → Good s → Typed c → account k c s ≡ model.account k (callOf (length (s .store)) c) (queueOf s)
+account-link : (k : ℕ) (c : Call) (s : State) → GoodState s → Typed c → account k c s ≡ model.account k (callOf (length (s .store)) c) (queueOf s)
 unfolding account model.account model.produce-account
 account-link k (add time m payload) s g t =
     let o = meant (add time m payload) s .outcome in
@@ -202,7 +202,7 @@ account-link k ask-ready-count s g t = refl
 account-link k ask-readiness s g t = refl
 account-link k (ask-room r) s g t = refl
 
-accounts-link : (k : ℕ) (cs : List Call) (s : State) → Good s → AllTyped cs → accounts k cs s ≡ model.accounts k (callsOf (length (s .store)) cs) (queueOf s)
+accounts-link : (k : ℕ) (cs : List Call) (s : State) → GoodState s → AllTyped cs → accounts k cs s ≡ model.accounts k (callsOf (length (s .store)) cs) (queueOf s)
 unfolding accounts model.accounts
 accounts-link k [] s g t = refl
 accounts-link k (c ∷ cs) s g t =

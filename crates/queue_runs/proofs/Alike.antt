@@ -13,7 +13,7 @@ use Rattle.queue_model.proofs.Invariant.Events.{events-fit}
 use Rattle.queue_runs.specs.Calls.{Call, callOf, Typed}
 use Rattle.queue_runs.specs.Run.{State, step}
 use Rattle.queue_runs.specs.Run as runs
-use Rattle.queue_runs.specs.Meaning.{queueOf, Good, shownOf, AllTyped, SameShown, callsOf, allShownOf}
+use Rattle.queue_runs.specs.Meaning.{queueOf, GoodState, shownOf, AllTyped, SameShown, callsOf, allShownOf}
 use Rattle.queue_runs.proofs.Steps.{step-link, meant, typed-call, store-same, store-small}
 use Rattle.queue_runs.proofs.Runs.{run-link}
 use Rattle.queue_runs.proofs.Forms.{form-of}
@@ -26,7 +26,7 @@ pub all-typed : (len : ℕ) (cs : List Call) → ((c : Call) → Typed c → dem
 all-typed len [] f t = tt
 all-typed len (c ∷ cs) f t = (f c (t .0), all-typed len cs f (t .1))
 
-alike-runs : (s₁ s₂ : State) → Good s₁ → Good s₂ → length (s₁ .store) ≡ length (s₂ .store) → Indistinguishable (queueOf s₁) (queueOf s₂) → SameShown s₁ s₂
+alike-runs : (s₁ s₂ : State) → GoodState s₁ → GoodState s₂ → length (s₁ .store) ≡ length (s₂ .store) → Indistinguishable (queueOf s₁) (queueOf s₂) → SameShown s₁ s₂
 alike-runs s₁ s₂ g₁ g₂ l i cs t =
     let len : ℕ = length (s₁ .store) in
     let e : run.run (callsOf len cs) (queueOf s₁) ≡ run.run (callsOf len cs) (queueOf s₂) = i (callsOf len cs) (all-typed len cs (λ c h. typed-call len c (store-small s₁ g₁) h) t) in
@@ -43,7 +43,7 @@ tail-same c s₁ s₂ t h =
     (b, λ cs u. let e : (step c s₁ .shows ∷ runs.run cs (step c s₁ .next)) ≡ (step c s₂ .shows ∷ runs.run cs (step c s₂ .next)) = h (c ∷ cs) (t, u) in let z : runs.run cs (step c s₁ .next) ≡ runs.run cs (step c s₂ .next) = cc in z)
 
 -- The model's call shows the same too.
-outcome-same : (c : Call) (s₁ s₂ : State) → Good s₁ → Good s₂ → length (s₁ .store) ≡ length (s₂ .store) → Typed c → Long c → step c s₁ .shows ≡ step c s₂ .shows
+outcome-same : (c : Call) (s₁ s₂ : State) → GoodState s₁ → GoodState s₂ → length (s₁ .store) ≡ length (s₂ .store) → Typed c → Long c → step c s₁ .shows ≡ step c s₂ .shows
     → run.step (callOf (length (s₁ .store)) c) (queueOf s₁) .outcome ≡ run.step (callOf (length (s₁ .store)) c) (queueOf s₂) .outcome
 outcome-same c s₁ s₂ g₁ g₂ l t w e =
     let len : ℕ = length (s₁ .store) in
@@ -64,9 +64,9 @@ both-more m ms q₁ q₂ r₁ r₂ o a b h =
 
 -- What is to be shown of a list of the model's calls, from any two states.
 abbrev Follows : List run.Call → Type 0
-Follows ms = (s₁ s₂ : State) → Good s₁ → Good s₂ → length (s₁ .store) ≡ length (s₂ .store) → SameShown s₁ s₂ → run.run ms (queueOf s₁) ≡ run.run ms (queueOf s₂)
+Follows ms = (s₁ s₂ : State) → GoodState s₁ → GoodState s₂ → length (s₁ .store) ≡ length (s₂ .store) → SameShown s₁ s₂ → run.run ms (queueOf s₁) ≡ run.run ms (queueOf s₂)
 
-follow : (m : run.Call) (ms : List run.Call) (s₁ s₂ : State) → Good s₁ → Good s₂ → length (s₁ .store) ≡ length (s₂ .store) → SameShown s₁ s₂ → Follows ms → Translates (length (s₁ .store)) m
+follow : (m : run.Call) (ms : List run.Call) (s₁ s₂ : State) → GoodState s₁ → GoodState s₂ → length (s₁ .store) ≡ length (s₂ .store) → SameShown s₁ s₂ → Follows ms → Translates (length (s₁ .store)) m
     → run.run (m ∷ ms) (queueOf s₁) ≡ run.run (m ∷ ms) (queueOf s₂)
 follow m ms s₁ s₂ g₁ g₂ l h ih (left-out n f) =
     let a = f (queueOf s₁) (sym (store-same s₁ g₁)) in
@@ -93,5 +93,5 @@ alike-models (m ∷ ms) t s₁ s₂ g₁ g₂ l h = follow m ms s₁ s₂ g₁ g
 
 -- ------------------------------------------------------------------ both
 
-pub alike : (s₁ s₂ : State) → Good s₁ → Good s₂ → length (s₁ .store) ≡ length (s₂ .store) → SameShown s₁ s₂ ↔ Indistinguishable (queueOf s₁) (queueOf s₂)
+pub alike : (s₁ s₂ : State) → GoodState s₁ → GoodState s₂ → length (s₁ .store) ≡ length (s₂ .store) → SameShown s₁ s₂ ↔ Indistinguishable (queueOf s₁) (queueOf s₂)
 alike s₁ s₂ g₁ g₂ l = (λ h ms t. alike-models ms t s₁ s₂ g₁ g₂ l h, alike-runs s₁ s₂ g₁ g₂ l)

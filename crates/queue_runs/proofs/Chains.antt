@@ -28,7 +28,7 @@ use Rattle.queue_state.proofs.Looks.{Lookup, known-at, new-at, lookup, stream-f
 use Rattle.queue_runs.specs.Calls.{Call, Shown}
 use Rattle.queue_runs.specs.Run.{State, after}
 use Rattle.queue_runs.specs.Run as runs
-use Rattle.queue_runs.specs.Meaning.{queueOf, Good, AllTyped, callsOf, allShownOf}
+use Rattle.queue_runs.specs.Meaning.{queueOf, GoodState, AllTyped, callsOf, allShownOf}
 use Rattle.queue_runs.specs.Creation.{Arguments, optionsWith, newState, Creates}
 use Rattle.queue_runs.specs.History.{historyOf}
 use Rattle.queue_runs.specs.Chains.{noPlace, firstAt, lastAt, firstOf, placesOf, chainMessages, Chain, Apart, newQueue, historyAfter, waitingAfter, arrivedAfter, Request4-chains}
@@ -63,7 +63,7 @@ no-places ws id p f = ap (λ (x : Found). chain (nextOf ws) (firstAt ws x) 1025)
 
 -- ------------------------------------------------------------------ what a chain holds
 
-chain-of : (s : State) (id : ℕ) → Good s → Chain s id (view id (queueOf s) .messages)
+chain-of : (s : State) (id : ℕ) → GoodState s → Chain s id (view id (queueOf s) .messages)
 chain-of s id g = go (find-where ws st (g .shape) id)
   where
     ws : List ℕ
@@ -91,7 +91,7 @@ chain-of s id g = go (find-where ws st (g .shape) id)
 
 -- ------------------------------------------------------------------ no place in two chains
 
-apart-of : (s : State) → Good s → Apart s
+apart-of : (s : State) → GoodState s → Apart s
 apart-of s g = record { once = λ id x. go-one id x (find-where ws st (g .shape) id); apart = λ j k x n. go-two j k x n (find-where ws st (g .shape) j) (find-where ws st (g .shape) k) }
   where
     ws : List ℕ
@@ -133,7 +133,7 @@ module _ (a : Arguments) (s : State) (cs : List Call) (h : Creates a s) (t : All
   shows : runs.run cs (newState a s) ≡ allShownOf cs (run.run meant (newQueue a s))
   shows = let n = new-link a s h in run-link cs (newState a s) (n .good) t .shows-are ∙ ap (λ (q : Queue). allShownOf cs (run.run meant q)) (n .queue-is)
 
-  left-good : Good left
+  left-good : GoodState left
   left-good = run-link cs (newState a s) (new-link a s h .good) t .good
 
   left-is : queueOf left ≡ run.after meant (newQueue a s)

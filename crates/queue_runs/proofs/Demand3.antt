@@ -16,7 +16,7 @@ use Rattle.queue_model.proofs.Demand3.Theorem as model
 use Rattle.queue_state.proofs.Singles.{model-interleaving}
 use Rattle.queue_runs.specs.Calls.{restore}
 use Rattle.queue_runs.specs.Run.{State, after}
-use Rattle.queue_runs.specs.Meaning.{queueOf, Good, quietOf, SameShown}
+use Rattle.queue_runs.specs.Meaning.{queueOf, GoodState, quietOf, SameShown}
 use Rattle.queue_runs.specs.Creation.{Arguments, optionsWith, newState}
 use Rattle.queue_runs.specs.Refusals.{refusal}
 use Rattle.queue_runs.specs.Demand3.{Reached, Accepts, restored, Demand3}
@@ -30,7 +30,7 @@ use Rattle.queue_runs.proofs.Alike.{alike}
 
 -- They are good, stand for reachable queues of the model, and their stores have the length of creation.
 pub record Stands (o : plain.Options) (len : ℕ) (s : State) : Type 0 where
-  pub good : Good s
+  pub good : GoodState s
   pub reachable : Reachable o (queueOf s)
   pub store-is : length (s .store) ≡ len
 
@@ -53,7 +53,7 @@ pub restore-is : (store now : ℕ) (i : List ℕ) (q : Queue) → run.step (run.
 unfolding run.step
 restore-is store now i q = refl
 
-pub restores : (time : ℕ) (i : List ℕ) (s : State) → Good s → Accepts time i s → demands.Restores time i (queueOf s) (queueOf (restored time i s))
+pub restores : (time : ℕ) (i : List ℕ) (s : State) → GoodState s → Accepts time i s → demands.Restores time i (queueOf s) (queueOf (restored time i s))
 restores time i s g h =
     let k = step-link (restore time i) s g (h .typed) in
     let len : ℕ = length (s .store) in

@@ -25,7 +25,7 @@ use Rattle.linked_adding.specs.Message.{messageOf}
 use Rattle.queue_runs.specs.Calls.{Call, callOf, Shown}
 use Rattle.queue_runs.specs.Run as runs
 use Rattle.queue_runs.specs.Run.{State, step}
-use Rattle.queue_runs.specs.Meaning.{queueOf, Good, AllTyped, callsOf}
+use Rattle.queue_runs.specs.Meaning.{queueOf, GoodState, AllTyped, callsOf}
 use Rattle.queue_runs.specs.Creation.{optionsWith}
 use Rattle.queue_runs.specs.FairTurns.{Allowed, adds, sends, Turn, Turns, AlwaysWait, AlwaysAbove, charge, charged, Request11-turns, Request11-seen}
 use Rattle.queue_runs.specs.Account.{valueOf}
@@ -44,7 +44,7 @@ allowed-link c s (sends es bs time e) =
     subst (λ (n : ℕ). model.Allowed (queueOf s) (run.produce (length (s .store)) (placesIn es) (length bs) time n)) (ap (λ (o : plain.Options). o .payload-limit) (model-options (s .words) (s .store)))
     (model.sends (length (s .store)) (placesIn es) (length bs) time e)
 
-turn-link : (c : Call) (s : State) → Good s → Turn c s → model.Turn (callOf (length (s .store)) c) (queueOf s)
+turn-link : (c : Call) (s : State) → GoodState s → Turn c s → model.Turn (callOf (length (s .store)) c) (queueOf s)
 turn-link c s g t = record { typed = typed-call (length (s .store)) c (store-small s g) (t .typed); allowed = allowed-link c s (t .allowed); below = t .below }
 
 -- What it charges is what the model's charges.
@@ -52,7 +52,7 @@ quiet-charge : (p k : ℕ) (o : Outcome) → Quiet o → model.charge p k (o .an
 quiet-charge p k o (quiet-refused n) = refl
 quiet-charge p k o quiet-done = refl
 
-charge-allowed : (p k : ℕ) (c : Call) (s : State) → Good s → Turn c s → Allowed s c → charge p k (step c s .shows .answer) ≡ model.charge p k (meant c s .outcome .answer)
+charge-allowed : (p k : ℕ) (c : Call) (s : State) → GoodState s → Turn c s → Allowed s c → charge p k (step c s .shows .answer) ≡ model.charge p k (meant c s .outcome .answer)
 charge-allowed p k c s g t (adds time m payload) =
     ap (λ (x : Shown). charge p k (x .answer)) (step-link c s g (t .typed) .shows-are) ∙ sym (quiet-charge p k (meant c s .outcome) (form-of (run.add (length (s .store)) time (messageOf m payload)) (queueOf s)))
 charge-allowed p k c s g t (sends es bs time e) =
@@ -65,22 +65,22 @@ all-typed-turns [] s t = tt
 all-typed-turns (c ∷ cs) s t = (t .0 .typed, all-typed-turns cs (step c s .next) (t .1))
 
 -- A store keeps its length, so the calls after a step are the same calls of the model.
-same-calls : (c : Call) (cs : List Call) (s : State) → Good s → Turn c s → callsOf (length (step c s .next .store)) cs ≡ callsOf (length (s .store)) cs
+same-calls : (c : Call) (cs : List Call) (s : State) → GoodState s → Turn c s → callsOf (length (step c s .next .store)) cs ≡ callsOf (length (s .store)) cs
 same-calls c cs s g t = ap (λ (n : ℕ). callsOf n cs) (step-link c s g (t .typed) .same-store)
 
-turns-link : (cs : List Call) (s : State) → Good s → Turns cs s → model.Turns (callsOf (length (s .store)) cs) (queueOf s)
+turns-link : (cs : List Call) (s : State) → GoodState s → Turns cs s → model.Turns (callsOf (length (s .store)) cs) (queueOf s)
 turns-link [] s g t = tt
 turns-link (c ∷ cs) s g t =
     let h = step-link c s g (t .0 .typed) in
     (turn-link c s g (t .0), subst (λ (q : Queue). model.Turns (callsOf (length (s .store)) cs) q) (h .next-is) (subst (λ (ms : List run.Call). model.Turns ms (queueOf (step c s .next))) (same-calls c cs s g (t .0)) (turns-link cs (step c s .next) (h .good) (t .1))))
 
-waits-link : (j k : ℕ) (cs : List Call) (s : State) → Good s → Turns cs s → AlwaysWait j k cs s → model.AlwaysWait j k (callsOf (length (s .store)) cs) (queueOf s)
+waits-link : (j k : ℕ) (cs : List Call) (s : State) → GoodState s → Turns cs s → AlwaysWait j k cs s → model.AlwaysWait j k (callsOf (length (s .store)) cs) (queueOf s)
 waits-link j k [] s g t a = a
 waits-link j k (c ∷ cs) s g t a =
     let h = step-link c s g (t .0 .typed) in
     (a .0, subst (λ (q : Queue). model.AlwaysWait j k (callsOf (length (s .store)) cs) q) (h .next-is) (subst (λ (ms : List run.Call). model.AlwaysWait j k ms (queueOf (step c s .next))) (same-calls c cs s g (t .0)) (waits-link j k cs (step c s .next) (h .good) (t .1) (a .1))))
 
-charged-link : (p k : ℕ) (cs : List Call) (s : State) → Good s → Turns cs s → charged p k (runs.run cs s) ≡ model.charged p k (run.run (callsOf (length (s .store)) cs) (queueOf s))
+charged-link : (p k : ℕ) (cs : List Call) (s : State) → GoodState s → Turns cs s → charged p k (runs.run cs s) ≡ model.charged p k (run.run (callsOf (length (s .store)) cs) (queueOf s))
 unfolding charged model.charged runs.run run.run
 charged-link p k [] s g t = refl
 charged-link p k (c ∷ cs) s g t =
@@ -108,7 +108,7 @@ priority-answer : (k : ℕ) (q : Queue) → numberOf (run.step (run.ask-priority
 unfolding run.step
 priority-answer k q = refl
 
-priority-is : (s : State) (k p : ℕ) → Good s → priorityOf (s .words) k ≡ number-answer.Value p → priority-of (queueOf s) k ≡ p
+priority-is : (s : State) (k p : ℕ) → GoodState s → priorityOf (s .words) k ≡ number-answer.Value p → priority-of (queueOf s) k ≡ p
 priority-is s k p g e =
     let x : number-answer.Value (priority-of (queueOf s) k) ≡ number-answer.Value p = sym (priority-asked (s .words) (s .store) g k ∙ priority-answer k (queueOf s)) ∙ e in cc
 
@@ -145,19 +145,19 @@ request11-turns a len s before during j k p r c t w =
 
 -- ------------------------------------------------------------------ by what a host sees
 
-open-step : (o : plain.Options) (j k : ℕ) (c : Call) (s : State) → Good s → Turn c s → BothOpen o j k (queueOf s) → BothOpen o j k (queueOf (step c s .next))
+open-step : (o : plain.Options) (j k : ℕ) (c : Call) (s : State) → GoodState s → Turn c s → BothOpen o j k (queueOf s) → BothOpen o j k (queueOf (step c s .next))
 open-step o j k c s g t b = subst (BothOpen o j k) (sym (step-link c s g (t .typed) .next-is)) (open-on o j k (callOf (length (s .store)) c) (queueOf s) b (turn-link c s g t))
 
-open-after : (o : plain.Options) (j k : ℕ) (cs : List Call) (s : State) → Good s → Turns cs s → BothOpen o j k (queueOf s) → BothOpen o j k (queueOf (runs.after cs s))
+open-after : (o : plain.Options) (j k : ℕ) (cs : List Call) (s : State) → GoodState s → Turns cs s → BothOpen o j k (queueOf s) → BothOpen o j k (queueOf (runs.after cs s))
 unfolding runs.after
 open-after o j k [] s g t b = b
 open-after o j k (c ∷ cs) s g t b = open-after o j k cs (step c s .next) (step-link c s g (t .0 .typed) .good) (t .1) (open-step o j k c s g (t .0) b)
 
-above-wait : (o : plain.Options) (j k : ℕ) (s : State) → Good s → BothOpen o j k (queueOf s) → (0 < valueOf (amountOf (s .words) j)) × (0 < valueOf (amountOf (s .words) k))
+above-wait : (o : plain.Options) (j k : ℕ) (s : State) → GoodState s → BothOpen o j k (queueOf s) → (0 < valueOf (amountOf (s .words) j)) × (0 < valueOf (amountOf (s .words) k))
     → (is-waiting j (queueOf s) ≡ true) × (is-waiting k (queueOf s) ≡ true)
 above-wait o j k s g b l = both-wait o j k (queueOf s) b (subst (λ (n : ℕ). 0 < n) (value-is s j g) (l .0), subst (λ (n : ℕ). 0 < n) (value-is s k g) (l .1))
 
-always-wait : (o : plain.Options) (j k : ℕ) (cs : List Call) (s : State) → Good s → BothOpen o j k (queueOf s) → Turns cs s → AlwaysAbove j k cs s → AlwaysWait j k cs s
+always-wait : (o : plain.Options) (j k : ℕ) (cs : List Call) (s : State) → GoodState s → BothOpen o j k (queueOf s) → Turns cs s → AlwaysAbove j k cs s → AlwaysWait j k cs s
 always-wait o j k [] s g b t l = tt
 always-wait o j k (c ∷ cs) s g b t l = (above-wait o j k s g b (l .0), always-wait o j k cs (step c s .next) (step-link c s g (t .0 .typed) .good) (open-step o j k c s g (t .0) b) (t .1) (l .1))
 

@@ -10,7 +10,7 @@ use Rattle.queue_sending.specs.declared.data.DataToSend.{DataToSend}
 use Rattle.linked_sending.specs.Meaning.{dataOf, producedOf}
 use Rattle.queue_runs.specs.Calls.{Call, add, produce, fill, discard, close, ready-ids, commit, rollback, reset, set-threshold, set-priority, set-interleaving, restore, ask-priority, ask-amount, ask-threshold, ask-total, ask-empty, ask-has-data, ask-streams-ready, ask-ready-count, ask-readiness, ask-room, callOf, Typed, Shown}
 use Rattle.queue_runs.specs.Run.{State, step}
-use Rattle.queue_runs.specs.Meaning.{queueOf, Good, shownOf}
+use Rattle.queue_runs.specs.Meaning.{queueOf, GoodState, shownOf}
 use Rattle.queue_runs.specs.Fragments.{dataSent, dataIn}
 use Rattle.queue_runs.proofs.Steps.{step-link, meant}
 use Rattle.queue_runs.proofs.Forms.{Quiet, quiet-refused, quiet-done, Loud, loud-refused, loud-done, Filled, filled-refused, filled-told, Ids, ids-told, Number, number-told, Flag, flag-told, Form, form-of}
@@ -80,5 +80,5 @@ data-append [] gs = refl
 data-append (f ∷ fs) gs = ap (λ (l : List DataToSend). dataOf f ∷ l) (data-append fs gs)
 
 -- What a call shows is what the model's call shows.
-pub step-data : (c : Call) (s : State) → Good s → Typed c → dataIn (step c s .shows .answer) ≡ map dataOf (fragments-in (meant c s .outcome .answer))
+pub step-data : (c : Call) (s : State) → GoodState s → Typed c → dataIn (step c s .shows .answer) ≡ map dataOf (fragments-in (meant c s .outcome .answer))
 step-data c s g t = ap (λ (x : Shown). dataIn (x .answer)) (step-link c s g t .shows-are) ∙ data-shown (length (s .store)) c (meant c s .outcome) (form-of (callOf (length (s .store)) c) (queueOf s))

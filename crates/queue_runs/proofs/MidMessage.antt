@@ -28,7 +28,7 @@ use Rattle.queue_words.specs.declared.header.Remembered.{Remembered}
 use Rattle.queue_words.specs.declared.header.Remembered.the-variants as recalled
 use Rattle.queue_runs.specs.Calls.{Call, add, produce, fill, discard, close, ready-ids, commit, rollback, reset, set-threshold, set-priority, set-interleaving, restore, ask-priority, ask-amount, ask-threshold, ask-total, ask-empty, ask-has-data, ask-streams-ready, ask-ready-count, ask-readiness, ask-room, callOf, Typed, Shown, called, sent}
 use Rattle.queue_runs.specs.Run.{State, step}
-use Rattle.queue_runs.specs.Meaning.{queueOf, Good, sentOf}
+use Rattle.queue_runs.specs.Meaning.{queueOf, GoodState, sentOf}
 use Rattle.queue_runs.specs.Creation.{Arguments, optionsWith, newState}
 use Rattle.queue_runs.specs.Refusals.{refusal}
 use Rattle.queue_runs.specs.MidMessage.{Uninterleaved, NeverInterleaved, at-first, later, Request10-remembered, RestOf, Request10-rest}
@@ -41,17 +41,17 @@ use Rattle.queue_runs.proofs.Account.{key-same}
 
 -- They are good and stand for the model's such queues.
 pub record Stands (o : plain.Options) (len : ℕ) (s : State) : Type 0 where
-  pub good : Good s
+  pub good : GoodState s
   pub never : model.NeverInterleaved o (queueOf s)
   pub store-is : length (s .store) ≡ len
 
 -- A restoring that is done is not refused.
-pub done-accepted : (time : ℕ) (image : List ℕ) (s : State) → Good s → Typed (restore time image) → meant (restore time image) s .outcome .answer ≡ plain.done → refusal (step (restore time image) s .shows .answer) ≡ false
+pub done-accepted : (time : ℕ) (image : List ℕ) (s : State) → GoodState s → Typed (restore time image) → meant (restore time image) s .outcome .answer ≡ plain.done → refusal (step (restore time image) s .shows .answer) ≡ false
 done-accepted time image s g t e =
     let o = meant (restore time image) s .outcome in
     ap (λ (x : Shown). refusal (x .answer)) (step-link (restore time image) s g t .shows-are) ∙ ap (λ (x : plain.Answer). refusal (called (promise.callOf x (length (o .events))))) e
 
-pub uninterleaved : (F : Type 0) (P : Option Handover → Type 0) (c : Call) (s : State) → Good s → Typed c → Uninterleaved F P c s → model.Uninterleaved F P (callOf (length (s .store)) c) (queueOf s)
+pub uninterleaved : (F : Type 0) (P : Option Handover → Type 0) (c : Call) (s : State) → GoodState s → Typed c → Uninterleaved F P c s → model.Uninterleaved F P (callOf (length (s .store)) c) (queueOf s)
 uninterleaved F P (add time m payload) s g t u = u
 uninterleaved F P (produce es bs time size) s g t u = u
 uninterleaved F P (fill es bs time p) s g t u = u

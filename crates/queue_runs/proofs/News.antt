@@ -15,7 +15,7 @@ use Rattle.linked_adding.proofs.Creates.{create-link}
 use Rattle.queue_runs.specs.Calls.{Call, callOf}
 use Rattle.queue_runs.specs.Run.{State, step}
 use Rattle.queue_runs.specs.Run as runs
-use Rattle.queue_runs.specs.Meaning.{queueOf, Good, AllTyped}
+use Rattle.queue_runs.specs.Meaning.{queueOf, GoodState, AllTyped}
 use Rattle.queue_runs.specs.Creation.{Arguments, optionsWith, newState, Creates}
 use Rattle.queue_runs.proofs.Steps.{step-link, typed-call, store-small}
 
@@ -23,7 +23,7 @@ use Rattle.queue_runs.proofs.Steps.{step-link, typed-call, store-small}
 
 -- The words stand for the model's new queue.
 pub record New (o : plain.Options) (s : State) : Type 0 where
-  pub good : Good s
+  pub good : GoodState s
   pub created : Created o
   pub queue-is : queueOf s ≡ new-queue o
 
@@ -58,7 +58,7 @@ new-link a s h = go (create-refusal o) refl
 -- ------------------------------------------------------------------ the model's reachable queues
 
 -- Every call leads from a reachable queue to a reachable one.
-reach : (o : plain.Options) (cs : List Call) (s : State) → Good s → AllTyped cs → Reachable o (queueOf s) → Reachable o (queueOf (runs.after cs s))
+reach : (o : plain.Options) (cs : List Call) (s : State) → GoodState s → AllTyped cs → Reachable o (queueOf s) → Reachable o (queueOf (runs.after cs s))
 unfolding runs.after
 reach o [] s g t r = r
 reach o (c ∷ cs) s g t r =

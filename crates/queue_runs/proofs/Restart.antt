@@ -22,7 +22,7 @@ use Rattle.linked_sending.specs.Meaning.{dataOf}
 use Rattle.queue_runs.specs.Calls.{Call, add, produce, fill, discard, close, ready-ids, commit, rollback, reset, set-threshold, set-priority, set-interleaving, restore, ask-priority, ask-amount, ask-threshold, ask-total, ask-empty, ask-has-data, ask-streams-ready, ask-ready-count, ask-readiness, ask-room, callOf, Typed, Shown, called}
 use Rattle.queue_runs.specs.Run as runs
 use Rattle.queue_runs.specs.Run.{State, step}
-use Rattle.queue_runs.specs.Meaning.{queueOf, Good, AllTyped, callsOf, quietOf}
+use Rattle.queue_runs.specs.Meaning.{queueOf, GoodState, AllTyped, callsOf, quietOf}
 use Rattle.queue_runs.specs.Creation.{optionsWith}
 use Rattle.queue_runs.specs.Restart.{ofStream, fragments, FirstAfresh, NotRestored, NoneRestored, Request6-starts}
 use Rattle.queue_runs.proofs.Steps.{step-link, typed-call, store-small, meant}
@@ -50,7 +50,7 @@ module _ (k : ℕ) where
   -- ---------------------------------------------------------------- lists of calls
 
   -- The fragments that calls show are those that the model's show.
-  run-data : (cs : List Call) (s : State) → Good s → AllTyped cs → fragments k (runs.run cs s) ≡ map dataOf (model.fragments k (run.run (callsOf (length (s .store)) cs) (queueOf s)))
+  run-data : (cs : List Call) (s : State) → GoodState s → AllTyped cs → fragments k (runs.run cs s) ≡ map dataOf (model.fragments k (run.run (callsOf (length (s .store)) cs) (queueOf s)))
   unfolding fragments runs.run model.fragments run.run
   run-data [] s g t = refl
   run-data (c ∷ cs) s g t =
@@ -65,7 +65,7 @@ first-afresh (f ∷ fs) a = record { first = a .first; mid = a .mid; ssn = a .ss
 
 -- ------------------------------------------------------------------ no restoring
 
-not-restored : (c : Call) (s : State) → Good s → Typed c → NotRestored c s → model.NotRestored (callOf (length (s .store)) c) (queueOf s)
+not-restored : (c : Call) (s : State) → GoodState s → Typed c → NotRestored c s → model.NotRestored (callOf (length (s .store)) c) (queueOf s)
 not-restored (add time m payload) s g t n = (λ x y z e d. let u : _≡_ {A = ℕ} 0 1 = cc in omega arith, λ a b c d k e. let u : _≡_ {A = ℕ} 0 1 = cc in omega arith)
 not-restored (produce es bs time size) s g t n = (λ x y z e d. let u : _≡_ {A = ℕ} 0 1 = cc in omega arith, λ a b c d k e. let u : _≡_ {A = ℕ} 0 1 = cc in omega arith)
 not-restored (fill es bs time p) s g t n = absurd (n .1 es bs time p refl)
@@ -90,7 +90,7 @@ not-restored ask-ready-count s g t n = (λ x y z e d. let u : _≡_ {A = ℕ} 0 
 not-restored ask-readiness s g t n = (λ x y z e d. let u : _≡_ {A = ℕ} 0 1 = cc in omega arith, λ a b c d k e. let u : _≡_ {A = ℕ} 0 1 = cc in omega arith)
 not-restored (ask-room r) s g t n = (λ x y z e d. let u : _≡_ {A = ℕ} 0 1 = cc in omega arith, λ a b c d k e. let u : _≡_ {A = ℕ} 0 1 = cc in omega arith)
 
-none-restored : (cs : List Call) (s : State) → Good s → AllTyped cs → NoneRestored cs s → model.NoneRestored (callsOf (length (s .store)) cs) (queueOf s)
+none-restored : (cs : List Call) (s : State) → GoodState s → AllTyped cs → NoneRestored cs s → model.NoneRestored (callsOf (length (s .store)) cs) (queueOf s)
 none-restored [] s g t n = tt
 none-restored (c ∷ cs) s g t n =
     let h = step-link c s g (t .0) in (

@@ -6,18 +6,18 @@ use lib.ListN.{length}
 use Rattle.queue_model.specs.Run as run
 use Rattle.queue_runs.specs.Calls.{Call, Shown}
 use Rattle.queue_runs.specs.Run.{State, step}
-use Rattle.queue_runs.specs.Meaning.{queueOf, Good, AllTyped, callsOf, allShownOf}
+use Rattle.queue_runs.specs.Meaning.{queueOf, GoodState, AllTyped, callsOf, allShownOf}
 use Rattle.queue_runs.proofs.Steps.{Stepped, step-link}
 use Rattle.queue_runs.specs.Run as runs
 
 -- After any list of calls the words are good and stand for the model's queue, and each call has shown what the model's shows.
 pub record Ran (cs : List Call) (s : State) : Type 0 where
-  pub good : Good (runs.after cs s)
+  pub good : GoodState (runs.after cs s)
   pub next-is : queueOf (runs.after cs s) ≡ run.after (callsOf (length (s .store)) cs) (queueOf s)
   pub shows-are : runs.run cs s ≡ allShownOf cs (run.run (callsOf (length (s .store)) cs) (queueOf s))
   pub same-store : length (runs.after cs s .store) ≡ length (s .store)
 
-ran-none : (s : State) → Good s → Ran [] s
+ran-none : (s : State) → GoodState s → Ran [] s
 unfolding runs.after runs.run run.after run.run
 ran-none s g = record { good = g; next-is = refl; shows-are = refl; same-store = refl }
 
@@ -33,6 +33,6 @@ ran-more c cs s h r =
       same-store = r .same-store ∙ h .same-store;
     }
 
-pub run-link : (cs : List Call) (s : State) → Good s → AllTyped cs → Ran cs s
+pub run-link : (cs : List Call) (s : State) → GoodState s → AllTyped cs → Ran cs s
 run-link [] s g t = ran-none s g
 run-link (c ∷ cs) s g t = let h = step-link c s g (t .0) in ran-more c cs s h (run-link cs (step c s .next) (h .good) (t .1))

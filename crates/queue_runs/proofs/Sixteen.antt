@@ -14,7 +14,7 @@ use Rattle.linked_packets.specs.Meaning.{filledOf}
 use Rattle.queue_runs.specs.Calls as calls
 use Rattle.queue_runs.specs.Calls.{Call, Shown, called, sent, filled, readied, number, flag}
 use Rattle.queue_runs.specs.Run.{State, step, run}
-use Rattle.queue_runs.specs.Meaning.{Good, shownOf, AllTyped}
+use Rattle.queue_runs.specs.Meaning.{GoodState, shownOf, AllTyped}
 use Rattle.queue_runs.specs.Creation.{Arguments, newState, Creates, sixteen, NoSixteen}
 use Rattle.queue_runs.proofs.Steps.{step-link, meant, fine}
 use Rattle.queue_runs.proofs.News.{new-link}
@@ -110,7 +110,7 @@ shown-not (calls.ask-room r) o e = refl
 -- ------------------------------------------------------------------ lists of calls
 
 -- On good words.
-pub good-no-sixteen : (cs : List Call) (s : State) → Good s → AllTyped cs → NoSixteen (run cs s)
+pub good-no-sixteen : (cs : List Call) (s : State) → GoodState s → AllTyped cs → NoSixteen (run cs s)
 unfolding run
 good-no-sixteen [] s g t = tt
 good-no-sixteen (c ∷ cs) s g t =

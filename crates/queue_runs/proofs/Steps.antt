@@ -36,15 +36,15 @@ use Rattle.handover.specs.Restore as restoring
 use Rattle.linked_restoring.proofs.Restores.{restore-link}
 use Rattle.queue_runs.specs.Calls.{Call, add, produce, fill, discard, close, ready-ids, commit, rollback, reset, set-threshold, set-priority, set-interleaving, restore, ask-priority, ask-amount, ask-threshold, ask-total, ask-empty, ask-has-data, ask-streams-ready, ask-ready-count, ask-readiness, ask-room, callOf, Typed, shown, called, sent, filled, readied, number, flag, count, truth}
 use Rattle.queue_runs.specs.Run.{State, Step, step, quiet, loud, sends, fills, stores}
-use Rattle.queue_runs.specs.Meaning.{queueOf, Good, quietOf, loudOf, shownOf}
+use Rattle.queue_runs.specs.Meaning.{queueOf, GoodState, quietOf, loudOf, shownOf}
 
 -- ------------------------------------------------------------------ the model's call
 
 -- A queue's store has its creation length.
-pub store-same : (s : State) → Good s → length (s .store) ≡ queueOf s .options .store-length
+pub store-same : (s : State) → GoodState s → length (s .store) ≡ queueOf s .options .store-length
 store-same s g = g .store-is ∙ ap (λ (o : plain.Options). o .store-length) (sym (model-options (s .words) (s .store)))
 
-pub store-small : (s : State) → Good s → length (s .store) < 2 ^ 64
+pub store-small : (s : State) → GoodState s → length (s .store) < 2 ^ 64
 store-small s g = let r = room (queueOf s .options) (g .well .creation) in let e = store-same s g in let h = r .store-high in omega arith
 
 -- The model's call has its widths.
@@ -77,25 +77,25 @@ typed-call len (ask-room r) h t = t
 abbrev pub meant : Call → State → plain.Step
 meant c s = run.step (callOf (length (s .store)) c) (queueOf s)
 
-pub fine : (c : Call) (s : State) → Good s → Typed c → Fine (queueOf s) (meant c s)
+pub fine : (c : Call) (s : State) → GoodState s → Typed c → Fine (queueOf s) (meant c s)
 fine c s g t = fine-step (callOf (length (s .store)) c) (queueOf s) (typed-call (length (s .store)) c (store-small s g) t) (g .well)
 
 -- ------------------------------------------------------------------ one call
 
 -- What a step leaves and shows is what the model's does.
 pub record Told (c : Call) (s : State) (x : Step) : Type 0 where
-  pub good : Good (x .next)
+  pub good : GoodState (x .next)
   pub next-is : queueOf (x .next) ≡ meant c s .next
   pub shows-are : x .shows ≡ shownOf c (meant c s .outcome)
 
 -- A call is the model's, and the store keeps its length.
 pub record Stepped (c : Call) (s : State) : Type 0 where
-  pub good : Good (step c s .next)
+  pub good : GoodState (step c s .next)
   pub next-is : queueOf (step c s .next) ≡ meant c s .next
   pub shows-are : step c s .shows ≡ shownOf c (meant c s .outcome)
   pub same-store : length (step c s .next .store) ≡ length (s .store)
 
-stepped-of : (c : Call) (s : State) → Good s → Typed c → Told c s (step c s) → Stepped c s
+stepped-of : (c : Call) (s : State) → GoodState s → Typed c → Told c s (step c s) → Stepped c s
 stepped-of c s g t h = record {
   good = h .good;
   next-is = h .next-is;
@@ -120,7 +120,7 @@ fills-told : (s : State) (es bs : List ℕ) (time : ℕ) (p : Packet) (r : Fille
 fills-told s es bs time p r d = record { good = d .good; next-is = d .next; shows-are = λ i. shown (filled (d .answer i)) (d .events i) (d .packet i) }
 
 -- Every call is the model's.
-pub step-told : (c : Call) (s : State) → Good s → Typed c → Told c s (step c s)
+pub step-told : (c : Call) (s : State) → GoodState s → Typed c → Told c s (step c s)
 unfolding step
 step-told (add time m payload) s g t = stores-told (add time m payload) s (adding.add (s .words) (s .store) time m payload) (λ o. refl) (add-link (s .words) (s .store) g time m payload (t .0) (t .1 .0))
 step-told (produce es bs time size) s g t = sends-told s es bs time size (produceNext (s .words) (s .store) es bs time size) (produce-link (s .words) (s .store) es bs time size g)
@@ -146,5 +146,5 @@ step-told ask-ready-count s g t = record { good = g; next-is = unfold run.step i
 step-told ask-readiness s g t = record { good = g; next-is = unfold run.step in refl; shows-are = unfold run.step in ap (λ a. shown (count a) [] []) (readiness-asked (s .words) (s .store)) }
 step-told (ask-room r) s g t = record { good = g; next-is = unfold run.step in refl; shows-are = unfold run.step in ap (λ a. shown (count a) [] []) (room-asked r (s .words) (s .store) g) }
 
-pub step-link : (c : Call) (s : State) → Good s → Typed c → Stepped c s
+pub step-link : (c : Call) (s : State) → GoodState s → Typed c → Stepped c s
 step-link c s g t = stepped-of c s g t (step-told c s g t)

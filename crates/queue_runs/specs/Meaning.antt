@@ -26,8 +26,8 @@ abbrev pub queueOf : State → plain.Queue
 queueOf s = model (s .words) (s .store)
 
 -- Its words and its store are those of a queue.
-abbrev pub Good : State → Type 0
-Good s = state.Good (s .words) (s .store)
+abbrev pub GoodState : State → Type 0
+GoodState s = state.Good (s .words) (s .store)
 
 -- ------------------------------------------------------------------ one call
 

@@ -36,11 +36,11 @@ rest-in : (ws st : List ℕ) (x : ℕ) → sizeOf ws x - (itemIn ws st x) .offse
 unfolding itemIn rest
 rest-in ws st x = refl
 
-payload-in : (ws st : List ℕ) (x : ℕ) → payload.Good ws st → x < 1024 → length ((itemIn ws st x) .payload) ≡ sizeOf ws x
+payload-in : (ws st : List ℕ) (x : ℕ) → payload.GoodPayloads ws st → x < 1024 → length ((itemIn ws st x) .payload) ≡ sizeOf ws x
 unfolding itemIn
 payload-in ws st x g h = payload-length ws st (gapsOf ws) x g h
 
-pub rest-is : (ws st : List ℕ) (x : ℕ) → payload.Good ws st → x < 1024 → remaining (itemIn ws st x) ≡ rest (itemAt ws x)
+pub rest-is : (ws st : List ℕ) (x : ℕ) → payload.GoodPayloads ws st → x < 1024 → remaining (itemIn ws st x) ≡ rest (itemAt ws x)
 rest-is ws st x g h = ap (λ (n : ℕ). n - (itemIn ws st x) .offset) (payload-in ws st x g h) ∙ rest-in ws st x
 
 pub offset-is : (ws st : List ℕ) (x : ℕ) → (itemIn ws st x) .offset ≡ itemAt ws x .offset

@@ -27,7 +27,7 @@ use Rattle.queue_state.proofs.Frames.{Same}
 -- The message in place x is gone from ws, with n bytes of the total: us.
 pub record Gone (ws st : List ℕ) (x n : ℕ) (us : List ℕ) : Type 0 where
   pub long : length us ≡ length ws
-  pub lay : payload.Good us st
+  pub lay : payload.GoodPayloads us st
   -- its place
   pub next : nextOf us x ≡ totalsAt ws .free
   pub bare : sizeOf us x ≡ 0
@@ -123,6 +123,6 @@ module _ (ws st : List ℕ) (x n : ℕ) (long : length ws ≡ 20768) (ds : List 
   }
 
 -- THE THEOREM of a message that is gone.
-pub gone : (ws st : List ℕ) (x n : ℕ) → length ws ≡ 20768 → payload.Good ws st → x < 1024 → 1 ≤ sizeOf ws x → Gone ws st x n (released ws x n)
+pub gone : (ws st : List ℕ) (x n : ℕ) → length ws ≡ 20768 → payload.GoodPayloads ws st → x < 1024 → 1 ≤ sizeOf ws x → Gone ws st x n (released ws x n)
 unfolding released
 gone ws st x n long lay hx hs = gone-is ws st x n long (dropPayload ws x) hx (drop-law ws st x lay hx hs .1) (drop-frame ws x long)

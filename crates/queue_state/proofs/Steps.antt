@@ -41,7 +41,7 @@ pub record Step (ws st : List ℕ) (g : Shape ws st) (i : ℕ) (ws′ st′ v fr
   -- nothing else changes
   pub others′ : (r : ℕ) → r < 256 → (rowAt ws i ≡ r → ⊥) → streamAt ws′ r ≡ streamAt ws r
   pub only : (x : ℕ) → x < 1024 → count x (g .fr) ≡ 0 → count x (g .q i) ≡ 0 → Same ws st ws′ st′ x
-  pub lay′ : payload.Good ws′ st′
+  pub lay′ : payload.GoodPayloads ws′ st′
   pub schedules′ : GoodScheduler ws′
 
 -- What follows.

@@ -41,7 +41,7 @@ pub record Shape (ws st : List ℕ) : Type 0 where
   pub waits : totalsAt ws .waiting ≡ total length q
   pub used : usedOf ws ≡ total (sumOf (sizeOf ws)) q
   -- the payloads lie in the store apart from each other; the scheduler's rows are of different streams
-  pub lay : payload.Good ws st
+  pub lay : payload.GoodPayloads ws st
   pub schedules : GoodScheduler ws
 
 -- They stand for a queue of document 01: its amounts are sums, its numbers have their widths, its limits hold.

@@ -11,7 +11,7 @@ use Rattle.queue_restarts.specs.Reset.{resetQueue}
 use Rattle.linked_restarts.proofs.Contracts.{reset-meets}
 use Rattle.queue_runs.specs.Calls.{Call, callOf}
 use Rattle.queue_runs.specs.Run.{State}
-use Rattle.queue_runs.specs.Meaning.{queueOf, Good}
+use Rattle.queue_runs.specs.Meaning.{queueOf, GoodState}
 use Rattle.queue_runs.proofs.Steps.{step-link, typed-call}
 use Rattle.reset_model.specs.Handler as handlers
 use Rattle.reset_model.specs.Uses as model
@@ -51,7 +51,7 @@ allowed-uses len (u ∷ us) h a = (allowed-use len u h (a .0), allowed-uses len 
 
 -- Words and store are those of a queue, the model's, and the handler is the model's.
 pub record Linked (p : Pair) (m : model.Pair) : Type 0 where
-  pub good : Good (p .queue)
+  pub good : GoodState (p .queue)
   pub handler-is : p .handler ≡ handlerOf (m .handler)
   pub queue-is : queueOf (p .queue) ≡ m .queue
 
@@ -75,7 +75,7 @@ written-is handlers.rolled-back out l = refl
 written-is handlers.still-waiting out l = refl
 written-is handlers.was-reset out l = refl
 
-module _ (h : StreamResetHandler) (s : State) (k : handlers.Handler) (g : Good s) (e : h ≡ handlerOf k) (l : Option (List ℕ)) where
+module _ (h : StreamResetHandler) (s : State) (k : handlers.Handler) (g : GoodState s) (e : h ≡ handlerOf k) (l : Option (List ℕ)) where
   stepped-request : (out : List ℕ) (response-number last-tsn : ℕ) → Stepped (request out response-number last-tsn) (pair h s) (model.pair k (queueOf s)) l
   unfolding used model.used messageAfter model.message-after
   stepped-request out response-number last-tsn =

@@ -8,7 +8,7 @@ use Rattle.queue_model.specs.Types.{Options, Queue}
 use Rattle.queue_runs.specs.Calls.{restore}
 use Rattle.queue_runs.specs.Run.{State}
 use Rattle.queue_runs.specs.Creation.{Arguments, optionsWith}
-use Rattle.queue_runs.specs.Meaning.{queueOf, Good}
+use Rattle.queue_runs.specs.Meaning.{queueOf, GoodState}
 use Rattle.queue_runs.proofs.Steps.{step-link, store-small}
 use Rattle.queue_runs.proofs.News.{new-link}
 use Rattle.queue_runs.proofs.Demand3.{stands, restores}
@@ -24,7 +24,7 @@ use Rattle.reset_runs.proofs.Links.{usesOf, allowed-uses, run-link}
 -- The queue at the handler's start is the model's, new or restored.
 record Begun (s : State) : Type 0 where
   options : Options
-  good : Good s
+  good : GoodState s
   starts : model.Starts options (queueOf s)
 
 begun : (a : Arguments) (s : State) → Starts a s → Begun s
