@@ -9,7 +9,6 @@ use borrow.Author.Tests.{le-ltb, ltb-false, eqb-true, eqb-false}
 use lib.Dec.{ltb, eqb}
 use Rattle.queue_model.proofs.Tests.{holds}
 use Rattle.queue_words.specs.Flags.{pick}
-use Rattle.queue_words.specs.Header.{totalsAt}
 use Rattle.queue_words.specs.Items.{itemAt}
 use Rattle.queue_words.specs.declared.header.Totals.{Totals}
 use Rattle.queue_words.specs.declared.items.Item.{Item}

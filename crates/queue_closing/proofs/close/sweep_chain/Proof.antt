@@ -3,7 +3,6 @@
 use mathlib.Core.Path.{_≡_, refl, _∙_}
 use Prim.Native.Nat.{_≤_, _-_}
 use native.Mathlib.Omega.{arith}
-use borrow.Author.Needs.{needs}
 use lib.ListN.{length}
 use Rattle.queue_closing.specs.Sweep.{swept, sweep, Goes}
 use Rattle.queue_closing.proofs.Loops.{sweep-start, sweep-out, sweep-next, sweep-end, goes-start, goes-here, goes-next}
