@@ -39,7 +39,7 @@ extern "C" {
  * event had two words; a list for 2,305 of those is refused here (DSQ_EVENT_LIST_SHORT), not written past. In layout 2 dsq_create had no
  * restart_rule; nothing but a comparison of the layouts tells a host compiled for it. In layout 3 the header of the words was shorter by
  * one word: words of a queue that were kept from it are not read right here. In layout 4 functions returned 8 bits, and the rest of the
- * register meant nothing; and words 21 to 31 of a queue meant nothing: with words that were kept from it the choice among more than 64
+ * register meant nothing; and words 21 to 31 of a queue meant nothing: with words that were kept from it the choice among more than 48
  * waiting streams is not right here. */
 #define DSQ_LAYOUT 5
 
