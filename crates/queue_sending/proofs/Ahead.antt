@@ -8,7 +8,7 @@ use borrow.Author.Tests.{lt-ltb, le-ltb, ltb-false}
 use lib.Dec.{ltb}
 use Rattle.queue_words.specs.Flags.{pick}
 use Rattle.queue_words.specs.Active.{activeAt}
-use Rattle.queue_words.specs.Find.{findStream, Findable}
+use Rattle.queue_words.specs.Find.{findStream, isFound, isKnown}
 use Rattle.queue_words.specs.Header.{schedulerAt}
 use Rattle.queue_words.specs.Items.{itemAt}
 use Rattle.queue_words.specs.Streams.{streamAt}
@@ -63,19 +63,15 @@ look-is ws time at id row s m gone hf es em eg = rw (le-ltb 1023 (streamAt ws ro
 -- ---- the stream that is looked for
 
 module _ (ws : List ℕ) (time at id : ℕ) (y : Unbroken (lookFor ws time at id)) where
-  pub may-find : Findable ws id
+  -- it is known
+  pub looked-known : isKnown ws id ≡ true
   unfolding lookFor
-  may-find z = y (broken z)
+  looked-known = by (findStream ws id) y
     where
-      broken : findStream ws id ≡ found.Broken → lookFor ws time at id ≡ look.Broken
-      broken e = rw e
-
-  pub not-gap : (p : ℕ) → found.Gap p ≡ findStream ws id → ⊥
-  unfolding lookFor
-  not-gap p e = y (broken e)
-    where
-      broken : found.Gap p ≡ findStream ws id → lookFor ws time at id ≡ look.Broken
-      broken z = rw (← z)
+      by : (f : Found) → Unbroken (lookIn ws time at id f) → isFound f ≡ true
+      by (found.At p row) g = refl
+      by (found.Gap p) g = absurd (g refl)
+      by found.Broken g = absurd (g refl)
 
   module _ (p row : ℕ) (e : found.At p row ≡ findStream ws id) where
     looks-at : lookFor ws time at id ≡ lookAt ws time at id row

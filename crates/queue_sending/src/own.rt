@@ -8,8 +8,7 @@ use crate::choice::expired;
 use queue_words::QUEUE_WORDS;
 use queue_words::active::load_active;
 use queue_words::items::load_item;
-use queue_words::known::Spot;
-use queue_words::known::find_own;
+use queue_words::known::row_known;
 use queue_words::streams::load_stream;
 use stream_scheduler::own::Front;
 use stream_scheduler::own::peek_own;
@@ -39,11 +38,8 @@ fn look_own_for(queue: &[u64; QUEUE_WORDS], time: u64, at: usize, id: u16) -> Ah
     requires { ⌜ Unbroken (lookFor (now queue) time at id) ⌝ }
     ensures { λ r. ⌜ lookOf r ≡ lookFor (now (queue .entry)) time at id ⌝ }
 {
-    let found = find_own(queue, id);
-    match found {
-        Spot::At(_, row) => look_own_at(queue, time, at, id, row),
-        Spot::Gap(_) => Ahead::Nothing,
-    }
+    let row = row_known(queue, id);
+    look_own_at(queue, time, at, id, row)
 }
 
 pub fn look_own(queue: &[u64; QUEUE_WORDS], time: u64) -> Ahead

@@ -6,6 +6,7 @@ use Prim.Native.Nat.{ℕ, zero, suc, _+_, _-_, _/_, _≤_, _<_}
 use native.Mathlib.Omega.{arith, ne-cases}
 use borrow.Author.Tests.{lt-ltb, le-ltb, eq-eqb, ne-eqb, ltb-true, ltb-false, eqb-true, eqb-false}
 use lib.Dec.{ltb, eqb}
+use Rattle.queue_words.specs.declared.header.Totals.{Totals}
 use Rattle.queue_words.specs.declared.known.Known.{Known}
 use Rattle.queue_words.specs.declared.known.Probe.{Probe}
 use Rattle.queue_words.specs.declared.known.Found.{Found}
@@ -13,8 +14,9 @@ use Rattle.queue_words.specs.declared.known.Found.the-variants.{At, Gap,
 use Rattle.queue_words.specs.declared.known.Spot.{Spot}
 use Rattle.queue_words.specs.declared.known.Spot.the-variants as spot
 use Rattle.queue_words.specs.Flags.{pick}
+use Rattle.queue_words.specs.Header.{totalsAt}
 use Rattle.queue_words.specs.Known.{knownAt, idAt, knownCount, Rising, RisingKnown}
-use Rattle.queue_words.specs.Find.{probed, all, probes, foundAt, foundAmong, findStream, placeTested, foundBy, Findable}
+use Rattle.queue_words.specs.Find.{probed, all, probes, foundAt, positionOf, foundAmong, findStream, placeTested, foundBy, Findable, isFound, isKnown}
 
 -- what holds of both choices holds of the one that is picked
 by-pick : {A : Type 0} (P : A → Type 0) (b : Bool) {x y : A} → (b ≡ true → P x) → (b ≡ false → P y) → P (pick b x y)
@@ -297,3 +299,46 @@ own-found ws id (spot.At p q) f e =
     let is : placeTested (spot.At p q) ≡ findStream ws id = e ∙ among-is ws id (findable-known ws id f) in
     by-lt 255 q (λ h. absurd (f (sym is ∙ place-broken p q h))) (λ h. sym (place-kept p q h) ∙ is)
 own-found ws id (spot.Gap p) f e = e ∙ among-is ws id (findable-known ws id f)
+
+-- A stream that is known stands where the search ends.
+pub record StandsAt (ws : List ℕ) (id : ℕ) : Type 0 where
+  pub few : knownCount ws ≤ 256
+  pub among : positionOf ws id < knownCount ws
+  pub found-there : At (positionOf ws id) (knownAt ws (positionOf ws id) .place) ≡ findStream ws id
+
+pub stands-at : (ws : List ℕ) (id : ℕ) → isKnown ws id ≡ true → StandsAt ws id
+unfolding findStream
+stands-at ws id h = by (ltb 256 (knownCount ws)) refl (ltb at (knownCount ws)) refl (eqb (idAt ws at) id) refl (ltb 255 row) refl h
+  where
+    at : ℕ
+    at = positionOf ws id
+
+    row : ℕ
+    row = knownAt ws at .place
+
+    no : {G : Type 0} → false ≡ true → G
+    no e = absurd (let z : _≡_ {A = ℕ} 0 1 = cc in omega arith)
+
+    by : (a : Bool) → ltb 256 (knownCount ws) ≡ a → (b : Bool) → ltb at (knownCount ws) ≡ b → (c : Bool) → eqb (idAt ws at) id ≡ c → (d : Bool) → ltb 255 row ≡ d
+        → isFound (pick a Broken (pick b (pick c (pick d Broken (At at row)) (Gap at)) (Gap at))) ≡ true → StandsAt ws id
+    by true ea b eb c ec d ed e = no e
+    by false ea false eb c ec d ed e = no e
+    by false ea true eb false ec d ed e = no e
+    by false ea true eb true ec true ed e = no e
+    by false ea true eb true ec false ed e =
+        record { few = ltb-false 256 (knownCount ws) ea; among = ltb-true at (knownCount ws) eb; found-there = rw (ea, eb, ec, ed) }
+
+-- The steps of the search for it, over plain values.
+module _ (ws : List ℕ) (id : ℕ) (h : isKnown ws id ≡ true) (t : Totals) (et : t ≡ totalsAt ws) where
+  pub known-few : t .known ≤ 256
+  known-few = rw et (stands-at ws id h .few)
+
+  module _ (p : Probe) (ep : p ≡ probes ws id (t .known) (all (t .known))) where
+    ends-at : p .low ≡ positionOf ws id
+    ends-at = rw (ep, et)
+
+    pub known-among : p .low < 256
+    known-among = let s = stands-at ws id h in omega (arith, ends-at, s .few, s .among)
+
+    pub known-row : (k : Known) → k ≡ knownAt ws (p .low) → At (positionOf ws id) (k .place) ≡ findStream ws id
+    known-row k ek = rw (ek, ends-at) (stands-at ws id h .found-there)

@@ -1,6 +1,7 @@
 -- The search for a stream among the known, by halving: the first position whose id is not below the one sought. Assumes nothing.
 use Prim.Native.Nat.{ℕ, zero, suc, _+_, _-_, _/_}
 use mathlib.Core.Path.{_≡_}
+use mathlib.Core.Bool.{Bool, true, false}
 use mathlib.Core.List.{List}
 use lib.Dec.{ltb, eqb}
 use Rattle.queue_words.specs.Flags.{pick}
@@ -57,3 +58,18 @@ foundBy (spot.Gap p) = Gap p
 -- the tests cannot fail
 abbrev pub Findable : List ℕ → ℕ → Type 0
 Findable ws id = findStream ws id ≡ Broken → ⊥
+
+-- ---- the search for a stream that is known
+
+-- the position at which it ends
+abbrev pub positionOf : List ℕ → ℕ → ℕ
+positionOf ws id = probes ws id (knownCount ws) (all (knownCount ws)) .low
+
+-- whether the stream with an id is known, and has a row
+abbrev pub isFound : Found → Bool
+isFound (At p q) = true
+isFound (Gap p) = false
+isFound Broken = false
+
+abbrev pub isKnown : List ℕ → ℕ → Bool
+isKnown ws id = isFound (findStream ws id)

@@ -1,8 +1,10 @@
 // The known streams: 256 rows of 2 words from word 32 on, in the order of their ids, and the search among them.
 ghost use mathlib.Core.Path.{_≡_};
+ghost use mathlib.Core.Bool.{true};
 ghost use Prim.Native.Nat.{_+_, _<_, _≤_};
 ghost use Rattle.queue_words.specs.Known.{knownOut, knownIn, knownAt, putKnown, FitsKnown, knownCount};
-ghost use Rattle.queue_words.specs.Find.{probed, all, probes, foundAmong, placeTested, findStream, Findable, foundBy};
+ghost use Rattle.queue_words.specs.declared.known.Found.the-variants.{At};
+ghost use Rattle.queue_words.specs.Find.{isKnown, positionOf, probed, all, probes, foundAmong, placeTested, findStream, Findable, foundBy};
 use crate::QUEUE_WORDS;
 use crate::header::load_totals;
 use crate::limits::LAST_STREAM_ROW;
@@ -134,6 +136,17 @@ pub fn find_own(queue: &[u64; QUEUE_WORDS], id: u16) -> Spot
 {
     let t = load_totals(queue);
     search_known(queue, id, t.known as usize)
+}
+
+// The row of a stream that is known: the search ends at it.
+pub fn row_known(queue: &[u64; QUEUE_WORDS], id: u16) -> usize
+    requires { ⌜ isKnown (now queue) id ≡ true ⌝ }
+    ensures { λ r. ⌜ At (positionOf (now (queue .entry)) id) r ≡ findStream (now (queue .entry)) id ⌝ }
+{
+    let t = load_totals(queue);
+    let p = probe_all(queue, id, t.known as usize);
+    let k = load_known(queue, p.low);
+    k.place as usize
 }
 
 pub fn find_stream(queue: &[u64; QUEUE_WORDS], id: u16) -> Found
