@@ -3,16 +3,14 @@ use mathlib.Core.Path.{_≡_, sym, ap, _∙_}
 use mathlib.Core.List.{List, _++_}
 use Prim.Native.Nat.{ℕ, _+_, _-_, _≤_, _<_}
 use native.Mathlib.Omega.{arith}
-use borrow.Author.Tests.{le-ltb, lt-leb, eq-eqb, ne-eqb, ltb-false, leb-false}
+use borrow.Author.Tests.{le-ltb, lt-leb, eq-eqb, ltb-false, leb-false}
 use lib.Dec.{ltb, leb}
 use lib.ListN.{length, getD, take, drop, length-drop}
 use lib.Seq.{length-take-le, getD-take, getD-drop}
-use Rattle.payload_store.specs.Words.{gapsOf, placeOf, sizeOf}
+use Rattle.payload_store.specs.Words.{placeOf, sizeOf}
 use Rattle.payload_store.specs.Reading.{readCode, readPart}
-use Rattle.payload_store.specs.Putting.{Outcome}
 use Rattle.queue_words.specs.declared.header.Gaps.{Gaps}
 use Rattle.payload_store.specs.Good.{payloadOf, Lay}
-use Rattle.payload_store.specs.Promise.{Put}
 use Rattle.payload_store.proofs.Moves.{part-same}
 use Rattle.payload_store.proofs.Cases.{pick-else}
 
@@ -50,11 +48,6 @@ read-ok ws len i off n room e =
 pub read-held : (ws : List ℕ) (len i off n room code : ℕ) → code ≡ readCode ws len i off n room → code ≤ 0 → ReadOk ws len i off n room
 read-held ws len i off n room code ec h = read-ok ws len i off n room (omega arith)
 
-pub read-refused : (ws st dst : List ℕ) (i off n code : ℕ) → code ≡ readCode ws (length st) i off n (length dst) → 0 < code
-    → (code ≡ readCode ws (length st) i off n (length dst)) × (dst ≡ readPart ws st i off n dst)
-unfolding readPart
-read-refused ws st dst i off n code ec h = (ec, rw (ne-eqb (readCode ws (length st) i off n (length dst)) 0 (λ z. omega arith)))
-
 pub read-done : (ws st dst dst′ : List ℕ) (i off n code p : ℕ) → code ≡ readCode ws (length st) i off n (length dst) → code ≤ 0 → p ≡ placeOf ws i
     → dst′ ≡ take n (drop (p + off) st) ++ drop n dst → (0 ≡ readCode ws (length st) i off n (length dst)) × (dst′ ≡ readPart ws st i off n dst)
 unfolding readPart payloadOf
@@ -78,10 +71,3 @@ read-law ws st dst at i off n g h p f =
       le-ltb (length dst) n f,
     ) in
     (z, rw (eq-eqb (readCode ws (length st) i off n (length dst)) 0 z))
-
--- of a payload just put, the bytes are those that were put
-pub read-put : (ws st dst : List ℕ) (r : ℕ) (bs : List ℕ) (o : Outcome) (off n : ℕ) → Put ws st r bs o → r < 1024 → off + n ≤ length bs → n ≤ length dst
-    → readPart (o .words) (o .store) r off n dst ≡ take n (drop off bs) ++ drop n dst
-read-put ws st dst r bs o off n p h q f =
-    read-law (o .words) (o .store) dst (gapsOf (o .words)) r off n (p .good) h (omega (arith, p .new-size)) f .1
-    ∙ ap (λ (l : List ℕ). take n (drop off l) ++ drop n dst) (p .new)

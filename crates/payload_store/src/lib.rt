@@ -3,8 +3,8 @@
 // A message's row says where its payload lies and how long it is; 0 says that it has none. The totals say how many bytes are
 // used, and two gaps of the store (src/gaps). A new payload goes to one of them. Where neither has room and the free bytes
 // suffice, a gap is searched (src/searching), and where none that is found has room, the payloads are first moved together, in
-// the order of their places (src/nearest). Every public function is total: words that no queue has get the answer 16, and
-// nothing is changed. `put_own` and `read_own` are what follows the tests of `put_payload` and `read_payload`: their caller knows what the tests say.
+// the order of their places (src/nearest). The tests and `put_payload` are total: words that no queue has get the answer 16, and
+// nothing is changed. `put_own`, `read_own` and `drop_payload` are what follows the tests: their caller knows what these say.
 pub mod copying;
 mod gaps;
 mod nearest;
@@ -361,26 +361,6 @@ pub fn read_own(
     let place = load_place(queue, i);
     let at = place + off;
     read_part(dst, store, at as usize, n as usize);
-}
-
-// The fragment copier: n bytes from off on of row i's payload go to dst's start. 0: done. 16: the payload has no such part, or
-// dst no room for it, and nothing is changed.
-pub fn read_payload(
-    queue: &[u64; QUEUE_WORDS],
-    store: &[u8],
-    i: usize,
-    off: u64,
-    n: u64,
-    dst: &mut [u8],
-) -> u8
-    ensures { λ r. ⌜ (r ≡ readCode (now (queue .entry)) (length (now (store .entry))) i off n (length (now (dst .entry)))) × (now (dst .exit) ≡ readPart (now (queue .entry)) (now (store .entry)) i off n (now (dst .entry))) ⌝ }
-{
-    let code = read_code(queue, store.len() as u64, i, off, n, dst.len() as u64);
-    if code > 0 {
-        return code;
-    }
-    read_own(queue, store, i, off, n, dst);
-    0
 }
 
 // May row i's payload be dropped: 0, else 16. Reads only.

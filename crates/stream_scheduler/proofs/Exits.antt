@@ -24,7 +24,7 @@ use Rattle.queue_words.specs.declared.header.SchedulerState.{SchedulerState}
 use Rattle.active_table.specs.Groups.{leastKnown, refreshed}
 use Rattle.active_table.specs.Rows.{seek}
 use Rattle.active_table.specs.declared.Best.{Best}
-use Rattle.stream_scheduler.specs.Own.{HasRow, hasRow}
+use Rattle.stream_scheduler.specs.Own.{HasRow, canWait}
 use Rattle.stream_scheduler.specs.Rows.{advanced, scheduledRow}
 use Rattle.stream_scheduler.specs.Words.{Outcome, outcome, currentRow, peekAmong, peekWords, waitsIn, forgotten, rested, stateOf, droppedRow, takenOut, removeStream, setIn, setBytesRemaining, beginWaiting, rememberedBy, acceptRow, acceptAt}
 use Rattle.stream_scheduler.specs.declared.Peeked.the-variants.{At, Nothing, Broken}
@@ -158,7 +158,7 @@ module _ (ws : List ℕ) (id bytes : ℕ) (p : SchedulingParameters) (s : Schedu
 
 -- ---- whether a stream can be let wait, and what its being let wait says
 
--- The ways of `setBytesRemaining` by `hasRow`: three that are done, and one that is not.
+-- The ways of `setBytesRemaining` by `canWait`: three that are done, and one that is not.
 done-by : (a b c : Bool) (x y z o : Outcome) → x .done ≡ true → y .done ≡ true → z .done ≡ true → (if a then true else if b then true else c) ≡ true
     → (if a then x else if b then y else if c then z else o) .done ≡ true
 done-by true b c x y z o hx hy hz r = hx
@@ -182,12 +182,12 @@ last-passed true x o n h = refl
 last-passed false x o n h = absurd (holds false (sym n ∙ h))
 
 module _ (ws : List ℕ) (id bytes : ℕ) (p : SchedulingParameters) (s : SchedulerState) (es : s ≡ schedulerAt ws) (at : ℕ) (ea : at ≡ seek ws id (s .active)) (h : s .active ≤ 256) where
-  pub set-can : hasRow bytes at (s .active) ≡ true → setBytesRemaining ws id bytes p .done ≡ true
-  unfolding setBytesRemaining setIn hasRow
+  pub set-can : canWait bytes at (s .active) ≡ true → setBytesRemaining ws id bytes p .done ≡ true
+  unfolding setBytesRemaining setIn canWait
   set-can r = rw (← es, le-ltb _ _ h, ← ea) (done-by (eqb bytes 0) (ltb at (s .active)) (ltb (s .active) 256) _ _ _ _ refl refl refl r)
 
-  pub set-cannot : hasRow bytes at (s .active) ≡ false → outcome false ws ≡ setBytesRemaining ws id bytes p
-  unfolding setBytesRemaining setIn hasRow
+  pub set-cannot : canWait bytes at (s .active) ≡ false → outcome false ws ≡ setBytesRemaining ws id bytes p
+  unfolding setBytesRemaining setIn canWait
   set-cannot r = rw (← es, le-ltb _ _ h, ← ea) (refused-by (eqb bytes 0) (ltb at (s .active)) (ltb (s .active) 256) _ _ _ _ r)
 
 module _ (ws : List ℕ) (id bytes : ℕ) (p : SchedulingParameters) (d : setBytesRemaining ws id bytes p .done ≡ true) where

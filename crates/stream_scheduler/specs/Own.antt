@@ -19,6 +19,7 @@ peekedOf front.Nothing = peeked.Nothing
 abbrev pub HasRow : List ℕ → ℕ → Type 0
 HasRow ws at = (schedulerAt ws .active ≤ 256) × (at < schedulerAt ws .active)
 
--- Whether a stream whose row is `at`, or that has none where `at` is n, can wait with so many bytes: 16 where no "place kept in the state" is left for it.
-unfoldable pub hasRow : ℕ → ℕ → ℕ → Bool
-hasRow bytes at n = if eqb bytes 0 then true else if ltb at n then true else ltb n 256
+-- Whether a stream whose row is `at`, or that has none where `at` is n, can wait with so many bytes: 16 where "a place kept in the state lies outside its table", as a
+-- 257th row would.
+unfoldable pub canWait : ℕ → ℕ → ℕ → Bool
+canWait bytes at n = if eqb bytes 0 then true else if ltb at n then true else ltb n 256

@@ -15,7 +15,7 @@ ghost use Rattle.queue_model.specs.Types.{weighted};
 ghost use Rattle.stream_scheduler.specs.Rows.{advanced, scheduledRow};
 ghost use Rattle.stream_scheduler.specs.declared.Peeked.the-variants.{At};
 ghost use Rattle.stream_scheduler.specs.Words.{outcome, forgotten, rested, rememberedBy, keptUnless, currentRow, peekAmong, peekWords, waitsIn, droppedRow, takenOut, removeStream, setIn, setBytesRemaining};
-ghost use Rattle.stream_scheduler.specs.Own.{hasRow};
+ghost use Rattle.stream_scheduler.specs.Own.{canWait};
 use crate::own::remove_own;
 use crate::own::set_at;
 use active_table::groups::least_known;
@@ -302,8 +302,8 @@ fn set_new(queue: &mut [u64; QUEUE_WORDS], stream_id: u16, bytes: u64, parameter
 }
 
 // Whether there is a row of n for so many bytes: that at `at`, a free one, or none is needed.
-fn has_row(bytes: u64, at: usize, n: usize) -> bool
-    ensures { λ r. ⌜ r ≡ hasRow bytes at n ⌝ }
+fn can_wait(bytes: u64, at: usize, n: usize) -> bool
+    ensures { λ r. ⌜ r ≡ canWait bytes at n ⌝ }
 {
     if bytes == 0 {
         return true;
@@ -329,7 +329,7 @@ pub fn set_bytes_remaining(
     }
     let n = s.active as usize;
     let at = seek(&*queue, stream_id, n);
-    let there = has_row(bytes, at, n);
+    let there = can_wait(bytes, at, n);
     if there {
         set_at(queue, stream_id, bytes, priority, at, n);
         return true;
