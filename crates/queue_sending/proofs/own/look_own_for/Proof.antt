@@ -1,5 +1,4 @@
 -- `queue_sending::own::look_own_for` meets its contract: the stream is known, since the look is not broken (proofs/Ahead.antt). Assumes nothing.
-use borrow.Author.Needs.{needs}
 use Rattle.queue_sending.proofs.Ahead.{looked-known, row-fits, at-looked}
 use Rattle.queue_sending.proofs.own.look_own_for.Statement.{statement}
 use Rattle.queue_sending.proofs.own.look_own_for.Tie as tie
