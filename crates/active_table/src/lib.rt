@@ -3,6 +3,7 @@
 //
 // The queue holds the table in its words. Every row that a search looks at is lent, four at a time or one: so small a part
 // stays in registers once compiled, and nothing is copied then (docs/DECISIONS.md).
+#![tactic(auto)]
 pub mod groups;
 
 ghost use Rattle.std.specs.Prelude.{◌≡◌, ◌+◌, ◌-◌, ◌<◌, ◌≤◌, ◌^◌, length};
@@ -35,7 +36,7 @@ pub fn position(table: &[ActiveStreamInfo], stream_id: u16) -> usize
 }
 
 // A row in the search for the least: its place, finish time and stream.
-#[derive(Drop)]
+#[derive(Clone, Copy)]
 pub struct Best {
     pub id: u16,
     pub at: usize,

@@ -1,6 +1,7 @@
 // Tries the send queue on bad input, by a script from standard input: calls that document 01 says are refused, and calls on words
 // that no queue has. Each labelled line of the script writes one: what was tried, the answer's number, 0 for accepted, and for a
 // refusal whether all is unchanged. What breaks document 01 begins with BROKEN.
+#![tactic(auto)]
 mod calls;
 
 use calls::{answer_of, call};

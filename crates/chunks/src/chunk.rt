@@ -23,14 +23,14 @@ pub const DATA_HEADER: usize = 16;
 
 pub const I_DATA_HEADER: usize = 20;
 
-#[derive(Drop)]
+#[derive(Clone, Copy)]
 pub enum ChunkKind {
     Data,
     IData,
 }
 
 // A chunk read: the payload is the fragment.data.length bytes from payload_at on.
-#[derive(Drop)]
+#[derive(Clone, Copy)]
 pub struct Chunk {
     pub kind: ChunkKind,
     pub tsn: u32,
@@ -38,14 +38,14 @@ pub struct Chunk {
     pub payload_at: usize,
 }
 
-#[derive(Drop)]
+#[derive(Clone, Copy)]
 pub enum ChunkRead {
     Read(Chunk),
     Refused(u8),
 }
 
 // The bytes written, padding included; or refused.
-#[derive(Drop)]
+#[derive(Clone, Copy)]
 pub enum ChunkWritten {
     Bytes(usize),
     Refused(u8),

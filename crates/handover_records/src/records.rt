@@ -8,7 +8,7 @@ ghost use Rattle.handover_records.specs.Records.{stream_at_words, message_at, tr
 use big_endian::{put_u8, put_u16, put_u32, put_u64, read_u8, read_u16, read_u32, read_u64};
 
 // 14 bytes.
-#[derive(Drop)]
+#[derive(Clone, Copy)]
 pub struct HandoverOutgoingStream {
     pub id: u16,
     pub next_ssn: u16,
@@ -18,7 +18,7 @@ pub struct HandoverOutgoingStream {
 }
 
 // 44 bytes; the payload follows them.
-#[derive(Drop)]
+#[derive(Clone, Copy)]
 pub struct HandoverStreamMessage {
     pub id: u16,
     // A sum of 1 unordered, 2 MID given, 4 lifetime.
@@ -37,7 +37,7 @@ pub struct HandoverStreamMessage {
 }
 
 // The image's last 20 bytes.
-#[derive(Drop)]
+#[derive(Clone, Copy)]
 pub struct Trailer {
     pub next_message_id: u32,
     pub default_priority: u16,

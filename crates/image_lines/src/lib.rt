@@ -1,4 +1,5 @@
 // A part of the program `replay`: the lines of the changeover, saving, restoring, and those of the current image.
+#![tactic(auto)]
 mod current;
 
 pub use current::{answer_change, answer_length, answer_show};

@@ -33,7 +33,7 @@ fn payload_bytes(image: &[u8], start: usize, size: usize, n: usize) -> u64
 }
 
 // A place among the stream records, and how many new streams a message makes.
-#[derive(Drop)]
+#[derive(Clone, Copy)]
 struct Counted {
     place: usize,
     more: u64,

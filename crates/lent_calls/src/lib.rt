@@ -1,5 +1,6 @@
 // A part of the programs `replay` and `bad_input`: the queue's calls, each with the lengths that the caller says. A part of an array
 // is lent, in a function of its own for each array.
+#![tactic(auto)]
 use send_queue::{
     Call, Lifetime, MaxRetransmissions, Message, Produced, QUEUE_WORDS, RestartRule, Saved, add,
     commit_reset_streams, create, discard, enable_message_interleaving, prepare_reset_stream,
@@ -11,7 +12,7 @@ use send_queue::{
 pub const TOO_SHORT: u8 = 99;
 
 // The arguments of creation but for the store.
-#[derive(Drop)]
+#[derive(Clone, Copy)]
 pub struct Creation {
     pub limit: u64,
     pub priority: u16,

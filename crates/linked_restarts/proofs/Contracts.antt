@@ -21,7 +21,7 @@ use Rattle.queue_state.specs.Good.{Good}
 use Rattle.queue_state.specs.Promise.{shown, Does}
 use Rattle.queue_state.proofs.Numbers.{tells, number_number_lem, number_value_lem}
 use Rattle.linked_restarts.specs.Ids.{ready_of, Readies}
-use Rattle.linked_restarts.specs.Contracts.{Meets, CommitMeets, RollbackMeets, SwitchMeets, ResetMeets, ReadyMeets, CountMeets}
+use Rattle.linked_restarts.specs.Promises.{Meets, CommitMeets, RollbackMeets, SwitchMeets, ResetMeets, ReadyMeets, CountMeets}
 use Rattle.linked_restarts.proofs.Reopens.{commit_link, rollback_link}
 use Rattle.linked_restarts.proofs.Switches.{switch_link}
 use Rattle.linked_restarts.proofs.Marks.{ready_link, count_link}

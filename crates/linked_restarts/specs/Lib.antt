@@ -1,3 +1,3 @@
 -- What the calls that restart streams promise. Assumes nothing.
 pub mod Ids
-pub mod Contracts
+pub mod Promises

@@ -1,5 +1,6 @@
 // Adding a message to a queue that its own calls alone have changed. What is left and answered is what the checked call leaves and answers.
 // There is no test for 16, and none of the store's length.
+#![tactic(auto)]
 ghost use Rattle.std.specs.Prelude.{◌≡◌};
 ghost use Rattle.queue_messages.specs.Add.{added, add_to};
 ghost use Rattle.queue_state.specs.Good.{Good};
@@ -12,7 +13,7 @@ use queue_streams::owned::{OwnPlace, look_up_own};
 use queue_words::{QUEUE_WORDS, whole};
 
 // What is refused: a time or lifetime, the payload's length, a 257th stream, a 1,025th message, a payload longer than the free bytes.
-#[derive(Drop)]
+#[derive(Clone, Copy)]
 pub enum Refusal {
     Time,
     Payload,
@@ -21,7 +22,7 @@ pub enum Refusal {
     Store,
 }
 
-#[derive(Drop)]
+#[derive(Clone, Copy)]
 pub enum Added {
     Accepted,
     Refused(Refusal),

@@ -19,7 +19,7 @@ use queue_words::streams::{OutgoingStream, PauseState, load_stream, store_stream
 use stream_scheduler::own::remove_own;
 
 // Done, with so many events written; 3 and 6 are the refusals.
-#[derive(Drop)]
+#[derive(Clone, Copy)]
 pub enum Closed {
     Done(usize),
     EventsShort,

@@ -17,7 +17,7 @@ use queue_words::limits::NO_MESSAGE;
 use queue_words::streams::load_stream;
 
 // Done, with so many events written; 3 is the one refusal.
-#[derive(Drop)]
+#[derive(Clone, Copy)]
 pub enum Discarded {
     Done(usize),
     EventsShort,

@@ -21,7 +21,7 @@ use queue_words::QUEUE_WORDS;
 use queue_words::header::{load_options, load_totals};
 
 // What is refused: the packet limit, the packet buffer, the event list, the time.
-#[derive(Drop)]
+#[derive(Clone, Copy)]
 pub enum Refusal {
     Limit,
     Buffer,
@@ -30,14 +30,14 @@ pub enum Refusal {
 }
 
 // How many events are written, "the bytes and chunks written"; or refused.
-#[derive(Drop)]
+#[derive(Clone, Copy)]
 pub enum Filled {
     Filled(usize, usize, usize),
     Refused(Refusal),
 }
 
 // How far a filling has come: the bytes used, how many events and chunks are written.
-#[derive(Drop)]
+#[derive(Clone, Copy)]
 pub struct Progress {
     pub used: usize,
     pub events: usize,

@@ -12,7 +12,7 @@ use reset_wire::request_size;
 use stream_reset_handler::{StreamResetHandler, Underway, write_next};
 
 // A message of so many bytes, or no stream ready; 25 and 26 are the refusals.
-#[derive(Drop)]
+#[derive(Clone, Copy)]
 pub enum RequestAnswer {
     Written(usize),
     NoneReady,
@@ -20,7 +20,7 @@ pub enum RequestAnswer {
     OutputShort,
 }
 
-#[derive(Drop)]
+#[derive(Clone, Copy)]
 pub struct MadeRequest {
     pub answer: RequestAnswer,
     pub handler: StreamResetHandler,

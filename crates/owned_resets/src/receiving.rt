@@ -9,7 +9,7 @@ use queue_words::QUEUE_WORDS;
 use stream_reset_handler::{ResponseStep, StreamResetHandler, ended, step_for};
 
 // 27 is the one refusal.
-#[derive(Drop)]
+#[derive(Clone, Copy)]
 pub enum ResponseAnswer {
     Ignored,
     Committed,
@@ -18,7 +18,7 @@ pub enum ResponseAnswer {
     ResponseWrong,
 }
 
-#[derive(Drop)]
+#[derive(Clone, Copy)]
 pub struct HandledResponse {
     pub answer: ResponseAnswer,
     pub handler: StreamResetHandler,

@@ -1,8 +1,9 @@
 // Commit, rollback, the interleaving switch, the whole-queue reset and the ready ids of a queue that its own calls alone have changed: no walk before the first write settles that 16 does not come, and there is no refusal.
+#![tactic(auto)]
 ghost use Rattle.std.specs.Prelude.{◌≡◌};
 ghost use Rattle.queue_streams.specs.declared.answers.Call.TheVariants.{Accepted};
 ghost use Rattle.queue_restarts.specs.Ready.{collected, marked_all, readied};
-ghost use Rattle.linked_restarts.specs.Contracts.{CommitMeets, RollbackMeets, SwitchMeets, ResetMeets, ReadyMeets};
+ghost use Rattle.linked_restarts.specs.Promises.{CommitMeets, RollbackMeets, SwitchMeets, ResetMeets, ReadyMeets};
 ghost use Rattle.owned_streams.specs.Own.{OwnWords};
 ghost use Rattle.owned_restarts.specs.Ready.{ready_as, OwnRows};
 
@@ -48,7 +49,7 @@ pub fn reset(queue: &mut [u64; QUEUE_WORDS])
 }
 
 // "Ready ids, at most 256, come by value with their count in ascending order". The ids are the first `count`; the others are 0.
-#[derive(Drop)]
+#[derive(Clone, Copy)]
 pub struct ReadyIds {
     pub count: usize,
     pub ids: [u16; STREAM_ROWS],

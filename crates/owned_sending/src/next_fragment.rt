@@ -13,14 +13,14 @@ use queue_sending::next_fragment::lent_code;
 use queue_words::QUEUE_WORDS;
 
 // What a call makes that is not refused: nothing waits, or a fragment, each with so many events written.
-#[derive(Drop)]
+#[derive(Clone, Copy)]
 pub enum Made {
     Nothing(usize),
     Fragment(usize, DataToSend),
 }
 
 // What is refused: the event list, the time, the size asked for, the fragment buffer.
-#[derive(Drop)]
+#[derive(Clone, Copy)]
 pub enum Refusal {
     Events,
     Time,
@@ -28,7 +28,7 @@ pub enum Refusal {
     Buffer,
 }
 
-#[derive(Drop)]
+#[derive(Clone, Copy)]
 pub enum Produced {
     Nothing(usize),
     Fragment(usize, DataToSend),

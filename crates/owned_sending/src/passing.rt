@@ -6,7 +6,7 @@ use queue_sending::own::{Ahead, look_own};
 use queue_words::QUEUE_WORDS;
 
 // Where passing over ends, after so many events: nothing waits, or a head to send, by the scheduler's row, its stream's id and row.
-#[derive(Drop)]
+#[derive(Clone, Copy)]
 pub enum Turn {
     Nothing(usize),
     Head(usize, usize, u16, usize),

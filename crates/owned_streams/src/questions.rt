@@ -7,7 +7,7 @@ ghost use Rattle.queue_questions.specs.Questions.{stream_or_new, ready_among};
 ghost use Rattle.queue_questions.specs.declared.questions.Looked.TheVariants.{Stream};
 ghost use Rattle.queue_restarts.specs.Ready.{collected};
 ghost use Rattle.linked_streams.specs.Questions.{PriorityMeets, AmountMeets, ThresholdMeets, DataMeets, ReadyMeets};
-ghost use Rattle.linked_restarts.specs.Contracts.{CountMeets};
+ghost use Rattle.linked_restarts.specs.Promises.{CountMeets};
 ghost use Rattle.owned_streams.specs.Own.{OwnWords, RowsFit};
 
 use queue_streams::known::new_stream;

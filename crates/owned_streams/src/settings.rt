@@ -12,7 +12,7 @@ use queue_streams::settings::{
 use queue_words::QUEUE_WORDS;
 
 // 6 is the one refusal.
-#[derive(Drop)]
+#[derive(Clone, Copy)]
 pub enum PrioritySet {
     Done,
     TooManyStreams,
@@ -37,7 +37,7 @@ pub fn set_priority(queue: &mut [u64; QUEUE_WORDS], id: u16, priority: u16) -> P
 }
 
 // Done, with so many events written; 3 and 6 are the refusals.
-#[derive(Drop)]
+#[derive(Clone, Copy)]
 pub enum ThresholdSet {
     Done(usize),
     EventsShort,

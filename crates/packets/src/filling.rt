@@ -75,7 +75,7 @@ fn fill_one(
 }
 
 // How far a filling has come: the bytes used, how many events and chunks are written, and the refusal that ended it, 0 for none.
-#[derive(Drop)]
+#[derive(Clone, Copy)]
 pub struct Filling {
     pub used: usize,
     pub events: usize,

@@ -15,7 +15,7 @@ pub const LEAST_LIMIT: usize = 36;
 pub const MOST_LIMIT: usize = 65535;
 
 // A packet as it is asked for: its limit in bytes, "two ports, verification tag", and the TSN of its first chunk.
-#[derive(Drop)]
+#[derive(Clone, Copy)]
 pub struct Packet {
     pub limit: usize,
     pub source_port: u16,
@@ -25,7 +25,7 @@ pub struct Packet {
 }
 
 // How many events are written, "the bytes and chunks written"; or refused.
-#[derive(Drop)]
+#[derive(Clone, Copy)]
 pub enum PacketFilled {
     Filled(usize, usize, usize),
     Refused(u8),

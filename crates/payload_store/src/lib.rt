@@ -5,6 +5,7 @@
 // suffice, a gap is searched (src/searching), and where none that is found has room, the payloads are first moved together, in
 // the order of their places (src/nearest). The tests and `put_payload` are total: words that no queue has get the answer 16, and
 // nothing is changed. `put_own`, `read_own` and `drop_payload` are what follows the tests: their caller knows what these say.
+#![tactic(auto)]
 pub mod copying;
 mod gaps;
 mod nearest;
@@ -109,7 +110,7 @@ fn move_together(queue: &mut [u64; QUEUE_WORDS], store: &mut [u8]) -> u64
 }
 
 // A test of all rows half done: whether the rows so far fit, and how many of the used bytes are left for the others.
-#[derive(Drop)]
+#[derive(Clone, Copy)]
 struct Tally {
     ok: bool,
     left: u64,

@@ -19,7 +19,7 @@ const SEARCHED: u64 = 2097152;
 
 // The longest run of free pieces so far, the longest one beside it, and the piece up to which payloads reach, or where the run that
 // goes on began.
-#[derive(Drop)]
+#[derive(Clone, Copy)]
 pub struct Run {
     pub from: usize,
     pub upto: usize,

@@ -16,7 +16,7 @@ const MAX_PRIORITY: u64 = 65535;
 const NO_BOUND: u64 = 65535000001;
 
 // The priorities, in the list's order, come by value with their count. They are the first `count`; the others are 0.
-#[derive(Drop)]
+#[derive(Clone, Copy)]
 pub struct PlannedPriorities {
     pub answer: Call,
     pub count: usize,

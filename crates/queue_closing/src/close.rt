@@ -25,7 +25,7 @@ use queue_words::streams::{OutgoingStream, PauseState, load_stream, store_stream
 use stream_scheduler::remove_stream;
 
 // A test of a chain half done: whether the messages so far may go, the place of the next one, and what would be left.
-#[derive(Drop)]
+#[derive(Clone, Copy)]
 pub struct Walk {
     pub fits: bool,
     pub place: u64,
@@ -123,7 +123,7 @@ fn may_sweep(queue: &[u64; QUEUE_WORDS], place: u64, amount: u64) -> bool
 }
 
 // A chain half dropped: the place of the next message, the events so far, the stream's amount.
-#[derive(Drop)]
+#[derive(Clone, Copy)]
 pub struct Sweep {
     pub place: u64,
     pub count: usize,

@@ -1,2 +1,3 @@
 // Saved images on the words of queues: a definition in specs/, the theorem in proofs/.
+#![tactic(auto)]
 fn unit() {}

@@ -1,5 +1,6 @@
 // A part of the program `replay`: the lines of the queue's calls but for those of the changeover. Each has the call, its answer line, and
 // what is settled after it.
+#![tactic(auto)]
 use lent_calls::{
     Creation, lent_add, lent_create, lent_event_call, lent_produce, lifetime_of, plain_call,
     retransmissions_of,
@@ -188,7 +189,7 @@ pub fn answer_add(
 }
 
 // What `produce` answered, for the settling.
-#[derive(Drop)]
+#[derive(Clone, Copy)]
 struct Wrote {
     refusal: u64,
     events: usize,

@@ -7,19 +7,19 @@ use queue_words::limits::NO_MESSAGE;
 use types::{Fsn, OutgoingMessageId, StreamId};
 
 // "Option becomes an enum".
-#[derive(Drop)]
+#[derive(Clone, Copy)]
 pub enum Lifetime {
     Unlimited,
     Limited(u64),
 }
 
-#[derive(Drop)]
+#[derive(Clone, Copy)]
 pub enum MaxRetransmissions {
     Unlimited,
     Limited(u16),
 }
 
-#[derive(Drop)]
+#[derive(Clone, Copy)]
 pub struct Message {
     pub stream_id: StreamId,
     pub ppid: u32,

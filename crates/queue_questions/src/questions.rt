@@ -12,7 +12,7 @@ use queue_words::streams::{OutgoingStream, load_stream};
 use stream_scheduler::{Peeked, peek};
 
 // A stream as it is, or as it would begin.
-#[derive(Drop)]
+#[derive(Clone, Copy)]
 pub enum Looked {
     Stream(OutgoingStream),
     Broken,

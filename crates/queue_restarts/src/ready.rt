@@ -11,7 +11,7 @@ use queue_words::limits::{LAST_STREAM, STREAM_ROWS, STREAMS};
 use queue_words::streams::load_stream;
 
 // "Ready ids, at most 256, come by value with their count in ascending order". The ids are the first `count`; the others are 0.
-#[derive(Drop)]
+#[derive(Clone, Copy)]
 pub struct ReadyStreams {
     pub answer: Call,
     pub count: usize,

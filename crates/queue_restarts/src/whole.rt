@@ -32,7 +32,7 @@ fn put_back(queue: &[u64; QUEUE_WORDS], first: u64) -> u64
 }
 
 // A test of all known streams half done: whether no amount so far would pass 2^64 - 1, and the total so far.
-#[derive(Drop)]
+#[derive(Clone, Copy)]
 pub struct Sum {
     pub fits: bool,
     pub total: u64,

@@ -16,7 +16,7 @@ use Rattle.queue_sending.specs.Data.{ProducedWith}
 use Rattle.queue_sending.specs.declared.data.Produced.{Produced}
 use Rattle.linked_adding.specs.Add.{AddMeets}
 use Rattle.linked_dropping.specs.Meets.{DiscardMeets, CloseMeets}
-use Rattle.linked_restarts.specs.Contracts.{CommitMeets, RollbackMeets, SwitchMeets, ResetMeets, ReadyMeets, CountMeets}
+use Rattle.linked_restarts.specs.Promises.{CommitMeets, RollbackMeets, SwitchMeets, ResetMeets, ReadyMeets, CountMeets}
 use Rattle.linked_restoring.specs.Restore.{RestoreMeets}
 use Rattle.linked_sending.specs.Meaning.{ProduceMeets}
 use Rattle.packets.specs.Filling.{FilledWith}

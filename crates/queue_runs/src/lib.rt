@@ -1,2 +1,3 @@
 // Lists of calls on a queue: definitions in specs/, theorems in proofs/.
+#![tactic(auto)]
 fn unit() {}

@@ -12,7 +12,7 @@ use stream_scheduler::{Peeked, peek};
 
 // What a look at the scheduler's choice finds: nothing waits; the state is broken; an expired head, by its stream's id and row; a
 // head to send, by the scheduler's row, its stream's id and row.
-#[derive(Drop)]
+#[derive(Clone, Copy)]
 pub enum Look {
     Nothing,
     Broken,

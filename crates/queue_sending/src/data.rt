@@ -6,7 +6,7 @@ use message_chains::amounts::remaining;
 use queue_words::items::{Expiry, Item};
 use types::{Fsn, Mid, OutgoingMessageId, Ssn, StreamId, StreamKey};
 
-#[derive(Drop)]
+#[derive(Clone, Copy)]
 pub struct Data {
     pub stream_key: StreamKey,
     pub ssn: Ssn,
@@ -19,7 +19,7 @@ pub struct Data {
     pub length: u64,
 }
 
-#[derive(Drop)]
+#[derive(Clone, Copy)]
 pub struct DataToSend {
     pub message_id: OutgoingMessageId,
     pub data: Data,
@@ -29,7 +29,7 @@ pub struct DataToSend {
 }
 
 // The answer of the next fragment: nothing waits, or a fragment, each with so many events written; or refused.
-#[derive(Drop)]
+#[derive(Clone, Copy)]
 pub enum Produced {
     Nothing(usize),
     Fragment(usize, DataToSend),

@@ -161,7 +161,7 @@ fn write_sent(
 }
 
 // A fragment handed out: how many events are written then, and what goes with it.
-#[derive(Drop)]
+#[derive(Clone, Copy)]
 pub struct Handed {
     pub count: usize,
     pub fragment: DataToSend,

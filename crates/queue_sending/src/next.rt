@@ -10,7 +10,7 @@ use queue_words::QUEUE_WORDS;
 
 // It is refused; it says that nothing waits; or it hands out from a head, by the scheduler's row, its stream's id and row. The last two
 // after so many events.
-#[derive(Drop)]
+#[derive(Clone, Copy)]
 pub enum Next {
     Refused(u8),
     Nothing(usize),

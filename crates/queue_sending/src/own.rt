@@ -14,7 +14,7 @@ use stream_scheduler::own::{Front, peek_own};
 
 // What a look finds: nothing waits; an expired head, by its stream's id and row; a head to send, by the scheduler's row, its stream's id
 // and row.
-#[derive(Drop)]
+#[derive(Clone, Copy)]
 pub enum Ahead {
     Nothing,
     Expired(u16, usize),

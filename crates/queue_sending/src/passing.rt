@@ -81,7 +81,7 @@ pub fn pass_over(
 
 // How far passing over has come: what is found then, how many messages may still be dropped, how many events are written and how many
 // drops are in the log.
-#[derive(Drop)]
+#[derive(Clone, Copy)]
 pub struct Passing {
     pub found: Look,
     pub left: usize,

@@ -1,2 +1,3 @@
 // What the words of a queue stand for: definitions in specs/, theorems in proofs/.
+#![tactic(auto)]
 fn unit() {}

@@ -3,7 +3,7 @@ ghost use Rattle.std.specs.Prelude.{◌≡◌};
 ghost use Rattle.queue_streams.specs.Answers.{is_accepted};
 
 // A call that changes the queue: accepted, with so many events written, or refused.
-#[derive(Drop)]
+#[derive(Clone, Copy)]
 pub enum Call {
     Accepted(usize),
     Refused(u8),
@@ -20,14 +20,14 @@ pub fn is_accepted(c: Call) -> bool
 }
 
 // A question for a number.
-#[derive(Drop)]
+#[derive(Clone, Copy)]
 pub enum Number {
     Value(u64),
     Refused(u8),
 }
 
 // A question for yes or no.
-#[derive(Drop)]
+#[derive(Clone, Copy)]
 pub enum Flag {
     Value(bool),
     Refused(u8),

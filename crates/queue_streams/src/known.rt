@@ -29,7 +29,7 @@ pub fn new_stream(o: Options) -> OutgoingStream
 
 // Where the stream of an id is: in a row, or not known and then the position in the order of ids at which it would be; refused
 // where it would be the 257th, or a place is outside its table.
-#[derive(Drop)]
+#[derive(Clone, Copy)]
 pub enum Place {
     Row(usize),
     New(usize),

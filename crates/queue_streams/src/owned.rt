@@ -9,7 +9,7 @@ use queue_words::header::load_totals;
 use queue_words::known::{Spot, find_own};
 use queue_words::limits::LAST_STREAM;
 
-#[derive(Drop)]
+#[derive(Clone, Copy)]
 pub enum OwnPlace {
     Row(usize),
     New(usize),

@@ -64,7 +64,7 @@ pub fn reschedule(
 
 // A test of all known streams half done: whether their places are in their tables, and how many rows would be needed. It is handed
 // on field by field: copied whole, the bytes between its fields would be carried through memory at every stream.
-#[derive(Drop)]
+#[derive(Clone, Copy)]
 pub struct Tally {
     pub fits: bool,
     pub rows: u64,

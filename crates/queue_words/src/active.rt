@@ -9,7 +9,7 @@ use types::StreamId;
 
 const BASE: usize = 19488;
 
-#[derive(Drop)]
+#[derive(Clone, Copy)]
 pub struct ActiveStreamInfo {
     pub stream_id: StreamId,
     // A word of SchedulingParameters.
@@ -62,7 +62,7 @@ pub fn store_active(queue: &mut [u64; QUEUE_WORDS], i: usize, a: ActiveStreamInf
 }
 
 // How a stream's cost is counted: without interleaving each fragment costs 1, with it bytes by the stream's weight.
-#[derive(Drop)]
+#[derive(Clone, Copy)]
 pub enum SchedulingParameters {
     RoundRobin,
     WeightedFairQueuing(u16),

@@ -16,7 +16,7 @@ const SCHEDULER: usize = 18;
 // Document 02, 6/13: "Creation chooses the rule, as in the Rust or strict." How a whole-queue reset puts a half-sent message back: with its numbers, as
 // dcSCTP does, or as one
 // that was never begun, as RFC 8260 has it.
-#[derive(Drop)]
+#[derive(Clone, Copy)]
 pub enum RestartRule {
     Dcsctp,
     Strict,
@@ -34,7 +34,7 @@ impl RestartRule {
 }
 
 // What a queue was created with.
-#[derive(Drop)]
+#[derive(Clone, Copy)]
 pub struct Options {
     pub payload_limit: u16,
     pub default_priority: u16,
@@ -47,7 +47,7 @@ pub struct Options {
 }
 
 // Free bytes of the store that are known: those from `end` up to `limit`, where the next payload goes, and those from `from` up to `upto`.
-#[derive(Drop)]
+#[derive(Clone, Copy)]
 pub struct Gaps {
     pub end: u64,
     pub limit: u64,
@@ -55,7 +55,7 @@ pub struct Gaps {
     pub upto: u64,
 }
 
-#[derive(Drop)]
+#[derive(Clone, Copy)]
 pub struct Totals {
     pub interleaving: bool,
     pub next_message_id: OutgoingMessageId,
@@ -73,7 +73,7 @@ pub struct Totals {
 }
 
 // "the stream in mid-message if one is remembered".
-#[derive(Drop)]
+#[derive(Clone, Copy)]
 pub enum Remembered {
     NoStream,
     Stream(StreamId),
@@ -101,7 +101,7 @@ fn remembered_word(r: Remembered) -> u64
     }
 }
 
-#[derive(Drop)]
+#[derive(Clone, Copy)]
 pub struct SchedulerState {
     pub current: Remembered,
     pub system_virtual_time: u64,

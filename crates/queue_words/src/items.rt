@@ -10,7 +10,7 @@ use types::{Fsn, Mid, OutgoingMessageId, Ssn};
 const BASE: usize = 3104;
 
 // When a message expires.
-#[derive(Drop)]
+#[derive(Clone, Copy)]
 pub enum Expiry {
     Never,
     At(u64),
@@ -47,7 +47,7 @@ fn expiry_of(flag: u64, at: u64) -> Expiry
 }
 
 // A message's MID and SSN, which it gets together.
-#[derive(Drop)]
+#[derive(Clone, Copy)]
 pub enum Numbers {
     Missing,
     Given(Mid, Ssn),
@@ -92,7 +92,7 @@ fn numbers_of(flag: u64, mid: u64, ssn: u64) -> Numbers
     Numbers::Missing
 }
 
-#[derive(Drop)]
+#[derive(Clone, Copy)]
 pub struct Item {
     pub max_retransmissions: u16,
     pub unordered: bool,

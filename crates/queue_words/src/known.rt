@@ -12,7 +12,7 @@ use types::StreamId;
 const BASE: usize = 32;
 
 // A known stream's id, and the place of its row in the table of streams.
-#[derive(Drop)]
+#[derive(Clone, Copy)]
 pub struct Known {
     pub id: StreamId,
     pub place: u64,
@@ -58,7 +58,7 @@ pub fn known_fits(k: Known)
 
 // Where a stream is: its position among the known and the place of its row, or the position at which it would be put in.
 // Broken: more than 256 streams are said to be known, or the place found is no row.
-#[derive(Drop)]
+#[derive(Clone, Copy)]
 pub enum Found {
     At(usize, usize),
     Gap(usize),
@@ -66,7 +66,7 @@ pub enum Found {
 }
 
 // A search half done: the ids before low are below the one sought, those behind the size positions from low on are not.
-#[derive(Drop)]
+#[derive(Clone, Copy)]
 pub struct Probe {
     pub low: usize,
     pub size: usize,
@@ -108,7 +108,7 @@ fn probe_all(queue: &[u64; QUEUE_WORDS], id: u16, known: usize) -> Probe
 }
 
 // Where a stream of a queue is. The place is the one told, a row or not.
-#[derive(Drop)]
+#[derive(Clone, Copy)]
 pub enum Spot {
     At(usize, usize),
     Gap(usize),

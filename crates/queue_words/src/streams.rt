@@ -9,7 +9,7 @@ use types::{Mid, Ssn};
 const BASE: usize = 544;
 
 // "States: open, pending, paused, resetting." Open is the Rust's NotPaused.
-#[derive(Drop)]
+#[derive(Clone, Copy)]
 pub enum PauseState {
     NotPaused,
     Pending,
@@ -86,7 +86,7 @@ fn pause_state_word(p: PauseState) -> u64
     }
 }
 
-#[derive(Drop)]
+#[derive(Clone, Copy)]
 pub struct OutgoingStream {
     pub priority: u16,
     pub pause_state: PauseState,

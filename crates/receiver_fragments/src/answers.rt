@@ -2,7 +2,7 @@
 use types::StreamId;
 
 // Receiving a chunk: refused with a number of document 02, a repeat, or accepted.
-#[derive(Drop)]
+#[derive(Clone, Copy)]
 pub enum Received {
     Refused(u8),
     Repeated,
@@ -10,7 +10,7 @@ pub enum Received {
 }
 
 // A message fetched: "stream, order mark, first fragment's protocol id, payload"; the payload's length bytes are at the buffer's start.
-#[derive(Drop)]
+#[derive(Clone, Copy)]
 pub struct Delivery {
     pub stream: StreamId,
     pub unordered: bool,
@@ -18,7 +18,7 @@ pub struct Delivery {
     pub length: u64,
 }
 
-#[derive(Drop)]
+#[derive(Clone, Copy)]
 pub enum Fetched {
     Refused(u8),
     NoneReady,

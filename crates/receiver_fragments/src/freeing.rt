@@ -12,7 +12,7 @@ use receiver_words::fragments::{Fragment, load_fragment};
 use receiver_words::index::{bucket_of, unindex_row};
 
 // Whether a message's rows are all there, each with its payload in the store, and how many of the used bytes are left without them.
-#[derive(Drop)]
+#[derive(Clone, Copy)]
 pub struct Measure {
     pub ok: bool,
     pub left: u64,

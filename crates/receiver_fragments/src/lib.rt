@@ -2,6 +2,7 @@
 // (crate receiver_words), the payloads lie in the lent store (crate receiver_store).
 //
 // Every call takes any words, any store and any fragment; refused, it changes nothing. Words that no receiver has get 16, before the first store.
+#![tactic(auto)]
 pub mod answers;
 mod checks;
 pub mod creating;

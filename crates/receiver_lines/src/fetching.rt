@@ -32,7 +32,7 @@ fn put_message(buffer: &[u8], d: Delivery, output: &mut [u64; ANSWERS]) {
 }
 
 // What a fetch wrote, and 0 where it may change something.
-#[derive(Drop)]
+#[derive(Clone, Copy)]
 struct Wrote {
     bytes: u64,
     quiet: u64,

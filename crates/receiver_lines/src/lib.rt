@@ -1,5 +1,6 @@
 // A part of the program `replay`: the lines `H kind tsn store`, `V store`, `D bytes` and `G buffer` of the receiving head (document 02,
 // 7/13). "Repeats change nothing", nor does a fetch that finds none: both are settled as a refusal is.
+#![tactic(auto)]
 mod creating;
 mod fetching;
 mod lent;

@@ -2,6 +2,7 @@
 // messages that become ready in turn.
 //
 // Every function is total: on words that no receiver has each loop ends after as many turns as the table has rows.
+#![tactic(auto)]
 pub mod keys;
 pub mod readiness;
 pub mod walks;

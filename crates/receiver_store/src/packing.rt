@@ -17,7 +17,7 @@ use receiver_words::cells::{
 const TURNS: usize = 4097;
 
 // Where moving together begins: whether it can, the first row that moves (4096: none), the byte that it goes to, and where the used part ends then.
-#[derive(Drop)]
+#[derive(Clone, Copy)]
 pub struct Start {
     pub found: bool,
     pub row: u64,

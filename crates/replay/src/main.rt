@@ -1,5 +1,6 @@
 // Runs a trace of calls, read from standard input, on the send queue and the receiving head, and writes the answers. Where one breaks
 // what a trace cannot show, or a line is malformed, a line of the answers begins with BROKEN.
+#![tactic(auto)]
 mod lines;
 mod ranges;
 

@@ -83,7 +83,7 @@ fn put_packet(
 }
 
 // What a filling wrote.
-#[derive(Drop)]
+#[derive(Clone, Copy)]
 struct Wrote {
     refusal: u64,
     events: usize,

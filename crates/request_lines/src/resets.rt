@@ -15,7 +15,7 @@ use trace_text::state::{
 };
 
 // What a call answers: a refusal's number, or 0 and a number.
-#[derive(Drop)]
+#[derive(Clone, Copy)]
 pub struct Told {
     pub refusal: u64,
     pub number: u64,

@@ -7,7 +7,7 @@ use crate::{RE_CONFIG, RESPONSE, RESPONSE_CHUNK, RESPONSE_LENGTH};
 use big_endian::{read_u8, read_u16, read_u32};
 
 // A response with its request number, or bytes that break the layout.
-#[derive(Drop)]
+#[derive(Clone, Copy)]
 pub enum Response {
     Commits(u32),
     RollsBack(u32),

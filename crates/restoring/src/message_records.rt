@@ -155,7 +155,7 @@ fn hang(
 }
 
 // The row of a message's stream, and the stream before the message.
-#[derive(Drop)]
+#[derive(Clone, Copy)]
 pub struct Home {
     pub row: usize,
     pub stream: OutgoingStream,

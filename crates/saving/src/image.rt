@@ -14,7 +14,7 @@ use queue_words::header::{load_options, load_totals};
 use queue_words::limits::MAX_TIME;
 
 // The image's length, which stands at the start of the lent buffer, or the refusal's number.
-#[derive(Drop)]
+#[derive(Clone, Copy)]
 pub enum Saved {
     Image(usize),
     Refused(u8),

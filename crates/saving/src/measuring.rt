@@ -13,7 +13,7 @@ use queue_words::streams::{OutgoingStream, load_stream};
 
 // The pass half done: whether the words are sound so far, the place of the next message of the chain, and how many stream
 // records, message records and bytes of message records there are.
-#[derive(Drop)]
+#[derive(Clone, Copy)]
 pub struct Tally {
     pub ok: bool,
     pub place: u64,
@@ -23,7 +23,7 @@ pub struct Tally {
 }
 
 // What the image's size and its trailer tell of: the stream records, the message records, and the bytes of the message records.
-#[derive(Drop)]
+#[derive(Clone, Copy)]
 pub struct Counts {
     pub streams: u64,
     pub messages: u64,

@@ -5,13 +5,13 @@ ghost use Rattle.reset_model.specs.Handler as model;
 ghost use Rattle.stream_reset_handler.specs.Handler.{handler_of, is_underway, ended_as};
 
 // The number of the request underway, or none.
-#[derive(Drop)]
+#[derive(Clone, Copy)]
 pub enum Underway {
     Nothing,
     Number(u32),
 }
 
-#[derive(Drop)]
+#[derive(Clone, Copy)]
 pub struct StreamResetHandler {
     pub next_number: u32,
     pub underway: Underway,

@@ -11,14 +11,14 @@ use reset_wire::{request_size, write_request};
 use send_queue::{Number, QUEUE_WORDS, count_streams_ready_to_reset, get_streams_ready_to_reset};
 
 // A message of so many bytes; no stream ready; or refused.
-#[derive(Drop)]
+#[derive(Clone, Copy)]
 pub enum RequestAnswer {
     Written(usize),
     NoneReady,
     Refused(u8),
 }
 
-#[derive(Drop)]
+#[derive(Clone, Copy)]
 pub struct MadeRequest {
     pub answer: RequestAnswer,
     pub handler: StreamResetHandler,

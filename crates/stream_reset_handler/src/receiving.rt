@@ -8,7 +8,7 @@ use crate::handler::{StreamResetHandler, ended, is_underway};
 use reset_wire::{Response, read_response};
 use send_queue::{Call, QUEUE_WORDS, commit_reset_streams, rollback_reset_streams};
 
-#[derive(Drop)]
+#[derive(Clone, Copy)]
 pub enum ResponseAnswer {
     Ignored,
     Committed,
@@ -17,13 +17,13 @@ pub enum ResponseAnswer {
     Refused(u8),
 }
 
-#[derive(Drop)]
+#[derive(Clone, Copy)]
 pub struct HandledResponse {
     pub answer: ResponseAnswer,
     pub handler: StreamResetHandler,
 }
 
-#[derive(Drop)]
+#[derive(Clone, Copy)]
 pub struct QueueReset {
     pub answer: Call,
     pub handler: StreamResetHandler,
@@ -61,7 +61,7 @@ fn roll_back(queue: &mut [u64; QUEUE_WORDS], handler: StreamResetHandler) -> Han
 }
 
 // What received bytes ask for.
-#[derive(Drop)]
+#[derive(Clone, Copy)]
 pub enum ResponseStep {
     Commit,
     RollBack,

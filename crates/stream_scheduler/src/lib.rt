@@ -4,6 +4,7 @@
 // A stream that waits has a row. Rows stand in no order: a new one at the end, the last one in the place of one that is removed, and a
 // stream that begins anew keeps its row. The functions here are total: where the number of rows is above 256, or a 257th would be needed, they
 // answer `false` or `Broken`, and nothing has changed. The caller then answers 16. Those of src/own and src/anew ask for what is tested here.
+#![tactic(auto)]
 pub mod anew;
 pub mod own;
 
@@ -104,7 +105,7 @@ fn schedule_next_chunk(
 }
 
 // What the scheduler would hand out from.
-#[derive(Drop)]
+#[derive(Clone, Copy)]
 pub enum Peeked {
     At(usize),
     Nothing,

@@ -17,7 +17,7 @@ use queue_words::header::{
 };
 
 // What the scheduler would hand out from.
-#[derive(Drop)]
+#[derive(Clone, Copy)]
 pub enum Front {
     Row(usize),
     Nothing,

@@ -1,14 +1,15 @@
 // The counters and the identifiers of the send queue, with the names that the Rust gives them.
+#![tactic(auto)]
 ghost use Rattle.std.specs.Prelude.{◌≡◌};
 ghost use Rattle.types.specs.Keys.{key_of, key_id, key_unordered};
 ghost use Rattle.types.specs.Wrap.{wrapping_add};
 
 // A stream's number.
-#[derive(Drop)]
+#[derive(Clone, Copy)]
 pub struct StreamId(pub u16);
 
 // A stream's ordered or unordered side: "ordered and unordered counting separately in each stream".
-#[derive(Drop)]
+#[derive(Clone, Copy)]
 pub enum StreamKey {
     Ordered(StreamId),
     Unordered(StreamId),
@@ -51,7 +52,7 @@ impl StreamKey {
 // width". A sum that passes the last number comes round; one law, over the width, proves all four.
 
 // The number of an ordered message of a stream.
-#[derive(Drop)]
+#[derive(Clone, Copy)]
 pub struct Ssn(pub u16);
 
 impl Ssn {
@@ -67,7 +68,7 @@ impl Ssn {
 }
 
 // The number of a message on its side of a stream.
-#[derive(Drop)]
+#[derive(Clone, Copy)]
 pub struct Mid(pub u32);
 
 impl Mid {
@@ -83,7 +84,7 @@ impl Mid {
 }
 
 // The number of a fragment in its message: "FSN grows by one a fragment (RFC 8260, 2.1)."
-#[derive(Drop)]
+#[derive(Clone, Copy)]
 pub struct Fsn(pub u32);
 
 impl Fsn {
@@ -100,7 +101,7 @@ impl Fsn {
 
 // "Message ids have 32 bits, start at 0, grow by one with each accepted message and wrap." The Rust
 // adds to one with `+=`.
-#[derive(Drop)]
+#[derive(Clone, Copy)]
 pub struct OutgoingMessageId(pub u32);
 
 impl OutgoingMessageId {
