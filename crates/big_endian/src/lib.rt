@@ -1,5 +1,6 @@
 // Unsigned numbers, high byte first. Each wide one is two of half its width.
 #![tactic(auto)]
+
 ghost use Rattle.std.specs.Prelude.{◌≡◌, ◌+◌, ◌≤◌, length};
 ghost use Rattle.queue_model.specs.Bytes.{number_bytes};
 ghost use Rattle.big_endian.specs.Numbers.{number_at, wrote};

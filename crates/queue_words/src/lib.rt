@@ -15,6 +15,7 @@
 // that is too large for its field is read modulo the field's width, a word for a flag is true where it is 1, a pause state's word above 3 is
 // resetting, and no stream is remembered where the word for it is 65536 or above. A place is the number of a row; 1024 stands for no message.
 #![tactic(auto)]
+
 ghost use Rattle.std.specs.Prelude.{◌≡◌, length};
 
 pub mod active;

@@ -1,5 +1,6 @@
 // The counters and the identifiers of the send queue, with the names that the Rust gives them.
 #![tactic(auto)]
+
 ghost use Rattle.std.specs.Prelude.{◌≡◌};
 ghost use Rattle.types.specs.Keys.{key_of, key_id, key_unordered};
 ghost use Rattle.types.specs.Wrap.{wrapping_add};

@@ -282,9 +282,9 @@ module _ (q : Queue) (c : Active) (s : Stream) (i : Item) (is : List Item) (w : 
       go false f = record { plain = a.plain; recalls = part_recalls _ _ refl (part_current c n q.scheduler (subst (λ (b : Bool). WeightFits b c.weight) a.plain v.choice_weight) (less_than f) ∙ ap {B = Option ℕ} some (sym own_id)) }
 
 -- What passing over expired heads leaves.
-pub recalls_past : (now : ℕ) (q r : Queue) → Past now r q → Well q → Recalls q → Recalls r
-recalls_past now q r here w a = a
-recalls_past now q r (over k s i is h e p) w a = recalls_past now (drop_in s.pause_state q s i is) r p (drop_in_well q k s i is w h s.pause_state) (drop_recalls q k s i is w h a s.pause_state)
+pub recalls_past : (now : ℕ) (r q : Queue) → Past now r q → Well q → Recalls q → Recalls r
+recalls_past now r q here w a = a
+recalls_past now r q (over k s i is h e p) w a = recalls_past now r (drop_in s.pause_state q s i is) p (drop_in_well q k s i is w h s.pause_state) (drop_recalls q k s i is w h a s.pause_state)
 
 recalls_ends : (r : Queue) (s : Step) → Well r → Recalls r → Ends r s → Recalls s.next
 recalls_ends r s w a (none_waits e f g) = subst Recalls (sym g) a
@@ -295,7 +295,7 @@ recalls_produce store places buffer now size q w a = go (next_fragment store pla
   where
     go : {s : Step} → Next now q s → Recalls s.next
     go (refuses n e) = subst (λ (x : Step). Recalls x.next) (sym e) a
-    go {s} (passes p) = recalls_ends p.past s p.well (recalls_past now q p.past p.passed w a) p.ends
+    go {s} (passes p) = recalls_ends p.past s p.well (recalls_past now p.past q p.passed w a) p.ends
 
 -- ---- close
 

@@ -263,9 +263,9 @@ module _ (l : Option Fragment) where
 
   -- ---- next fragment
 
-  owes_past : (now : ℕ) (q r : Queue) → Past now r q → Well q → Every (Owes l) q.streams → Every (Owes l) r.streams
-  owes_past now q r here w a = a
-  owes_past now q r (over k s i is h e p) w a = owes_past now (drop_in s.pause_state q s i is) r p (drop_in_well q k s i is w h s.pause_state) (drop_owes q k s i is w h a s.pause_state)
+  owes_past : (now : ℕ) (r q : Queue) → Past now r q → Well q → Every (Owes l) q.streams → Every (Owes l) r.streams
+  owes_past now r q here w a = a
+  owes_past now r q (over k s i is h e p) w a = owes_past now r (drop_in s.pause_state q s i is) p (drop_in_well q k s i is w h s.pause_state) (drop_owes q k s i is w h a s.pause_state)
 
 -- A message that has a MID keeps its numbers.
 pub kept_numbers : (c : Counters) (i : Item) (m : ℕ) → i.mid ≡ some m → (numbered c i).item ≡ i
@@ -337,7 +337,7 @@ goes_produce l store places buffer now size q w a b = go (next_fragment store pl
   where
     go : {s : Step} → Next now q s → Goes l s
     go (refuses n e) = subst (Goes l) (sym e) (quiet l (refuse q n) refl b)
-    go {s} (passes p) = goes_ends l p.past s p.well (recalls_past now q p.past p.passed w a) (owes_past l now q p.past p.passed w b) p.ends
+    go {s} (passes p) = goes_ends l p.past s p.well (recalls_past now p.past q p.passed w a) (owes_past l now p.past q p.passed w b) p.ends
 
 -- ---- every call
 
