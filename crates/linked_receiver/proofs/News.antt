@@ -18,7 +18,7 @@ use Rattle.receiver_words.specs.Ages.{older}
 use Rattle.receiver_messages.specs.Keys.{interleaved_of, previous}
 use Rattle.linked_receiver.specs.Rows.{Indexed}
 use Rattle.linked_receiver.specs.Good.{Ghost, whole_rows, GoodReceiver, stands, Stands}
-use Rattle.queue_words.proofs.Numbers.{flag_bit}
+use Rattle.queue_words.proofs.NumberLaws.{flag_bit}
 
 -- ------------------------------------------------------------------ the free rows
 

@@ -27,7 +27,7 @@ use Rattle.queue_words.specs.Items.{item_of, item_words, item_at, put_item, Fits
 use Rattle.queue_words.specs.Items.{put_next, put_place, put_length, with_next, with_place, with_length}
 use Rattle.queue_words.specs.Active.{active_of, active_words, active_in, active_at, put_active_words, FitsActive}
 use Rattle.queue_words.specs.Leasts.{group_of, stale, leasts_at, put_least}
-use Rattle.queue_words.proofs.Numbers.{flag_bit, pause_state_of_word, remembered_of_word, remembered_of_fits, expiry_of_words, numbers_of_words, mid_of_fits, ssn_of_fits}
+use Rattle.queue_words.proofs.NumberLaws.{flag_bit, pause_state_of_word, remembered_of_word, remembered_of_fits, expiry_of_words, numbers_of_words, mid_of_fits, ssn_of_fits}
 use Rattle.queue_words.proofs.Rows.{Apart, row_put_same, row_put_other, row_put_length, rows_apart, row_set_word, row_word_other}
 
 -- each struct survives its words

@@ -1,0 +1,10 @@
+-- `queue_words::items::load_place` meets its contract. Assumes nothing.
+use mathlib.Core.Path.{refl}
+use Rattle.queue_words.specs.Items.{item_at}
+use Rattle.std.proofs.Common.{rules}
+use Rattle.queue_words.proofs.items.load_place.Goals as goal
+
+-- `queue_words::items::load_place` meets its contract. Assumes nothing.
+pub returns : goal.returns
+unfolding item_at
+returns c = refl
