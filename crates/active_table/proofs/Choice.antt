@@ -153,7 +153,7 @@ module _ (ws : List ℕ) (n : ℕ) where
   in_is k s l = go (ltb (least_at ws k) (count_in k n)) refl
     where
       go : (b : Bool) → ltb (least_at ws k) (count_in k n) ≡ b → Least ws n (suc k * 24) (if b then better s (best_at ws (k * 24 + least_at ws k)) else best_among (rows_from ws (k * 24)) s (k * 24) (count_in k n))
-      go true e = by_fresh k s (tests.ltb_true _ _ e) l (picked s (best_at ws (k * 24 + least_at ws k)))
+      go true e = by_fresh k s (tests.ltb-true _ _ e) l (picked s (best_at ws (k * 24 + least_at ws k)))
       go false e = by_rows k s l
 
   over_is : 0 < n → (k : ℕ) → Least ws n (k * 24) (best_over ws n k)
@@ -298,7 +298,7 @@ module _ (ws : List ℕ) (at : ℕ) where
     group_by us g fits p = go (ltb g (groups_of n)) refl
       where
         go : (b : Bool) → ltb g (groups_of n) ≡ b → P (if b then refreshed_at us n g else us)
-        go true e = fresh us g (omega (arith, tests.ltb_true g (groups_of n) e)) p
+        go true e = fresh us g (omega (arith, tests.ltb-true g (groups_of n) e)) p
         go false e = p
 
     pub refreshed_by : P ws → P (refreshed ws at)
@@ -312,7 +312,7 @@ module _ (ws : List ℕ) (at : ℕ) where
         go true b e = p
         go false true e = p
         go false false e =
-            let h : n ≤ 256 = tests.ltb_false 256 n e in
+            let h : n ≤ 256 = tests.ltb-false 256 n e in
             group_by us (stale_from us n 0 (groups_of n)) h (group_by ws (at / 24) h p)
 
   -- What is read of words with groups made fresh.

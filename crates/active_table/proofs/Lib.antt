@@ -1,8 +1,6 @@
 -- What the proofs of several functions use. Assumes nothing.
 pub mod Choice
 pub mod Laws
-pub mod Lent
 pub mod Parts
 pub mod Passing
 pub mod Refresh
-pub mod Walks

@@ -4,6 +4,7 @@
 // The queue holds the table in its words. Every row that a search looks at is lent, four at a time or one: so small a part
 // stays in registers once compiled, and nothing is copied then (docs/DECISIONS.md).
 #![tactic(auto)]
+
 pub mod groups;
 
 ghost use Rattle.std.specs.Prelude.{◌≡◌, ◌+◌, ◌-◌, ◌<◌, ◌≤◌, ◌^◌, length};
