@@ -5,6 +5,7 @@
 // stream that begins anew keeps its row. The functions here are total: where the number of rows is above 256, or a 257th would be needed, they
 // answer `false` or `Broken`, and nothing has changed. The caller then answers 16. Those of src/own and src/anew ask for what is tested here.
 #![tactic(auto)]
+
 pub mod anew;
 pub mod own;
 
