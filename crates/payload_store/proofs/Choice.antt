@@ -1,6 +1,6 @@
 -- The row that is moved next, and one turn. Assumes nothing.
 use mathlib.Core.Path.{◌≡◌, refl, sym, ap, ◌∙◌}
-use mathlib.Core.Bool.{Bool, true, false, not}
+use mathlib.Core.Bool.{Bool, true, false}
 use mathlib.Core.List.{List}
 use Prim.Native.Nat.{ℕ, zero, suc, ◌+◌, ◌-◌, ◌≤◌, ◌<◌}
 use native.Mathlib.Omega.{arith}
@@ -11,7 +11,7 @@ use Rattle.queue_words.specs.Items.{put_place}
 use Rattle.payload_store.specs.Words.{place_of, size_of}
 use Rattle.payload_store.specs.Moving.{choose, least, moved, Pack, pack, turn_at, turn, turns, together}
 use Rattle.payload_store.specs.Searching.{lies}
-use Rattle.payload_store.proofs.Cases.{by_index, false_true}
+use Rattle.payload_store.proofs.Cases.{by_index}
 use Rattle.payload_store.proofs.Found.{lies_yes, lies_in}
 use Rattle.payload_store.proofs.Moves.{moved_length}
 use Rattle.payload_store.proofs.Laws.{place_length, place_same, place_other, place_size}
@@ -116,14 +116,6 @@ pub record Going (ws₀ st₀ ws st : List ℕ) (cur k : ℕ) : Type 0 where
   pub same : length st ≡ length st₀
   pub are : pack ws st cur ≡ turns (pack ws₀ st₀ 0) k
 
-is_so : (b : Bool) → not b ≡ false → b ≡ true
-is_so true e = refl
-is_so false e = false_true (sym e)
-
-is_not : (b : Bool) → not b ≡ true → b ≡ false
-is_not true e = false_true e
-is_not false e = refl
-
 -- the row that is moved: it lies in the store, at or above the cursor
 pub record Moving (ws st : List ℕ) (cur r p n : ℕ) : Type 0 where
   pub in_store : p + n ≤ length st
@@ -131,11 +123,11 @@ pub record Moving (ws st : List ℕ) (cur r p n : ℕ) : Type 0 where
   pub alive : 1 ≤ n
 
 pub moving : (ws₀ st₀ ws st : List ℕ) (cur k r p n len : ℕ) (b : Bool) → Going ws₀ st₀ ws st cur k → r ≡ least ws cur 1024 → r < 1024
-    → p ≡ place_of ws r → n ≡ size_of ws r → len ≡ length st₀ → b ≡ lies p n len → not b ≡ false → Moving ws st cur r p n
+    → p ≡ place_of ws r → n ≡ size_of ws r → len ≡ length st₀ → b ≡ lies p n len → b ≡ true → Moving ws st cur r p n
 moving ws₀ st₀ ws st cur k r p n len b g e h ep en el eb et =
     let q : Least ws cur 1024 r = rw e (least_law ws cur 1024 (omega arith)) in
     record {
-      in_store = omega (arith, lies_in p n len (sym eb ∙ is_so b et), g.same);
+      in_store = omega (arith, lies_in p n len (sym eb ∙ et), g.same);
       down = omega (arith, q.above h);
       alive = omega (arith, q.live h);
     }
@@ -166,9 +158,9 @@ pub going_rests : (ws₀ st₀ ws st : List ℕ) (cur k r : ℕ) → Going ws₀
 going_rests ws₀ st₀ ws st cur k r g e h = going_over ws₀ st₀ ws st cur k g (turn_rests (pack ws st cur) (omega arith))
 
 pub going_stops : (ws₀ st₀ ws st : List ℕ) (cur k r p n len : ℕ) (b : Bool) → Going ws₀ st₀ ws st cur k → r ≡ least ws cur 1024 → r < 1024
-    → p ≡ place_of ws r → n ≡ size_of ws r → len ≡ length st₀ → b ≡ lies p n len → not b ≡ true → pack ws st cur ≡ together ws₀ st₀
+    → p ≡ place_of ws r → n ≡ size_of ws r → len ≡ length st₀ → b ≡ lies p n len → b ≡ false → pack ws st cur ≡ together ws₀ st₀
 going_stops ws₀ st₀ ws st cur k r p n len b g e h ep en el eb et =
-    let z : lies (place_of ws r) (size_of ws r) (length st) ≡ false = rw (← ep, ← en, g.same, ← el) (sym eb ∙ is_not b et) in
+    let z : lies (place_of ws r) (size_of ws r) (length st) ≡ false = rw (← ep, ← en, g.same, ← el) (sym eb ∙ et) in
     going_over ws₀ st₀ ws st cur k g (turn_stops ws st cur r e h z)
 
 pub going_end : (ws₀ st₀ ws st : List ℕ) (cur k : ℕ) → Going ws₀ st₀ ws st cur k → length st₀ ≤ k → pack ws st cur ≡ together ws₀ st₀

@@ -1,8 +1,4 @@
-// Copying payload bytes.
-//
-// They are copied through a block, which the compiler then leaves out: it sees that the block overlaps neither slice, and what
-// remains of each block is one call of the C library's memmove. That is quicker than the loop of `bytes::copy` alone, which
-// goes 32 bytes a turn. A block has room for the largest payload, so that one call is enough.
+// Copying payload bytes, by std's copy of a slice, in parts of at most a block.
 ghost use Rattle.std.specs.Prelude.{◌≡◌, ◌++◌, ◌+◌, ◌≤◌, length, take, drop};
 ghost use Rattle.payload_store.specs.Putting.{written};
 
@@ -13,10 +9,8 @@ fn copy_some(src: &[u8], dst: &mut [u8], at: usize, n: usize)
     requires { (n ≤ 262144) × (at + n ≤ length src.now) × (at + n ≤ length dst.old) }
     ensures { dst.new ≡ written dst.old at (take n (drop at src.now)) }
 {
-    let mut block = [0u8; BLOCK];
     let end = at + n;
-    bytes::copy(&src[at..end], &mut block);
-    bytes::copy(&block[0..n], &mut dst[at..end]);
+    dst[at..end].copy_from_slice(&src[at..end]);
 }
 
 // All of src, to dst's start; dst past it is unchanged.

@@ -6,6 +6,7 @@
 // the order of their places (src/nearest). The tests and `put_payload` are total: words that no queue has get the answer 16, and
 // nothing is changed. `put_own`, `read_own` and `drop_payload` are what follows the tests: their caller knows what these say.
 #![tactic(auto)]
+
 pub mod copying;
 mod gaps;
 mod nearest;
