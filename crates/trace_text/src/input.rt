@@ -1,5 +1,6 @@
 // Standard input, by way of a buffer, line by line.
 use crate::state::{BUFFER, INPUT_AT, INPUT_END, LINE_BYTES, STATE, low8, wide};
+use std::io::{self, Read, Stdin};
 
 // What stands for a byte where the input has ended.
 const NO_BYTE: u64 = 256;
@@ -9,9 +10,8 @@ pub const NO_LINE: usize = 3000;
 
 pub const BAD_LINE: usize = 3001;
 
-fn refill(input: &mut [u8]) -> usize {
-    let got = libc::read(0, input);
-    io::count(got, &*input)
+fn refill(stdin: &mut Stdin, input: &mut [u8]) -> io::Result<usize> {
+    stdin.read(input)
 }
 
 fn take_byte(input: &[u8; BUFFER], state: &mut [u64; STATE], at: u64) -> u64 {
@@ -22,17 +22,21 @@ fn take_byte(input: &[u8; BUFFER], state: &mut [u64; STATE], at: u64) -> u64 {
     wide(input[at as usize])
 }
 
-fn next_byte(input: &mut [u8; BUFFER], state: &mut [u64; STATE]) -> u64 {
+fn next_byte(
+    stdin: &mut Stdin,
+    input: &mut [u8; BUFFER],
+    state: &mut [u64; STATE],
+) -> io::Result<u64> {
     let at = state[INPUT_AT];
     if at < state[INPUT_END] {
-        return take_byte(&*input, state, at);
+        return Ok(take_byte(&*input, state, at));
     }
-    let n = refill(input);
+    let n = refill(stdin, input)?;
     state[INPUT_END] = n as u64;
     if n == 0 {
-        return NO_BYTE;
+        return Ok(NO_BYTE);
     }
-    take_byte(&*input, state, 0)
+    Ok(take_byte(&*input, state, 0))
 }
 
 // What the input's end means after so many bytes of a line.
@@ -45,21 +49,22 @@ fn ended(bytes: usize) -> usize {
 
 // The next line, without its end, and its length.
 pub fn read_line(
+    stdin: &mut Stdin,
     input: &mut [u8; BUFFER],
     state: &mut [u64; STATE],
     line: &mut [u8; LINE_BYTES],
-) -> usize {
+) -> io::Result<usize> {
     let mut i = 0;
     while i < LINE_BYTES {
-        let b = next_byte(input, state);
+        let b = next_byte(stdin, input, state)?;
         if b == 10 {
-            return i;
+            return Ok(i);
         }
         if b > 255 {
-            return ended(i);
+            return Ok(ended(i));
         }
         line[i] = low8(b);
         i += 1;
     }
-    BAD_LINE
+    Ok(BAD_LINE)
 }

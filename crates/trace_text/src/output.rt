@@ -1,10 +1,13 @@
 // Standard output, by way of a buffer of words: how many bytes wait, the number of the line in the trace, and the bytes, one a
-// word. It knows its place itself, so that what writes an answer is lent this array alone.
+// word. It knows its place itself, so that what writes an answer is lent this alone. The first write that fails is kept for the end,
+// and nothing is written after it.
 ghost use Rattle.std.specs.Prelude.{◌<◌};
 
 use crate::state::{low8, wide};
+use itoa::Buffer;
+use std::io::{self, Stdout};
 
-pub const ANSWERS: usize = 8194;
+const ANSWERS: usize = 8194;
 
 const WAITING: usize = 0;
 
@@ -15,6 +18,23 @@ const TEXT: usize = 2;
 // The bytes that it has room for.
 const ROOM: usize = 8192;
 
+#[derive(Drop)]
+pub struct Output {
+    words: [u64; ANSWERS],
+    stdout: Stdout,
+    written: io::Result<()>,
+}
+
+impl Output {
+    pub fn new(stdout: Stdout) -> Output {
+        Output {
+            words: [0u64; ANSWERS],
+            stdout,
+            written: Ok(()),
+        }
+    }
+}
+
 // The places of the bytes, whether one waits there or not.
 fn take_bytes(output: &[u64; ANSWERS], bytes: &mut [u8; ROOM]) {
     let mut i = 0;
@@ -24,30 +44,38 @@ fn take_bytes(output: &[u64; ANSWERS], bytes: &mut [u8; ROOM]) {
     }
 }
 
-fn write_first(bytes: &[u8], n: u64) {
+fn write_first(stdout: Stdout, bytes: &[u8], n: u64) -> io::Result<()> {
     if n > bytes.len() as u64 {
-        return;
+        return Ok(());
     }
-    io::write_all(1, &bytes[0..n as usize]);
+    stdout.write_all(&bytes[0..n as usize])
 }
 
-fn write_waiting(bytes: &[u8; ROOM], n: u64) {
-    write_first(bytes, n);
+fn write_waiting(stdout: Stdout, bytes: &[u8; ROOM], n: u64) -> io::Result<()> {
+    write_first(stdout, bytes, n)
 }
 
 // Writes out what waits.
-pub fn flush(output: &mut [u64; ANSWERS]) {
+pub fn flush(output: &mut Output) {
     let mut bytes = [0u8; ROOM];
-    take_bytes(&*output, &mut bytes);
-    write_waiting(&bytes, output[WAITING]);
-    output[WAITING] = 0;
+    take_bytes(&output.words, &mut bytes);
+    if output.written.is_ok() {
+        output.written = write_waiting(output.stdout, &bytes, output.words[WAITING]);
+    }
+    output.words[WAITING] = 0;
+}
+
+// Writes out what waits, at the end, and answers whether all went well.
+pub fn finish(output: &mut Output) -> io::Result<()> {
+    flush(output);
+    output.written
 }
 
 // A place for one byte more. A full buffer is written out first.
-fn room(output: &mut [u64; ANSWERS]) -> usize
+fn room(output: &mut Output) -> usize
     ensures { result < 8192 }
 {
-    let at = output[WAITING];
+    let at = output.words[WAITING];
     if at < 8192 {
         return at as usize;
     }
@@ -55,13 +83,13 @@ fn room(output: &mut [u64; ANSWERS]) -> usize
     0
 }
 
-pub fn put_byte(output: &mut [u64; ANSWERS], b: u8) {
+pub fn put_byte(output: &mut Output, b: u8) {
     let at = room(output);
-    output[TEXT + at] = wide(b);
-    output[WAITING] = (at + 1) as u64;
+    output.words[TEXT + at] = wide(b);
+    output.words[WAITING] = (at + 1) as u64;
 }
 
-pub fn put_text(output: &mut [u64; ANSWERS], text: &[u8]) {
+pub fn put_text(output: &mut Output, text: &[u8]) {
     let mut i = 0;
     while i < text.len() {
         put_byte(output, text[i]);
@@ -70,23 +98,22 @@ pub fn put_text(output: &mut [u64; ANSWERS], text: &[u8]) {
 }
 
 // A space and a number.
-pub fn put_number(output: &mut [u64; ANSWERS], n: u64) {
-    let mut digits = [0u8; 20];
-    let k = io::decimal(n, &mut digits);
+pub fn put_number(output: &mut Output, n: u64) {
+    let mut digits = Buffer::new();
     put_byte(output, b' ');
-    put_text(output, &digits[..k]);
+    put_text(output, digits.format(n).as_bytes());
 }
 
 // The answer of most calls: the letter and the refusal's number, 0 for accepted.
-pub fn put_answer(output: &mut [u64; ANSWERS], letter: u8, refusal: u64) {
+pub fn put_answer(output: &mut Output, letter: u8, refusal: u64) {
     put_byte(output, letter);
     put_number(output, refusal);
     put_byte(output, b'\n');
 }
 
 // Says loudly that the queue broke what a trace cannot show.
-pub fn put_broken(output: &mut [u64; ANSWERS], what: &[u8]) {
-    let line = output[LINE];
+pub fn put_broken(output: &mut Output, what: &[u8]) {
+    let line = output.words[LINE];
     put_text(output, b"BROKEN line");
     put_number(output, line);
     put_byte(output, b' ');
@@ -95,9 +122,9 @@ pub fn put_broken(output: &mut [u64; ANSWERS], what: &[u8]) {
 }
 
 // One line more of the trace.
-pub fn count_line(output: &mut [u64; ANSWERS]) {
-    let n = output[LINE];
+pub fn count_line(output: &mut Output) {
+    let n = output.words[LINE];
     if n < 18446744073709551615 {
-        output[LINE] = n + 1;
+        output.words[LINE] = n + 1;
     }
 }
