@@ -1,6 +1,7 @@
 // The streams of a send queue (tx/send_queue.rs): the calls on them that change no message. Each is total on every input: words
 // that no queue has get the answer 16, and nothing is changed.
 #![tactic(auto)]
+
 pub mod answers;
 mod commit;
 pub mod events;
