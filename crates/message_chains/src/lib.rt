@@ -1,6 +1,7 @@
 // The messages of a stream hang in a chain, the free places in another: what takes a message off its chain, and what its going
 // reports. A function that reads only is total; those that write are called once such a test has passed.
 #![tactic(auto)]
+
 pub mod amounts;
 pub mod dropping;
 pub mod heads;
