@@ -1,6 +1,7 @@
 // The questions on a send queue (tx/send_queue.rs): the calls that only ask. Each is total on every input: words that no queue has
 // get the answer 16.
 #![tactic(auto)]
+
 pub mod questions;
 
 pub use questions::{
