@@ -65,7 +65,7 @@ pub linked_redirect : (nx nx' : ℕ → ℕ) (p x : ℕ) (xs rest qs : List ℕ)
     → Linked nx' (nx' (last_of x xs)) qs → ((y : ℕ) → 1 ≤ count y (x ∷ xs) → (last_of x xs ≡ y → ⊥) → nx' y ≡ nx y) → Linked nx' p (x ∷ xs ++ qs)
 linked_redirect nx nx' p x [] rest qs l once r same = (l.0, l.1, r)
 linked_redirect nx nx' p x (y ∷ ys) rest qs l once r same =
-    let far : last_of y ys ≡ x → ⊥ = λ z. let k : 1 ≤ count x (y ∷ ys) = rw z at (last_in y ys) in omega (arith, once x, hit_same x) in
+    let far : last_of y ys ≡ x → ⊥ = λ z. let k : 1 ≤ count x (y ∷ ys) = subst (λ (w : ℕ). 1 ≤ count w (y ∷ ys)) z (last_in y ys) in omega (arith, once x, hit_same x) in
     let e : nx' x ≡ nx x = same x (count_head x (y ∷ ys)) far in
     (l.0, l.1, rw e (linked_redirect nx nx' (nx x) y ys rest qs l.2 (λ z. omega (arith, once z)) r (λ z h. same z (omega arith))))
 

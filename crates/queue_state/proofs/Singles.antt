@@ -23,7 +23,7 @@ use Rattle.payload_store.specs.Promise.{SamePlaces}
 use Rattle.payload_store.proofs.Goods.{good_same, payload_kept}
 use Rattle.stream_scheduler.specs.Link.{GoodScheduler, Untouched, model_scheduler}
 use Rattle.stream_scheduler.proofs.Link.{scheduler_same}
-use Rattle.queue_state.specs.Chains.{count, sum_of, total, each}
+use Rattle.queue_state.specs.Chains.{count, sum_of, each}
 use Rattle.queue_state.specs.Model.{item_in_words, stream_of, row_at, options_of, stream_in, streams_in, model}
 use Rattle.queue_state.specs.Good.{Row, Shape}
 use Rattle.queue_state.proofs.Chains.{sum_frame}
