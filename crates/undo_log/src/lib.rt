@@ -9,6 +9,7 @@
 //
 // The header, which every drop changes too, is kept once, by the caller.
 #![tactic(auto)]
+
 ghost use Rattle.std.specs.Prelude.{◌≡◌, ◌+◌, ◌*◌, ◌<◌, ◌≤◌, length};
 ghost use Rattle.queue_words.specs.Rows.{row, put_row};
 ghost use Rattle.undo_log.specs.Log.{block, undone_block, kept, undone_drop, undone, waiting_row, kept_drop};
