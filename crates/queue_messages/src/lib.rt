@@ -1,6 +1,7 @@
 // Creating a queue, adding messages and discarding them (tx/send_queue.rs). Each call is total
 // on every input: words that no queue has get the answer 16, and nothing is changed.
 #![tactic(auto)]
+
 pub mod adding;
 pub mod creation;
 pub mod discarding;
