@@ -1,5 +1,6 @@
 // Ready ids, and the whole-queue reset (tx/send_queue.rs).
 #![tactic(auto)]
+
 pub mod marking;
 pub mod ready;
 pub mod whole;
