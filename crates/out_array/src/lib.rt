@@ -1,5 +1,6 @@
 // The places of an out-array (enum dsq_out of c/send_queue.h), in which the libraries for a host in C tell what goes with an answer; and a flag as a host gives it.
 #![tactic(auto)]
+
 ghost use Rattle.std.specs.Prelude.{◌≡◌};
 ghost use Rattle.out_array.specs.Flag.{is_yes};
 

@@ -3,6 +3,7 @@
 //
 // Every function is total: on words that no receiver has each loop ends after as many turns as the table has rows.
 #![tactic(auto)]
+
 pub mod keys;
 pub mod readiness;
 pub mod walks;

@@ -6,6 +6,7 @@
 // (src/packing), from the first row on below which no gap is needed: half of the bytes that stay free are at the end then, so as many bytes come
 // before it happens again. Every function is total: words that no receiver has get the answer 16, and nothing is changed.
 #![tactic(auto)]
+
 pub mod comparing;
 pub mod packing;
 pub mod places;

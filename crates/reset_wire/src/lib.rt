@@ -1,5 +1,6 @@
 // RE-CONFIG messages (RFC 6525) as bytes (document 02, 9/13): the outgoing request written, the response read.
 #![tactic(auto)]
+
 mod reading;
 mod writing;
 
