@@ -2,7 +2,10 @@
 // that no queue has. Each labelled line of the script writes one: what was tried, the answer's number, 0 for accepted, and for a
 // refusal whether all is unchanged. What breaks document 01 begins with BROKEN.
 #![tactic(auto)]
+
 mod calls;
+
+ghost use Rattle.std.specs.Prelude.{◌≤◌, length, IfOk};
 
 use calls::{answer_of, call};
 use input_trials::answers::{clear_totals, note, put_line};
@@ -14,20 +17,22 @@ use input_trials::state::{
     SEED, STATE, STORE, STORE_BYTES, STREAM, STREAM_STEP, TIMES, TURN, bit, plus, set_usual, wide,
 };
 use send_queue::QUEUE_WORDS;
+use std::io::{self, Read, Stdin};
 
 fn run_call(
+    rt: &impl Print,
     queue: &mut [u64; QUEUE_WORDS],
     kept: &mut [u64; QUEUE_WORDS],
     store: &mut [u8; STORE],
     events: &mut [u64; EVENT_BUFFER],
     fragment: &mut [u8; FRAGMENT],
     state: &mut [u64; STATE],
-) -> u64 {
+) -> io::Result<u64> {
     let c = call(queue, store, events, fragment, state);
     let refusal = answer_of(c, state);
     let same = settle(&*queue, kept, store, events, fragment, &*state, refusal);
-    note(refusal, same, state);
-    refusal
+    note(rt, refusal, same, state)?;
+    Ok(refusal)
 }
 
 // After a call: whether it is the line's last, as it was refused outside of a fill. Else the next stream and message id.
@@ -67,26 +72,27 @@ fn restore(
 
 // Makes the calls of a line, and answers the refusal at which it stops.
 fn run_line(
+    rt: &impl Print,
     queue: &mut [u64; QUEUE_WORDS],
     kept: &mut [u64; QUEUE_WORDS],
     store: &mut [u8; STORE],
     events: &mut [u64; EVENT_BUFFER],
     fragment: &mut [u8; FRAGMENT],
     state: &mut [u64; STATE],
-) -> u64 {
+) -> io::Result<u64> {
     let good = *queue;
     let mut left = turns(&*state);
     while left > 0 {
         prepare(queue, kept, &good, state);
-        let refusal = run_call(queue, kept, store, events, fragment, state);
+        let refusal = run_call(rt, queue, kept, store, events, fragment, state)?;
         let last = stops(refusal, state);
         if last {
-            return refusal;
+            return Ok(refusal);
         }
         left -= 1;
     }
     restore(queue, kept, &good, &*state);
-    0
+    Ok(0)
 }
 
 // Takes a line, and answers where its label begins.
@@ -100,14 +106,20 @@ fn take_line(line: &[u8], letter: u8, state: &mut [u64; STATE]) -> usize {
 }
 
 // Writes what came of a line. Its label begins after a space.
-fn end_line(line: &[u8], from: usize, letter: u8, refusal: u64, state: &mut [u64; STATE]) {
+fn end_line(
+    rt: &impl Print,
+    line: &[u8],
+    from: usize,
+    letter: u8,
+    refusal: u64,
+    state: &mut [u64; STATE],
+) -> io::Result<()> {
     note_created(letter, refusal, state);
     if from >= line.len() {
-        put_line(b"", refusal, state);
-        return;
+        return put_line(rt, b"", refusal, state);
     }
     let label = from + 1;
-    put_line(&line[label..], refusal, state);
+    put_line(rt, &line[label..], refusal, state)
 }
 
 fn note_created(letter: u8, refusal: u64, state: &mut [u64; STATE]) {
@@ -121,6 +133,7 @@ fn note_created(letter: u8, refusal: u64, state: &mut [u64; STATE]) {
 
 // One line of the script. A comment begins with #.
 fn obey(
+    rt: &impl Print,
     queue: &mut [u64; QUEUE_WORDS],
     kept: &mut [u64; QUEUE_WORDS],
     store: &mut [u8; STORE],
@@ -128,20 +141,21 @@ fn obey(
     fragment: &mut [u8; FRAGMENT],
     state: &mut [u64; STATE],
     line: &[u8],
-) {
+) -> io::Result<()> {
     if line.len() == 0 {
-        return;
+        return Ok(());
     }
     let letter = line[0];
     if letter == b'#' {
-        return;
+        return Ok(());
     }
     let label = take_line(line, letter, state);
-    let refusal = run_line(queue, kept, store, events, fragment, state);
-    end_line(line, label, letter, refusal, state);
+    let refusal = run_line(rt, queue, kept, store, events, fragment, state)?;
+    end_line(rt, line, label, letter, refusal, state)
 }
 
 fn run(
+    rt: &impl Print,
     queue: &mut [u64; QUEUE_WORDS],
     kept: &mut [u64; QUEUE_WORDS],
     store: &mut [u8; STORE],
@@ -149,17 +163,18 @@ fn run(
     fragment: &mut [u8; FRAGMENT],
     state: &mut [u64; STATE],
     script: &[u8],
-) {
+) -> io::Result<()> {
     let mut at = 0;
     while at < script.len() {
         let end = line_end(script, at);
         if end > script.len() {
-            return;
+            return Ok(());
         }
         if end < at {
-            return;
+            return Ok(());
         }
         obey(
+            rt,
             queue,
             kept,
             store,
@@ -167,12 +182,28 @@ fn run(
             fragment,
             state,
             &script[at..end],
-        );
+        )?;
         at = end + 1;
     }
+    Ok(())
 }
 
-fn main() {
+// Reads until the script is full or the input ends, and answers how many bytes it got.
+fn read_script(stdin: &mut Stdin, script: &mut [u8]) -> io::Result<usize>
+    ensures { IfOk result (λ n. n ≤ length script.new) }
+{
+    let mut done = 0;
+    while done < script.len() {
+        let n = stdin.read(&mut script[done..])?;
+        if n == 0 {
+            return Ok(done);
+        }
+        done += n;
+    }
+    Ok(done)
+}
+
+fn main(rt: HostRuntime) -> io::Result<()> {
     let mut queue = [0u64; QUEUE_WORDS];
     let mut kept = [0u64; QUEUE_WORDS];
     let mut store = [0u8; STORE];
@@ -183,8 +214,9 @@ fn main() {
     state[SEED] = 88172645463325252;
     mark_events(&mut events);
     mark_fragment(&mut fragment);
-    let n = io::read_full(0, &mut script);
+    let n = read_script(&mut rt.stdin(), &mut script)?;
     run(
+        &rt,
         &mut queue,
         &mut kept,
         &mut store,
@@ -192,5 +224,5 @@ fn main() {
         &mut fragment,
         &mut state,
         &script[..n],
-    );
+    )
 }

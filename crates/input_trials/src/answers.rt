@@ -2,13 +2,14 @@
 use crate::state::{
     ANSWERS, BROKEN, BYTES, CALLS, EVENTS, FILLING, LETTER, SAME, STATE, bit, both, low8, plus,
 };
+use std::io;
 
-pub fn put(text: &[u8]) {
-    io::write_all(1, text);
+pub fn put(rt: &impl Print, text: &[u8]) -> io::Result<()> {
+    rt.write_all(text)
 }
 
-pub fn put_number(n: u64) {
-    io::print_decimal(1, n);
+pub fn put_number(rt: &impl Print, n: u64) -> io::Result<()> {
+    rt.print(n)
 }
 
 fn may_create(refusal: u64) -> bool {
@@ -61,16 +62,23 @@ fn may_answer(letter: u8, refusal: u64) -> bool {
 }
 
 // Says loudly what is broken.
-fn put_broken(what: &[u8], letter: u8, refusal: u64, state: &mut [u64; STATE]) {
-    put(b"BROKEN ");
-    put(what);
-    put(b": call ");
+fn put_broken(
+    rt: &impl Print,
+    what: &[u8],
+    letter: u8,
+    refusal: u64,
+    state: &mut [u64; STATE],
+) -> io::Result<()> {
+    put(rt, b"BROKEN ")?;
+    put(rt, what)?;
+    put(rt, b": call ")?;
     let name = [letter; 1];
-    put(&name);
-    put(b", answer ");
-    put_number(refusal);
-    put(b"\n");
+    put(rt, &name)?;
+    put(rt, b", answer ")?;
+    put_number(rt, refusal)?;
+    put(rt, b"\n")?;
     state[BROKEN] = plus(state[BROKEN], 1);
+    Ok(())
 }
 
 fn count(refusal: u64, state: &mut [u64; STATE]) {
@@ -83,7 +91,7 @@ fn count(refusal: u64, state: &mut [u64; STATE]) {
 }
 
 // Counts an answer, and tells what it breaks.
-pub fn note(refusal: u64, same: bool, state: &mut [u64; STATE]) {
+pub fn note(rt: &impl Print, refusal: u64, same: bool, state: &mut [u64; STATE]) -> io::Result<()> {
     let letter = low8(state[LETTER]);
     state[SAME] = bit(same);
     state[EVENTS] = 0;
@@ -91,69 +99,78 @@ pub fn note(refusal: u64, same: bool, state: &mut [u64; STATE]) {
     count(refusal, state);
     let may = may_answer(letter, refusal);
     if may == false {
-        put_broken(b"number", letter, refusal, state);
+        put_broken(rt, b"number", letter, refusal, state)?;
     }
     if same == false {
-        put_broken(b"changed", letter, refusal, state);
+        put_broken(rt, b"changed", letter, refusal, state)?;
     }
+    Ok(())
 }
 
 // A line of the output: the label and the answer. A line without a label prepares, and is not to be refused.
-fn put_answer(label: &[u8], refusal: u64, state: &mut [u64; STATE]) {
+fn put_answer(
+    rt: &impl Print,
+    label: &[u8],
+    refusal: u64,
+    state: &mut [u64; STATE],
+) -> io::Result<()> {
     if label.len() == 0 {
         if refusal > 0 {
-            put_broken(b"preparation", low8(state[LETTER]), refusal, state);
+            put_broken(rt, b"preparation", low8(state[LETTER]), refusal, state)?;
         }
-        return;
+        return Ok(());
     }
-    put(label);
-    put(b": ");
-    put_number(refusal);
-    put_change(refusal, state[SAME]);
+    put(rt, label)?;
+    put(rt, b": ")?;
+    put_number(rt, refusal)?;
+    put_change(rt, refusal, state[SAME])
 }
 
-pub fn put_line(label: &[u8], refusal: u64, state: &mut [u64; STATE]) {
+pub fn put_line(
+    rt: &impl Print,
+    label: &[u8],
+    refusal: u64,
+    state: &mut [u64; STATE],
+) -> io::Result<()> {
     if state[FILLING] == 1 {
-        put_totals(label, &*state);
-        return;
+        return put_totals(rt, label, &*state);
     }
-    put_answer(label, refusal, state);
+    put_answer(rt, label, refusal, state)
 }
 
-fn put_change(refusal: u64, same: u64) {
+fn put_change(rt: &impl Print, refusal: u64, same: u64) -> io::Result<()> {
     if refusal == 0 {
-        put(b"\n");
-        return;
+        return put(rt, b"\n");
     }
     if same == 1 {
-        put(b" unchanged\n");
-        return;
+        return put(rt, b" unchanged\n");
     }
-    put(b" CHANGED\n");
+    put(rt, b" CHANGED\n")
 }
 
-fn put_answers(state: &[u64; STATE]) {
+fn put_answers(rt: &impl Print, state: &[u64; STATE]) -> io::Result<()> {
     let mut i = 1;
     while i < 17 {
         let n = state[ANSWERS + i];
         if n > 0 {
-            put(b", ");
-            put_number(i as u64);
-            put(b": ");
-            put_number(n);
+            put(rt, b", ")?;
+            put_number(rt, i as u64)?;
+            put(rt, b": ")?;
+            put_number(rt, n)?;
         }
         i += 1;
     }
+    Ok(())
 }
 
-fn put_totals(label: &[u8], state: &[u64; STATE]) {
-    put(label);
-    put(b": ");
-    put_number(state[CALLS]);
-    put(b" calls, accepted ");
-    put_number(state[ANSWERS]);
-    put_answers(state);
-    put(b"\n");
+fn put_totals(rt: &impl Print, label: &[u8], state: &[u64; STATE]) -> io::Result<()> {
+    put(rt, label)?;
+    put(rt, b": ")?;
+    put_number(rt, state[CALLS])?;
+    put(rt, b" calls, accepted ")?;
+    put_number(rt, state[ANSWERS])?;
+    put_answers(rt, state)?;
+    put(rt, b"\n")
 }
 
 pub fn clear_totals(state: &mut [u64; STATE]) {

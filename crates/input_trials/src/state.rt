@@ -137,7 +137,7 @@ pub fn both(a: bool, b: bool) -> bool {
 
 // Adds to a word; no sum of this program passes 2^64 - 1.
 pub fn plus(a: u64, b: u64) -> u64 {
-    std::num::wrapping_add_u64(a, b)
+    a.wrapping_add(b)
 }
 
 // The usual values: an accepted call on a queue that was created with b bytes.

@@ -1,6 +1,7 @@
 // A part of the programs `replay` and `bad_input`: the queue's calls, each with the lengths that the caller says. A part of an array
 // is lent, in a function of its own for each array.
 #![tactic(auto)]
+
 use send_queue::{
     Call, Lifetime, MaxRetransmissions, Message, Produced, QUEUE_WORDS, RestartRule, Saved, add,
     commit_reset_streams, create, discard, enable_message_interleaving, prepare_reset_stream,

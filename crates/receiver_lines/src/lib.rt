@@ -1,6 +1,7 @@
 // A part of the program `replay`: the lines `H kind tsn store`, `V store`, `D bytes` and `G buffer` of the receiving head (document 02,
 // 7/13). "Repeats change nothing", nor does a fetch that finds none: both are settled as a refusal is.
 #![tactic(auto)]
+
 mod creating;
 mod fetching;
 mod lent;
@@ -13,7 +14,7 @@ use fetching::answer_fetch;
 use receiver_words::RECEIVER_WORDS;
 use receiving::answer_receive;
 pub use state::HEADS;
-use trace_text::output::ANSWERS;
+use trace_text::output::Output;
 use trace_text::state::{PAYLOAD, STATE, STORE};
 pub use words::keep_sum;
 
@@ -22,7 +23,7 @@ pub fn answer_receiver(
     store: &mut [u8; STORE],
     kept_store: &mut [u8; STORE],
     payload: &[u8; PAYLOAD],
-    output: &mut [u64; ANSWERS],
+    output: &mut Output,
     state: &mut [u64; STATE],
     letter: u8,
 ) {

@@ -1,6 +1,7 @@
 // Runs a trace of calls, read from standard input, on the send queue and the receiving head, and writes the answers. Where one breaks
 // what a trace cannot show, or a line is malformed, a line of the answers begins with BROKEN.
 #![tactic(auto)]
+
 mod lines;
 mod ranges;
 
@@ -9,33 +10,36 @@ use ranges::{is_call, is_started};
 use receiver_lines::keep_sum;
 use receiver_words::RECEIVER_WORDS;
 use send_queue::QUEUE_WORDS;
+use std::io::{self, Stdin};
 use trace_answers::marks::{EVENT_BUFFER, mark_events};
 use trace_text::given::parse_bytes;
 use trace_text::input::{BAD_LINE, NO_LINE, read_line};
-use trace_text::output::{ANSWERS, count_line, flush, put_broken};
+use trace_text::output::{Output, count_line, finish, put_broken};
 use trace_text::parse::parse;
 use trace_text::state::{BUFFER, IMAGE, LINE_BYTES, PAYLOAD, STATE, STORE};
 
 // Whether the next line is there and is a call. A malformed line is told.
 fn next_call(
+    rt: &impl Eprint,
+    stdin: &mut Stdin,
     payload: &mut [u8; PAYLOAD],
     input: &mut [u8; BUFFER],
-    output: &mut [u64; ANSWERS],
+    output: &mut Output,
     state: &mut [u64; STATE],
-) -> bool {
+) -> io::Result<bool> {
     let mut line = [0u8; LINE_BYTES];
-    let n = read_line(input, state, &mut line);
+    let n = read_line(stdin, input, state, &mut line)?;
     if n == NO_LINE {
-        return false;
+        return Ok(false);
     }
     count_line(output);
     let good = is_line(&line, n, payload, state);
     if good {
-        return true;
+        return Ok(true);
     }
     put_broken(output, b"malformed");
-    io::write_all(2, b"replay: a malformed line\n");
-    false
+    rt.eprintln("replay: a malformed line")?;
+    Ok(false)
 }
 
 // A line of a letter and bytes, which go to the payload.
@@ -78,6 +82,8 @@ fn is_line(
 
 // A proved loop has to end, and nothing says that a trace does. So the loop counts down from a number that no run uses up.
 fn run(
+    rt: &impl Eprint,
+    stdin: &mut Stdin,
     queue: &mut [u64; QUEUE_WORDS],
     kept: &mut [u64; QUEUE_WORDS],
     store: &mut [u8; STORE],
@@ -87,23 +93,25 @@ fn run(
     image: &mut [u8; IMAGE],
     head: &mut [u64; RECEIVER_WORDS],
     input: &mut [u8; BUFFER],
-    output: &mut [u64; ANSWERS],
+    output: &mut Output,
     state: &mut [u64; STATE],
-) {
+) -> io::Result<()> {
     let mut left = u64::MAX;
     while left > 0 {
-        let more = next_call(payload, input, output, state);
+        let more = next_call(rt, stdin, payload, input, output, state)?;
         if more == false {
-            return;
+            return Ok(());
         }
         answer(
             queue, kept, store, kept_store, events, payload, image, head, output, state,
         );
         left -= 1;
     }
+    Ok(())
 }
 
-fn main() {
+// What waits is written at the end in any case.
+fn main(rt: HostRuntime) -> io::Result<()> {
     let mut queue = [0u64; QUEUE_WORDS];
     let mut kept = [0u64; QUEUE_WORDS];
     let mut store = [0u8; STORE];
@@ -113,11 +121,13 @@ fn main() {
     let mut image = [0u8; IMAGE];
     let mut head = [0u64; RECEIVER_WORDS];
     let mut input = [0u8; BUFFER];
-    let mut output = [0u64; ANSWERS];
+    let mut output = Output::new(rt.stdout());
     let mut state = [0u64; STATE];
     mark_events(&mut events, EVENT_BUFFER);
     keep_sum(&head, &mut state);
-    run(
+    let ran = run(
+        &rt,
+        &mut rt.stdin(),
         &mut queue,
         &mut kept,
         &mut store,
@@ -130,5 +140,7 @@ fn main() {
         &mut output,
         &mut state,
     );
-    flush(&mut output);
+    let wrote = finish(&mut output);
+    ran?;
+    wrote
 }
