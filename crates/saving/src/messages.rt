@@ -24,7 +24,7 @@ fn put_part(buffer: &mut [u8], at: usize, store: &[u8], from: usize, n: usize)
 {
     let stop = at + n;
     let end = from + n;
-    bytes::copy(&store[from..end], &mut buffer[at..stop]);
+    buffer[at..stop].copy_from_slice(&store[from..end]);
 }
 
 // n where the flag is set.
