@@ -1,9 +1,7 @@
--- Written by scripts/auto-proof; again, after `rt goals active_table`: scripts/auto-proof --again active_table four_behind
 use mathlib.Core.Path.{◌∙◌}
 use Rattle.active_table.proofs.Passing.{behind_later, behind_sooner, behind_level}
 use Rattle.active_table.proofs.four_behind.Goals as goal
 
--- Written by scripts/auto-proof; again, after `rt goals active_table`: scripts/auto-proof --again active_table four_behind
 -- `active_table::four_behind` meets its contract: each return is what its definition says, by what the calls ensure and the tests taken. Assumes nothing.
 pub returns-then-best-earliest : goal.returns-then-best-earliest
 returns-then-best-earliest c = behind_later _ _ c.args.best _ c.soonest_of_four-earliest.ensures c.if-best-earliest.true

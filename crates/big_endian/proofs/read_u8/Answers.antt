@@ -1,9 +1,7 @@
--- Written by scripts/auto-proof; again, after `rt goals big_endian`: scripts/auto-proof --again big_endian read_u8
 use Rattle.big_endian.proofs.Halves.{byte_is}
 use Rattle.std.proofs.Common.{rules}
 use Rattle.big_endian.proofs.read_u8.Goals as goal
 
--- Written by scripts/auto-proof; again, after `rt goals big_endian`: scripts/auto-proof --again big_endian read_u8
 -- `big_endian::read_u8` meets its contract: each return is what its definition says, by what the calls ensure and the tests taken. Assumes nothing.
 pub returns : goal.returns
 returns c = byte_is c.args.bytes.now c.args.at c.requires

@@ -1,9 +1,7 @@
--- Written by scripts/auto-proof; again, after `rt goals stream_scheduler`: scripts/auto-proof --again stream_scheduler can_wait
 use borrow.Author.Tests.{eq-eqb, le-ltb, lt-ltb, ne_eqb}
 use Rattle.stream_scheduler.specs.Own.{can_wait}
 use Rattle.stream_scheduler.proofs.can_wait.Goals as goal
 
--- Written by scripts/auto-proof; again, after `rt goals stream_scheduler`: scripts/auto-proof --again stream_scheduler can_wait
 -- `stream_scheduler::can_wait` meets its contract: each return is what its definition says, by what the calls ensure and the tests taken. Assumes
 -- nothing.
 pub returns-then-bytes-eq0 : goal.returns-then-bytes-eq0

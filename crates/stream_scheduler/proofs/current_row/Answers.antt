@@ -1,8 +1,6 @@
--- Written by scripts/auto-proof; again, after `rt goals stream_scheduler`: scripts/auto-proof --again stream_scheduler current_row
 use Rattle.stream_scheduler.specs.Words.{current_row}
 use Rattle.stream_scheduler.proofs.current_row.Goals as goal
 
--- Written by scripts/auto-proof; again, after `rt goals stream_scheduler`: scripts/auto-proof --again stream_scheduler current_row
 -- `stream_scheduler::current_row` meets its contract: each return is what its definition says, by what the calls ensure and the tests taken. Assumes nothing.
 pub returns-in-NoStream : goal.returns-in-NoStream
 unfolding current_row

@@ -1,9 +1,7 @@
--- Written by scripts/auto-proof; again, after `rt goals message_chains`: scripts/auto-proof --again message_chains amounts/plus
 use borrow.Author.Tests.{le-ltb, lt-ltb}
 use Rattle.message_chains.specs.Amounts.{sum}
 use Rattle.message_chains.proofs.amounts.plus.Goals as goal
 
--- Written by scripts/auto-proof; again, after `rt goals message_chains`: scripts/auto-proof --again message_chains amounts/plus
 -- `message_chains::amounts::plus` meets its contract: each return is what its definition says, by what the calls ensure and the tests taken. Assumes nothing.
 pub returns-then-b-a : goal.returns-then-b-a
 unfolding sum

@@ -1,8 +1,6 @@
--- Written by scripts/auto-proof; again, after `rt goals message_chains`: scripts/auto-proof --again message_chains amounts/remaining
 use Rattle.message_chains.specs.Amounts.{rest}
 use Rattle.message_chains.proofs.amounts.remaining.Goals as goal
 
--- Written by scripts/auto-proof; again, after `rt goals message_chains`: scripts/auto-proof --again message_chains amounts/remaining
 -- `message_chains::amounts::remaining` meets its contract: each return is what its definition says, by what the calls ensure and the tests taken.
 -- Assumes nothing.
 pub returns : goal.returns

@@ -1,10 +1,8 @@
--- Written by scripts/auto-proof; again, after `rt goals message_chains`: scripts/auto-proof --again message_chains dropping/drop_behind
 use Rattle.message_chains.specs.Dropping.{behind_dropped}
 use Rattle.message_chains.proofs.Goes.{behind_may}
 use Rattle.message_chains.proofs.Lemmas.{behind_refused}
 use Rattle.message_chains.proofs.dropping.drop_behind.Goals as goal
 
--- Written by scripts/auto-proof; again, after `rt goals message_chains`: scripts/auto-proof --again message_chains dropping/drop_behind
 -- `message_chains::dropping::drop_behind` meets its contract: each return is what its definition says, by what the calls ensure and the tests taken.
 -- Assumes nothing.
 pub drop_head-k1-requires : goal.drop_head-k1-requires

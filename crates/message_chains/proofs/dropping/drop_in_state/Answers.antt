@@ -1,4 +1,3 @@
--- Written by scripts/auto-proof; again, after `rt goals message_chains`: scripts/auto-proof --again message_chains dropping/drop_in_state
 use borrow.Author.Tests.{le-ltb, lt-ltb}
 use Rattle.message_chains.specs.Dropping.{dropped_in_state}
 use Rattle.message_chains.proofs.Goes.{head_passed}
@@ -13,7 +12,6 @@ returns-then-code-gt0 c =
       lt-ltb _ _ c.if-code-gt0.true,
     )
 
--- Written by scripts/auto-proof; again, after `rt goals message_chains`: scripts/auto-proof --again message_chains dropping/drop_in_state
 -- `message_chains::dropping::drop_in_state` meets its contract: each return is what its definition says, by what the calls ensure and the tests taken.
 -- Assumes nothing.
 pub drop_behind-requires : goal.drop_behind-requires

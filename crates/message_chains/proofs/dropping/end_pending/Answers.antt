@@ -1,8 +1,6 @@
--- Written by scripts/auto-proof; again, after `rt goals message_chains`: scripts/auto-proof --again message_chains dropping/end_pending
 use Rattle.message_chains.specs.Dropping.{end_pending_words}
 use Rattle.message_chains.proofs.dropping.end_pending.Goals as goal
 
--- Written by scripts/auto-proof; again, after `rt goals message_chains`: scripts/auto-proof --again message_chains dropping/end_pending
 -- `message_chains::dropping::end_pending` meets its contract: each return is what its definition says, by what the calls ensure and the tests taken.
 -- Assumes nothing.
 pub returns-in-NotPaused : goal.returns-in-NotPaused

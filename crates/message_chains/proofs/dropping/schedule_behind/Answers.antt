@@ -1,8 +1,6 @@
--- Written by scripts/auto-proof; again, after `rt goals message_chains`: scripts/auto-proof --again message_chains dropping/schedule_behind
 use Rattle.message_chains.specs.Dropping.{scheduled_behind}
 use Rattle.message_chains.proofs.dropping.schedule_behind.Goals as goal
 
--- Written by scripts/auto-proof; again, after `rt goals message_chains`: scripts/auto-proof --again message_chains dropping/schedule_behind
 -- `message_chains::dropping::schedule_behind` meets its contract: each return is what its definition says, by what the calls ensure and the tests taken.
 -- Assumes nothing.
 pub returns-then-pending : goal.returns-then-pending

@@ -1,9 +1,7 @@
--- Written by scripts/auto-proof; again, after `rt goals message_chains`: scripts/auto-proof --again message_chains dropping/schedule_own
 use Rattle.message_chains.specs.Dropping.{scheduled_behind}
 use Rattle.message_chains.proofs.Own.{own_ends, own_waits}
 use Rattle.message_chains.proofs.dropping.schedule_own.Goals as goal
 
--- Written by scripts/auto-proof; again, after `rt goals message_chains`: scripts/auto-proof --again message_chains dropping/schedule_own
 -- `message_chains::dropping::schedule_own` meets its contract: each return is what its definition says, by what the calls ensure and the tests taken.
 -- Assumes nothing.
 pub remove_own-requires : goal.remove_own-requires

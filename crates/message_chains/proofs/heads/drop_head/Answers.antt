@@ -1,4 +1,3 @@
--- Written by scripts/auto-proof; again, after `rt goals message_chains`: scripts/auto-proof --again message_chains heads/drop_head
 use mathlib.Core.Path.{refl}
 use Rattle.message_chains.specs.Heads.{head_dropped, drop_notes}
 use Rattle.std.proofs.Common.{refl}

@@ -1,9 +1,7 @@
--- Written by scripts/auto-proof; again, after `rt goals message_chains`: scripts/auto-proof --again message_chains heads/head_code
 use borrow.Author.Tests.{eq-eqb, le-ltb, lt-ltb, ne_eqb}
 use Rattle.message_chains.specs.Heads.{head_code}
 use Rattle.message_chains.proofs.heads.head_code.Goals as goal
 
--- Written by scripts/auto-proof; again, after `rt goals message_chains`: scripts/auto-proof --again message_chains heads/head_code
 -- `message_chains::heads::head_code` meets its contract: each return is what its definition says, by what the calls ensure and the tests taken. Assumes
 -- nothing.
 pub returns-then-n-t : goal.returns-then-n-t

@@ -1,9 +1,7 @@
--- Written by scripts/auto-proof; again, after `rt goals message_chains`: scripts/auto-proof --again message_chains heads/last_behind
 use borrow.Author.Tests.{le-ltb, lt-ltb}
 use Rattle.message_chains.specs.Heads.{last_behind}
 use Rattle.message_chains.proofs.heads.last_behind.Goals as goal
 
--- Written by scripts/auto-proof; again, after `rt goals message_chains`: scripts/auto-proof --again message_chains heads/last_behind
 -- `message_chains::heads::last_behind` meets its contract: each return is what its definition says, by what the calls ensure and the tests taken.
 -- Assumes nothing.
 pub returns-then-next-lt-NO_MESSAGE : goal.returns-then-next-lt-NO_MESSAGE

@@ -1,8 +1,6 @@
--- Written by scripts/auto-proof; again, after `rt goals message_chains`: scripts/auto-proof --again message_chains heads/release
 use Rattle.message_chains.specs.Heads.{released}
 use Rattle.message_chains.proofs.heads.release.Goals as goal
 
--- Written by scripts/auto-proof; again, after `rt goals message_chains`: scripts/auto-proof --again message_chains heads/release
 -- `message_chains::heads::release` meets its contract: each return is what its definition says, by what the calls ensure and the tests taken. Assumes nothing.
 pub returns : goal.returns
 unfolding released

@@ -1,8 +1,6 @@
--- Written by scripts/auto-proof; again, after `rt goals message_chains`: scripts/auto-proof --again message_chains heads/sent_events
 use Rattle.message_chains.specs.Heads.{sent_notes, stream_notes, total_notes}
 use Rattle.message_chains.proofs.heads.sent_events.Goals as goal
 
--- Written by scripts/auto-proof; again, after `rt goals message_chains`: scripts/auto-proof --again message_chains heads/sent_events
 -- `message_chains::heads::sent_events` meets its contract: each return is what its definition says, by what the calls ensure and the tests taken.
 -- Assumes nothing.
 pub returns : goal.returns

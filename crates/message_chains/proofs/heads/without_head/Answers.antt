@@ -1,8 +1,6 @@
--- Written by scripts/auto-proof; again, after `rt goals message_chains`: scripts/auto-proof --again message_chains heads/without_head
 use Rattle.message_chains.specs.Heads.{without_head}
 use Rattle.message_chains.proofs.heads.without_head.Goals as goal
 
--- Written by scripts/auto-proof; again, after `rt goals message_chains`: scripts/auto-proof --again message_chains heads/without_head
 -- `message_chains::heads::without_head` meets its contract: each return is what its definition says, by what the calls ensure and the tests taken.
 -- Assumes nothing.
 pub returns : goal.returns

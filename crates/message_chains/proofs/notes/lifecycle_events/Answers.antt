@@ -1,9 +1,7 @@
--- Written by scripts/auto-proof; again, after `rt goals message_chains`: scripts/auto-proof --again message_chains notes/lifecycle_events
 use borrow.Author.Tests.{eq-eqb, ne_eqb}
 use Rattle.message_chains.specs.Notes.{lifecycle_noted}
 use Rattle.message_chains.proofs.notes.lifecycle_events.Goals as goal
 
--- Written by scripts/auto-proof; again, after `rt goals message_chains`: scripts/auto-proof --again message_chains notes/lifecycle_events
 -- `message_chains::notes::lifecycle_events` meets its contract: each return is what its definition says, by what the calls ensure and the tests taken.
 -- Assumes nothing.
 pub returns-then-id-eq0 : goal.returns-then-id-eq0

@@ -1,9 +1,7 @@
--- Written by scripts/auto-proof; again, after `rt goals message_chains`: scripts/auto-proof --again message_chains notes/low_event
 use borrow.Author.Tests.{le-leb, le-ltb, lt-leb, lt-ltb}
 use Rattle.message_chains.specs.Notes.{low_noted}
 use Rattle.message_chains.proofs.notes.low_event.Goals as goal
 
--- Written by scripts/auto-proof; again, after `rt goals message_chains`: scripts/auto-proof --again message_chains notes/low_event
 -- `message_chains::notes::low_event` meets its contract: each return is what its definition says, by what the calls ensure and the tests taken. Assumes
 -- nothing.
 pub returns-then-old-threshold : goal.returns-then-old-threshold

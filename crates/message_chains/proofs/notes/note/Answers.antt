@@ -1,9 +1,7 @@
--- Written by scripts/auto-proof; again, after `rt goals message_chains`: scripts/auto-proof --again message_chains notes/note
 use borrow.Author.Tests.{le-ltb, lt-ltb}
 use Rattle.message_chains.specs.Notes.{noted}
 use Rattle.message_chains.proofs.notes.note.Goals as goal
 
--- Written by scripts/auto-proof; again, after `rt goals message_chains`: scripts/auto-proof --again message_chains notes/note
 -- `message_chains::notes::note` meets its contract: each return is what its definition says, by what the calls ensure and the tests taken. Assumes nothing.
 pub returns-then-k-gt-LAST_EVENT : goal.returns-then-k-gt-LAST_EVENT
 unfolding noted

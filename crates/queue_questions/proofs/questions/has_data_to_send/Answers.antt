@@ -1,9 +1,7 @@
--- Written by scripts/auto-proof; again, after `rt goals queue_questions`: scripts/auto-proof --again queue_questions questions/has_data_to_send
 use Rattle.queue_questions.proofs.Exits.{data_waits, data_none, data_broken}
 use Rattle.std.proofs.Common.{refl}
 use Rattle.queue_questions.proofs.questions.has_data_to_send.Goals as goal
 
--- Written by scripts/auto-proof; again, after `rt goals queue_questions`: scripts/auto-proof --again queue_questions questions/has_data_to_send
 -- `queue_questions::questions::has_data_to_send` meets its contract: each return is a case of `data_of` (proofs/Exits.antt). Assumes nothing.
 pub returns-in-At : goal.returns-in-At
 returns-in-At c = data_waits _ _ c.in-At.ensures _ refl

@@ -1,8 +1,6 @@
--- Written by scripts/auto-proof; again, after `rt goals queue_streams`: scripts/auto-proof --again queue_streams waiting/passed_over
 use Rattle.queue_streams.specs.Waiting.{passed_over}
 use Rattle.queue_streams.proofs.waiting.passed_over.Goals as goal
 
--- Written by scripts/auto-proof; again, after `rt goals queue_streams`: scripts/auto-proof --again queue_streams waiting/passed_over
 -- `queue_streams::waiting::passed_over` meets its contract: each return is what its definition says, by what the calls ensure and the tests taken.
 -- Assumes nothing.
 pub returns-then-all : goal.returns-then-all
