@@ -1,6 +1,7 @@
 // The calls on the streams with both promises: what they leave on the words, for every input, and that on the words of a queue this
 // is the model's step.
 #![tactic(auto)]
+
 pub mod questions;
 pub mod settings;
 
