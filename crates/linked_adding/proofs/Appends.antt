@@ -114,7 +114,7 @@ module _ (ws st : List ℕ) (g : Shape ws st) (i : ℕ) (hk : i < (totals_at ws)
   free_kept : Kept ws st us ut fr
   free_kept x h =
       same_of x (free_fits g.q (p ∷ fr) x split_p (omega arith)) (far_tail p x fr (free_once g.q (p ∷ fr) split_p) h)
-      (λ b e. let k : 1 ≤ count l (p ∷ fr) = rw e (omega arith) in far_free g.q (p ∷ fr) split_p l l i below k (last_mine b) refl)
+      (λ b e. let k : 1 ≤ count l (p ∷ fr) = subst (λ (w : ℕ). 1 ≤ count w (p ∷ fr)) (sym e) (omega arith) in far_free g.q (p ∷ fr) split_p l l i below k (last_mine b) refl)
 
   -- ---- the chain
 

@@ -1,6 +1,7 @@
 // Creating a queue and adding a message with both promises: what they leave on the words, for every input, and that this is the
 // model's creation and, on the words of a queue, the model's step.
 #![tactic(auto)]
+
 ghost use Rattle.linked_adding.specs.Create.{CreateMeets};
 ghost use Rattle.linked_adding.specs.Add.{AddMeets};
 
