@@ -17,7 +17,7 @@ use Rattle.message_chains.specs.Heads.{total_notes, released}
 use Rattle.message_chains.specs.Notes.{lifecycle_noted}
 use Rattle.queue_closing.specs.Sweep.{Swept, swept, swept_stream, swept_total, sweep_notes, notes_at, sweep_item_words, sweep}
 use Rattle.queue_closing.specs.declared.close.Sweep.{Sweep}
-use Rattle.queue_state.specs.Chains.{count, sum_of, each}
+use Rattle.queue_state.specs.Chains.{sum_of, each}
 use Rattle.queue_state.specs.Model.{next_of, item_in_words, options_of}
 use Rattle.queue_state.proofs.Chains.{count_head}
 use Rattle.queue_state.proofs.Releases.{Gone}

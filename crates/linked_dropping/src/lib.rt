@@ -1,6 +1,7 @@
 // Discarding a message and closing a stream (tx/send_queue.rs), with both promises: the words after the call, for every input;
 // and from words that stand for a queue, the model's step.
 #![tactic(auto)]
+
 ghost use Rattle.linked_dropping.specs.Meets.{DiscardMeets, CloseMeets};
 
 use queue_streams::answers::Call;
