@@ -1,5 +1,4 @@
 use Rattle.big_endian.proofs.Halves.{halves_read}
-use Rattle.std.proofs.Common.{rules}
 use Rattle.big_endian.proofs.read_u16.Goals as goal
 
 -- `big_endian::read_u16` meets its contract: each return is what its definition says, by what the calls ensure and the tests taken. Assumes nothing.

@@ -1,5 +1,4 @@
 use Rattle.big_endian.proofs.Halves.{byte_is}
-use Rattle.std.proofs.Common.{rules}
 use Rattle.big_endian.proofs.read_u8.Goals as goal
 
 -- `big_endian::read_u8` meets its contract: each return is what its definition says, by what the calls ensure and the tests taken. Assumes nothing.
