@@ -1,6 +1,7 @@
 // Restarting streams and switching interleaving with both promises: what the calls leave on the words, for every input, and that
 // on the words of a queue this is the model's step.
 #![tactic(auto)]
+
 ghost use Rattle.linked_restarts.specs.Promises.{ReadyMeets, CountMeets, CommitMeets, RollbackMeets, SwitchMeets, ResetMeets};
 
 use queue_restarts::ReadyStreams;
