@@ -367,8 +367,8 @@ module _ (ws st es bs : List ℕ) (time size n k : ℕ) (r : Produced) (l v u : 
   past_kept g = by r refl ∙ past_is
     where
       by : (r' : Produced) → r ≡ r' → produced_with r l v u ≡ settled ws es bs (produced_with r l v u)
-      by (produced.Nothing j) e = rw e
-      by (produced.Fragment j d) e = rw e
+      by (produced.Nothing j) e = rw e (ap (λ (x : Produced). produced_with x l v u) (sym e))
+      by (produced.Fragment j d) e = rw e (ap (λ (x : Produced). produced_with x l v u) (sym e))
       by (produced.Refused code) e = let z : false ≡ true = sym g ∙ eq ∙ ap refusal e in absurd (true_false (sym z))
 
 -- ------------------------------------------------------------------ the call with a log

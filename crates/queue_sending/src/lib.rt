@@ -1,6 +1,7 @@
 // The next fragment (tx/send_queue.rs: produce). The call is total on every input: words that no queue has get the answer 16, and
 // nothing is changed.
 #![tactic(auto)]
+
 pub mod choice;
 pub mod data;
 pub mod fragment;
