@@ -1,11 +1,12 @@
 // "The image reader is a record of the lent image and its position": thin calls read one record each.
 #![tactic(auto)]
+
 ghost use Rattle.std.specs.Prelude.{◌≡◌, ◌+◌, ◌≤◌, length};
 ghost use Rattle.handover_records.specs.Records.{stream_at_words, message_at, trailer_at};
 
 use handover_records::{HandoverOutgoingStream, HandoverStreamMessage, Trailer, records};
 
-#[derive(Drop)]
+#[derive(Clone, Copy)]
 pub struct ImageReader<'a> {
     pub image: &'a [u8],
     pub at: usize,
