@@ -7,7 +7,7 @@ use native.Mathlib.Omega.{arith}
 use native.Mathlib.Nat.{sub-zero}
 use lib.Dec.{ltb}
 use borrow.Author.Tests.{lt-ltb, le-ltb, le-leb, lt-leb}
-use Rattle.queue_model.specs.Logic.{if◌then◌else◌}
+use Rattle.std.specs.Prelude.{if◌then◌else◌}
 use Rattle.queue_words.specs.Header.{scheduler_at}
 use Rattle.queue_words.specs.Leasts.{least_at, put_least}
 use Rattle.queue_words.specs.declared.header.SchedulerState.{SchedulerState}

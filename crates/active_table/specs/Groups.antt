@@ -1,6 +1,6 @@
 -- The choice in two levels: the least of the groups' least rows, where they are known. Assumes nothing.
 use Rattle.std.specs.Prelude.{ℕ, zero, suc, ◌+◌, ◌-◌, ◌*◌, ◌/◌, ◌≤◌, ◌<◌, min, ◌≡◌, Bool, List, ltb, leb}
-use Rattle.queue_model.specs.Logic.{if◌then◌else◌}
+use Rattle.std.specs.Prelude.{if◌then◌else◌}
 use Rattle.queue_words.specs.Active.{active_at}
 use Rattle.queue_words.specs.Header.{scheduler_at}
 use Rattle.queue_words.specs.Leasts.{least_at, put_least}

@@ -1,6 +1,6 @@
 -- Four rows of the queue seen at once: whether the search for the least may pass them by. Assumes nothing.
 use Rattle.std.specs.Prelude.{ℕ, zero, suc, min, Bool, true, false, ◌&&◌, ◌||◌, List, eqb, ltb}
-use Rattle.queue_model.specs.Logic.{if◌then◌else◌}
+use Rattle.std.specs.Prelude.{if◌then◌else◌}
 use Rattle.queue_words.specs.declared.active.ActiveStreamInfo.{ActiveStreamInfo}
 use Rattle.active_table.specs.Parts.{rows_from}
 use Rattle.active_table.specs.declared.Best.{Best}

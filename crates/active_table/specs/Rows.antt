@@ -1,7 +1,7 @@
 -- The table of waiting streams: a stream's row, and the least row. A table is given by its rows, place by place: the queue's are `active_at ws`, a lent
 -- table's `rows_of t`. Assumes nothing.
 use Rattle.std.specs.Prelude.{ℕ, zero, suc, ◌+◌, ◌&&◌, ◌||◌, List, eqb, ltb}
-use Rattle.queue_model.specs.Logic.{if◌then◌else◌}
+use Rattle.std.specs.Prelude.{if◌then◌else◌}
 use Rattle.queue_words.specs.Active.{active_at}
 use Rattle.queue_words.specs.declared.active.ActiveStreamInfo.{ActiveStreamInfo}
 use Rattle.active_table.specs.Parts.{rows_from}

@@ -9,7 +9,7 @@ use lib.Dec.{T, ltb, eqb}
 use lib.Pow.{are_bytes}
 use lib.ListN.{length, take, drop, length-drop, take-append-drop}
 use lib.Seq.{length-take-le}
-use Rattle.queue_model.specs.Logic.{if◌then◌else◌}
+use Rattle.std.specs.Prelude.{if◌then◌else◌}
 use Rattle.queue_model.specs.Bytes.{row_bytes, bytes_row, width, Fits}
 use Rattle.queue_model.proofs.Image.ByteRows.{row_written_read, row_fits}
 use Rattle.queue_sending.specs.declared.data.Data.{Data}

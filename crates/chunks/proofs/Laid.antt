@@ -8,7 +8,7 @@ use native.Mathlib.Omega.{arith}
 use lib.ListN.{length, get_or, take, drop, replicate, length-replicate}
 use lib.Seq.{take_at, drop_at}
 use Rattle.types.specs.Keys.{key_unordered}
-use Rattle.queue_model.specs.Logic.{if◌then◌else◌}
+use Rattle.std.specs.Prelude.{if◌then◌else◌}
 use Rattle.queue_model.specs.Bytes.{row_bytes, bytes_row, Fits}
 use Rattle.queue_model.proofs.Image.ByteRows.{row_read_written}
 use Rattle.queue_sending.specs.declared.data.Data.{Data}

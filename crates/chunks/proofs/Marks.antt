@@ -11,7 +11,7 @@ use Rattle.types.specs.declared.StreamKey.{StreamKey}
 use Rattle.types.specs.declared.StreamKey.TheVariants.{Ordered, Unordered}
 use Rattle.types.specs.Keys.{key_of, key_id, key_unordered}
 use Rattle.queue_words.specs.Flags.{bit}
-use Rattle.queue_model.specs.Logic.{if◌then◌else◌}
+use Rattle.std.specs.Prelude.{if◌then◌else◌}
 use Rattle.chunks.specs.Reading.{is_set}
 
 pick_bit : (t : Bool) (v : ℕ) → if◌then◌else◌ t v 0 ≡ v * bit t

@@ -9,7 +9,8 @@ use lib.Dec.{T, ltb}
 use lib.Pow.{are_bytes}
 use lib.ListN.{length, take, drop}
 use lib.Seq.{take_at, drop_at}
-use Rattle.queue_model.specs.Logic.{if◌then◌else◌, outside}
+use Rattle.std.specs.Prelude.{if◌then◌else◌}
+use Rattle.queue_model.specs.Logic.{outside}
 use Rattle.queue_model.specs.Chunks.{padded}
 use Rattle.queue_sending.specs.declared.data.DataToSend.{DataToSend}
 use Rattle.chunks.specs.declared.chunk.ChunkKind.{ChunkKind}

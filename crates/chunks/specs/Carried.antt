@@ -1,6 +1,6 @@
 -- What a chunk carries of a fragment. Assumes nothing.
 use Rattle.std.specs.Prelude.{ℕ}
-use Rattle.queue_model.specs.Logic.{if◌then◌else◌}
+use Rattle.std.specs.Prelude.{if◌then◌else◌}
 use Rattle.queue_sending.specs.declared.data.Data.{Data}
 use Rattle.queue_sending.specs.declared.data.DataToSend.{DataToSend}
 use Rattle.queue_words.specs.declared.items.Expiry.TheVariants.{At}

@@ -1,7 +1,7 @@
 -- What reading a chunk answers, on any bytes. Assumes nothing.
 use Rattle.std.specs.Prelude.{ℕ, ◌-◌, ◌/◌, ◌%◌, Bool, true, false, List, eqb, ltb, length, take, drop}
 use Rattle.types.specs.Keys.{key_of}
-use Rattle.queue_model.specs.Logic.{if◌then◌else◌}
+use Rattle.std.specs.Prelude.{if◌then◌else◌}
 use Rattle.queue_sending.specs.declared.data.DataToSend.{DataToSend}
 use Rattle.big_endian.specs.Numbers.{number_at}
 use Rattle.chunks.specs.declared.chunk.Chunk.{Chunk}

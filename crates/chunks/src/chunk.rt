@@ -1,6 +1,6 @@
 // What the chunk calls take and answer, and the numbers of a chunk.
 ghost use Rattle.std.specs.Prelude.{◌≡◌, ◌≤◌};
-ghost use Rattle.queue_model.specs.Logic.{if◌then◌else◌};
+ghost use Rattle.std.specs.Prelude.{if◌then◌else◌};
 ghost use Rattle.queue_model.specs.Chunks.{padded};
 ghost use Rattle.chunks.specs.Layout.{header_size};
 

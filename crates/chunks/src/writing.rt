@@ -1,6 +1,6 @@
 // Writing a chunk into a lent buffer.
 ghost use Rattle.std.specs.Prelude.{◌≡◌, ◌+◌, ◌≤◌, length, replicate};
-ghost use Rattle.queue_model.specs.Logic.{if◌then◌else◌};
+ghost use Rattle.std.specs.Prelude.{if◌then◌else◌};
 ghost use Rattle.queue_model.specs.Bytes.{row_bytes};
 ghost use Rattle.big_endian.specs.Numbers.{wrote};
 ghost use Rattle.queue_model.specs.Chunks.{padded, last_word};

@@ -11,7 +11,7 @@ use borrow.Author.Tests.{ltb-true, ltb-false, leb-false, lt-ltb, le-ltb, lt-leb,
 use lib.Dec.{eqb, ltb, leb}
 use lib.ListN.{length}
 use Rattle.queue_words.specs.Flags.{pick}
-use Rattle.queue_model.specs.Logic.{if◌then◌else◌}
+use Rattle.std.specs.Prelude.{if◌then◌else◌}
 use Rattle.queue_model.specs.Refusals.{first_refusal}
 use Rattle.receiver_model.specs.Lists.{count}
 use Rattle.receiver_model.specs.Tsn.{is_far}

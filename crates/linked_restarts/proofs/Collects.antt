@@ -10,7 +10,7 @@ use Rattle.queue_words.specs.Flags.{pick}
 use Rattle.queue_words.specs.Header.{totals_at}
 use Rattle.queue_words.specs.Known.{id_at}
 use Rattle.queue_words.specs.Streams.{is_paused_words, stream_at_words}
-use Rattle.queue_model.specs.Logic.{if◌then◌else◌}
+use Rattle.std.specs.Prelude.{if◌then◌else◌}
 use Rattle.queue_model.specs.Types.{Stream}
 use Rattle.queue_model.specs.Reset.{is_paused, paused_ids}
 use Rattle.queue_streams.specs.declared.answers.Call.TheVariants.{Accepted}

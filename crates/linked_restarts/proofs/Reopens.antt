@@ -13,7 +13,7 @@ use Rattle.queue_words.specs.Streams.{is_resetting_words, stream_at_words, put_s
 use Rattle.queue_words.specs.declared.header.Totals.{Totals}
 use Rattle.queue_words.specs.declared.streams.OutgoingStream.{OutgoingStream}
 use Rattle.queue_words.proofs.Laws
-use Rattle.queue_model.specs.Logic.{if◌then◌else◌}
+use Rattle.std.specs.Prelude.{if◌then◌else◌}
 use Rattle.queue_model.specs.Types as plain
 use Rattle.queue_model.specs.Types.{Stream, Scheduler, Queue, done, with_state}
 use Rattle.queue_model.specs.Run as run

@@ -9,7 +9,7 @@ use lib.Dec.{ltb}
 use Rattle.queue_words.specs.Flags.{pick}
 use Rattle.queue_words.specs.Header.{options_at, totals_at}
 use Rattle.queue_words.specs.declared.header.Totals.{Totals}
-use Rattle.queue_model.specs.Logic.{if◌then◌else◌}
+use Rattle.std.specs.Prelude.{if◌then◌else◌}
 use Rattle.queue_model.specs.Types.{Stream, Scheduler}
 use Rattle.queue_model.specs.Streams.{put_stream, stream_key, reschedule, reschedule_each}
 use Rattle.queue_model.proofs.Scheduler.{each_nil, each_cons}

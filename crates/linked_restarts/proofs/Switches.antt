@@ -10,7 +10,8 @@ use Rattle.queue_words.specs.Header.{options_at, totals_at, put_totals}
 use Rattle.queue_words.specs.Known.{known_at}
 use Rattle.queue_words.specs.declared.header.Totals.{Totals}
 use Rattle.queue_words.proofs.Laws
-use Rattle.queue_model.specs.Logic.{if◌then◌else◌, same_bool}
+use Rattle.std.specs.Prelude.{if◌then◌else◌}
+use Rattle.queue_model.specs.Logic.{same_bool}
 use Rattle.queue_model.specs.Types.{Stream, Scheduler, Queue, done}
 use Rattle.queue_model.specs.Run as run
 use Rattle.queue_model.specs.Settings.{switched, set_interleaving}

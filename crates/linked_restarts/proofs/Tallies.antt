@@ -13,7 +13,7 @@ use Rattle.queue_words.specs.Header.{totals_at, scheduler_at}
 use Rattle.queue_words.specs.Known.{id_at}
 use Rattle.queue_words.specs.Streams.{stream_at_words}
 use Rattle.queue_words.specs.declared.streams.OutgoingStream.{OutgoingStream}
-use Rattle.queue_model.specs.Logic.{if◌then◌else◌}
+use Rattle.std.specs.Prelude.{if◌then◌else◌}
 use Rattle.queue_model.specs.Types.{Active}
 use Rattle.queue_model.specs.Scheduler.{active_key, find_active, put_active}
 use Rattle.queue_model.proofs.Table.{Rising, rising_put, find_put_other, sum_put_new, length_sum}

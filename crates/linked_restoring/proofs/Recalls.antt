@@ -18,7 +18,7 @@ use Rattle.queue_words.specs.declared.header.Remembered.TheVariants as remembere
 use Rattle.queue_words.specs.declared.header.SchedulerState.{SchedulerState}
 use Rattle.queue_words.specs.declared.streams.OutgoingStream.{OutgoingStream}
 use Rattle.queue_words.proofs.Laws
-use Rattle.queue_model.specs.Logic.{if◌then◌else◌}
+use Rattle.std.specs.Prelude.{if◌then◌else◌}
 use Rattle.queue_model.specs.Types.{Stream}
 use Rattle.queue_model.specs.Restore.{half_sent_first, first_half_sent, remember_half_sent}
 use Rattle.stream_scheduler.specs.Link.{GoodScheduler, entry_at, table_of, current_of, model_scheduler}

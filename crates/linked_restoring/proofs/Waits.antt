@@ -10,7 +10,7 @@ use Rattle.queue_words.specs.Flags.{pick}
 use Rattle.queue_words.specs.Header.{options_at, totals_at}
 use Rattle.queue_words.specs.Known.{known_at, id_at}
 use Rattle.queue_words.specs.Streams.{stream_at_words}
-use Rattle.queue_model.specs.Logic.{if◌then◌else◌}
+use Rattle.std.specs.Prelude.{if◌then◌else◌}
 use Rattle.queue_model.specs.Types.{Stream}
 use Rattle.queue_model.specs.Streams.{has_items, reschedule, reschedule_each}
 use Rattle.stream_scheduler.specs.Link.{model_scheduler}

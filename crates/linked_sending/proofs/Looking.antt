@@ -19,7 +19,7 @@ use Rattle.queue_words.specs.Streams.{stream_at_words}
 use Rattle.queue_words.specs.declared.known.Found.TheVariants as found
 use Rattle.queue_model.specs.Types.{Stream, expired}
 use Rattle.queue_model.specs.Types as plain
-use Rattle.queue_model.specs.Logic.{if◌then◌else◌}
+use Rattle.std.specs.Prelude.{if◌then◌else◌}
 use Rattle.queue_model.specs.Scheduler.{peek}
 use Rattle.queue_model.specs.Streams.{find_stream}
 use Rattle.queue_model.specs.Produce.{nothing, chosen, look_expired, look_at, look_for, look, head_of, head}

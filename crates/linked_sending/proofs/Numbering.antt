@@ -20,7 +20,7 @@ use Rattle.queue_words.specs.Streams.{FitsStream}
 use Rattle.queue_words.specs.declared.items.Item.{Item}
 use Rattle.queue_words.specs.declared.streams.OutgoingStream.{OutgoingStream}
 use Rattle.queue_model.specs.Types.{Stream}
-use Rattle.queue_model.specs.Logic.{if◌then◌else◌}
+use Rattle.std.specs.Prelude.{if◌then◌else◌}
 use Rattle.queue_model.specs.Produce.{Numbered, numbered, numbered_in, give_numbers, make_fragment, moved_on}
 use Rattle.message_chains.specs.Amounts.{rest, sum}
 use Rattle.queue_sending.specs.Data.{shown_lifecycle, data_to_send}

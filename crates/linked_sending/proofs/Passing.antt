@@ -12,7 +12,7 @@ use Rattle.queue_words.specs.Header.{totals_at}
 use Rattle.queue_words.specs.Items.{item_at}
 use Rattle.queue_words.specs.Streams.{stream_at_words}
 use Rattle.queue_words.specs.declared.header.Options.{Options}
-use Rattle.queue_model.specs.Logic.{if◌then◌else◌}
+use Rattle.std.specs.Prelude.{if◌then◌else◌}
 use Rattle.queue_model.specs.Types.{Stream, Queue, Event, Step, reply, nothing_waits, remaining}
 use Rattle.queue_model.specs.Types as plain
 use Rattle.queue_model.specs.Amounts.{low_event, total_falls, stream_falls, total_low, stream_low, sent_events, drop_head_events}

@@ -16,7 +16,8 @@ use Rattle.queue_words.specs.declared.streams.PauseState.{PauseState}
 use Rattle.queue_words.specs.declared.streams.PauseState.TheVariants.{NotPaused, Pending, Paused, Resetting}
 use Rattle.queue_words.specs.declared.known.Found.TheVariants.{At, Gap}
 use Rattle.queue_words.specs.declared.streams.OutgoingStream.{OutgoingStream}
-use Rattle.queue_model.specs.Logic.{if◌then◌else◌, is_some, any}
+use Rattle.std.specs.Prelude.{if◌then◌else◌}
+use Rattle.queue_model.specs.Logic.{is_some, any}
 use Rattle.queue_model.specs.Types.{Active, Options, Stream}
 use Rattle.queue_model.specs.Calls
 use Rattle.queue_model.specs.Reset.{is_paused}

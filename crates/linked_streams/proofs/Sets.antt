@@ -15,7 +15,7 @@ use Rattle.queue_words.specs.Streams.{stream_at_words, put_stream_words, FitsStr
 use Rattle.queue_words.specs.declared.streams.OutgoingStream.{OutgoingStream}
 use Rattle.queue_words.proofs.Laws
 use Rattle.queue_model.specs.Types.{Event, Queue, Stream, Step, done, refuse, reply, with_priority, with_threshold}
-use Rattle.queue_model.specs.Logic.{if◌then◌else◌}
+use Rattle.std.specs.Prelude.{if◌then◌else◌}
 use Rattle.queue_model.specs.Types as plain
 use Rattle.queue_model.specs.Calls
 use Rattle.queue_model.specs.Settings.{raised_event, priority_checks, threshold_checks}

@@ -14,7 +14,7 @@ use Rattle.queue_words.specs.declared.active.SchedulingParameters.{SchedulingPar
 use Rattle.queue_words.specs.declared.items.Item.{Item}
 use Rattle.queue_words.specs.declared.streams.OutgoingStream.{OutgoingStream}
 use Rattle.queue_words.specs.declared.streams.PauseState.{PauseState}
-use Rattle.queue_model.specs.Logic.{if◌then◌else◌}
+use Rattle.std.specs.Prelude.{if◌then◌else◌}
 use Rattle.queue_model.proofs.Tests.{holds}
 use Rattle.payload_store.specs.Dropping.{drop_code_words}
 use Rattle.stream_scheduler.specs.Words.{Outcome, outcome, remove_stream_words, set_bytes_remaining_words}

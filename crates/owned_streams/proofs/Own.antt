@@ -18,7 +18,7 @@ use Rattle.queue_words.specs.declared.known.Spot.{Spot}
 use Rattle.queue_words.specs.declared.known.Spot.TheVariants as spot
 use Rattle.queue_words.specs.declared.streams.OutgoingStream.{OutgoingStream}
 use Rattle.queue_words.proofs.Finds.{find_hit}
-use Rattle.queue_model.specs.Logic.{if◌then◌else◌}
+use Rattle.std.specs.Prelude.{if◌then◌else◌}
 use Rattle.stream_scheduler.specs.Words.{peek_among, peek_words}
 use Rattle.stream_scheduler.specs.declared.Peeked.TheVariants as peeked
 use Rattle.queue_streams.specs.declared.answers.Call.TheVariants.{Accepted}

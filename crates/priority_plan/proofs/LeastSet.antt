@@ -7,7 +7,8 @@ use native.Mathlib.Nat.{mul_comm, mul-le-mul_left, div-lt_iff_lt-mul, le-div_iff
 use native.Mathlib.Omega.{arith}
 use lib.Dec.{eqb, ltb, ltb→lt, eqb→eq}
 use lib.ListN.{length}
-use Rattle.queue_model.specs.Logic.{if◌then◌else◌, any}
+use Rattle.std.specs.Prelude.{if◌then◌else◌}
+use Rattle.queue_model.specs.Logic.{any}
 use Rattle.queue_model.specs.Types.{Active}
 use Rattle.queue_model.specs.Scheduler.{cost, scheduled, comes_before, saturating}
 use Rattle.queue_model.proofs.Tests.{holds, ltb_true, ltb_false, eqb_true, less, same, more, tri}

@@ -7,7 +7,7 @@ use Prim.Native.Nat.{ℕ, suc, ◌-◌, ◌≤◌, ◌<◌, min}
 use native.Mathlib.Omega.{arith}
 use lib.Dec.{eqb, ltb}
 use lib.ListN.{length}
-use Rattle.queue_model.specs.Logic.{if◌then◌else◌}
+use Rattle.std.specs.Prelude.{if◌then◌else◌}
 use Rattle.queue_model.specs.Types.{Item, Stream, Active, Options, Queue, Event, fragment, Step, refuse, reply, remaining}
 use Rattle.queue_model.specs.Streams.{waiting}
 use Rattle.queue_model.specs.Refusals.{short_of, short_of_head}

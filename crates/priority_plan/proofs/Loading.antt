@@ -7,7 +7,8 @@ use Prim.Native.Nat.{ℕ, ◌≤◌}
 use native.Mathlib.Omega.{arith}
 use lib.Dec.{eqb, ltb, eqb→eq}
 use lib.ListN.{length}
-use Rattle.queue_model.specs.Logic.{if◌then◌else◌, same_bool}
+use Rattle.std.specs.Prelude.{if◌then◌else◌}
+use Rattle.queue_model.specs.Logic.{same_bool}
 use Rattle.queue_model.specs.Types.{Item, not_paused, Stream, Weight, weighted, Active, Scheduler, Options, Queue, Message, done, reply, remaining, expired, with_priority}
 use Rattle.queue_model.specs.Scheduler.{active_key, find_active, put_active, scheduled, new_scheduler, forget, rest_time, remove_stream, start_of, set_bytes_remaining}
 use Rattle.queue_model.specs.Streams.{stream_key, put_stream, at, stream_at, with_message, know, some_items, has_items, head_size, weight_of, reschedule, reschedule_each, new_queue}

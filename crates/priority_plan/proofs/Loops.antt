@@ -9,7 +9,8 @@ use native.Mathlib.Omega.{arith}
 use lib.Dec.{eqb, ltb}
 use lib.ListN.{length, get_or, drop, set, replicate, replicate-append-replicate, drop_of_length-le}
 use lib.Seq.{drop-cons}
-use Rattle.queue_model.specs.Logic.{if◌then◌else◌, outside, any, is_nil}
+use Rattle.std.specs.Prelude.{if◌then◌else◌}
+use Rattle.queue_model.specs.Logic.{outside, any, is_nil}
 use Rattle.queue_model.specs.Refusals.{limit_wrong, ◌when◌, first_refusal, max_payload}
 use Rattle.queue_model.proofs.Tests.{ltb_true, ltb_false, eqb_true, eqb_false}
 use Rattle.queue_model.proofs.Checks.{or_left, or_right, not_less}

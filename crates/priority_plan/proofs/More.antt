@@ -5,7 +5,7 @@ use mathlib.Core.List.{List, [], ◌∷◌, ◌++◌, map}
 use mathlib.Core.Option.{Option, none, some}
 use Prim.Native.Nat.{ℕ, ◌<◌}
 use native.Mathlib.Omega.{arith}
-use Rattle.queue_model.specs.Logic.{if◌then◌else◌}
+use Rattle.std.specs.Prelude.{if◌then◌else◌}
 use Rattle.queue_model.specs.Types.{Item, Stream, Active, Scheduler, Queue, Message, done, reply, expired}
 use Rattle.queue_model.specs.Scheduler.{active_key, find_active, set_bytes_remaining}
 use Rattle.queue_model.specs.Streams.{stream_key, stream_at, with_message, some_items, has_items, head_size, weight_of, reschedule}

@@ -9,7 +9,8 @@ use native.Mathlib.Omega.{arith}
 use lib.Dec.{eqb, ltb, leb}
 use lib.ListN.{length, take, replicate}
 use lib.Seq.{take-append_seam}
-use Rattle.queue_model.specs.Logic.{if◌then◌else◌, any, is_some, same_bool}
+use Rattle.std.specs.Prelude.{if◌then◌else◌}
+use Rattle.queue_model.specs.Logic.{any, is_some, same_bool}
 use Rattle.queue_model.specs.Table.{put}
 use Rattle.queue_model.specs.Types.{Stream, Options, Queue, done, reply, with_priority}
 use Rattle.queue_model.specs.Streams.{stream_key, find_stream, stream_at, too_many, know, new_queue}

@@ -6,7 +6,7 @@ use mathlib.Core.List.{List, [], ◌∷◌, ◌++◌}
 use mathlib.Core.Option.{Option, none, some, get_or}
 use Prim.Native.Nat.{ℕ, zero, suc, ◌-◌, ◌<◌, min}
 use lib.Dec.{eqb, leb}
-use Rattle.queue_model.specs.Logic.{if◌then◌else◌}
+use Rattle.std.specs.Prelude.{if◌then◌else◌}
 use Rattle.queue_model.specs.Types.{Item, Counters, Stream, Weight, round_robin, weighted, Active, Scheduler, Queue, Event, fragment, Step, refuse, reply, remaining, expired}
 use Rattle.queue_model.specs.Scheduler.{active_key, find_active, scheduled, moved, forget, remember, remove_stream, set_bytes_remaining, least_of, or_else, remembered, peek, accept_last, accept_part, accept}
 use Rattle.queue_model.specs.Streams.{stream_key, find_stream, put_stream, weight_of, waiting}

@@ -6,7 +6,8 @@ use mathlib.Core.Option.{Option, none, some}
 use Prim.Native.Nat.{ℕ}
 use native.Mathlib.Omega.{arith}
 use lib.Dec.{eqb, eqb→eq}
-use Rattle.queue_model.specs.Logic.{if◌then◌else◌, any}
+use Rattle.std.specs.Prelude.{if◌then◌else◌}
+use Rattle.queue_model.specs.Logic.{any}
 use Rattle.queue_model.specs.Types.{Active, Scheduler, Queue, Outcome, Step}
 use Rattle.queue_model.specs.Scheduler.{active_key, find_active, comes_before, least, least_of}
 use Rattle.queue_model.specs.Produce.{produce}

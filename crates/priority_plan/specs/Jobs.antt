@@ -1,7 +1,7 @@
 -- A job: priorities that are set on a new interleaving queue before its messages are added, and what comes after. Assumes nothing.
 use Rattle.std.specs.Prelude.{◌≡◌, Bool, true, false, List, [], ◌∷◌, map, ℕ, eqb, length}
 use Rattle.std.proofs.Math.Option.{Option, none, some}
-use Rattle.queue_model.specs.Logic.{if◌then◌else◌}
+use Rattle.std.specs.Prelude.{if◌then◌else◌}
 use Rattle.queue_model.specs.Types.{Options, Queue, Message, done, Outcome}
 use Rattle.queue_model.specs.Streams.{new_queue}
 use Rattle.queue_model.specs.Run.{Call, add, produce, set_priority, set_interleaving, run, after}

@@ -1,6 +1,6 @@
 -- The least set, computed. Assumes nothing.
 use Rattle.std.specs.Prelude.{List, [], ◌∷◌, ℕ, suc, ◌+◌, ◌*◌, ◌/◌, min, ltb}
-use Rattle.queue_model.specs.Logic.{if◌then◌else◌}
+use Rattle.std.specs.Prelude.{if◌then◌else◌}
 use Rattle.priority_plan.specs.Works.{PlannedStream, first_entry}
 
 -- "the payload limit is outside 1 to 65,535".

@@ -1,7 +1,8 @@
 -- What the planner's call answers. Assumes nothing.
 use Rattle.std.specs.Prelude.{Bool, List, [], ◌∷◌, ◌++◌, ℕ, ◌-◌, ltb, length, replicate}
 use Rattle.std.proofs.Math.Option.{Option, none, some}
-use Rattle.queue_model.specs.Logic.{if◌then◌else◌, any}
+use Rattle.std.specs.Prelude.{if◌then◌else◌}
+use Rattle.queue_model.specs.Logic.{any}
 use Rattle.queue_model.specs.Refusals.{Check, ◌when◌, first_refusal, limit_wrong}
 use Rattle.queue_streams.specs.declared.answers.Call.TheVariants.{Accepted, Refused}
 use Rattle.priority_plan.specs.declared.plan.PlannedPriorities.{PlannedPriorities}

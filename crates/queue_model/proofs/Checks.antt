@@ -6,7 +6,8 @@ use mathlib.Core.Option.{Option, none, some}
 use Prim.Native.Nat.{ℕ, ◌≤◌, ◌<◌}
 use native.Mathlib.Omega.{arith}
 use lib.Dec.{ltb, leb, nltb→le, nleb→lt}
-use Rattle.queue_model.specs.Logic.{if◌then◌else◌, is_nil}
+use Rattle.std.specs.Prelude.{if◌then◌else◌}
+use Rattle.queue_model.specs.Logic.{is_nil}
 use Rattle.queue_model.specs.Types.{Queue, refused, done, Step, refuse, reply}
 use Rattle.queue_model.specs.Refusals.{Check, ◌when◌, first_refusal, refused_or, checked}
 use Rattle.queue_model.specs.Image.{Handover}

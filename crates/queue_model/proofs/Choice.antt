@@ -6,7 +6,7 @@ use mathlib.Core.Option.{some}
 use Prim.Native.Nat.{ℕ, ◌≤◌, ◌<◌}
 use native.Mathlib.Omega.{arith}
 use lib.Dec.{ltb, eqb}
-use Rattle.queue_model.specs.Logic.{if◌then◌else◌}
+use Rattle.std.specs.Prelude.{if◌then◌else◌}
 use Rattle.queue_model.specs.Types.{Active}
 use Rattle.queue_model.specs.Scheduler.{active_key, find_active, comes_before, earlier, least, least_of}
 use Rattle.queue_model.proofs.Tests.{ltb_true, ltb_false, eqb_true, eqb_false, less, same, more, tri}

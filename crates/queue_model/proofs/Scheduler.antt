@@ -4,7 +4,7 @@ use mathlib.Core.Bool.{Bool}
 use mathlib.Core.List.{List, [], ◌∷◌}
 use Prim.Native.Nat.{ℕ, zero, suc, ◌<◌}
 use native.Mathlib.Omega.{arith}
-use Rattle.queue_model.specs.Logic.{if◌then◌else◌}
+use Rattle.std.specs.Prelude.{if◌then◌else◌}
 use Rattle.queue_model.specs.Types.{Stream, Weight, Scheduler}
 use Rattle.queue_model.specs.Scheduler.{scheduled, find_active, put_active, remove_stream, start_of, set_bytes_remaining}
 use Rattle.queue_model.specs.Streams.{weight_of, head_size, reschedule, reschedule_each}

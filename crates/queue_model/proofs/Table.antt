@@ -8,7 +8,7 @@ use Prim.Native.Nat.{ℕ, suc, ◌+◌, ◌≤◌, ◌<◌}
 use native.Mathlib.Omega.{arith}
 use lib.Dec.{eqb}
 use lib.ListN.{length}
-use Rattle.queue_model.specs.Logic.{if◌then◌else◌}
+use Rattle.std.specs.Prelude.{if◌then◌else◌}
 use Rattle.queue_model.specs.Table.{find, put, without, sum_by}
 pub use Rattle.queue_model.specs.Table.{Every, After, Rising}
 use Rattle.queue_model.proofs.Tests.{ltb_true, ltb_false, eqb_true, eqb_false, less, same, more, tri}

@@ -2,7 +2,7 @@
 -- Assumes nothing.
 use Rattle.std.specs.Prelude.{ℕ, suc, ◌+◌, ◌-◌, true, false, List, [], ◌∷◌, ◌≡◌, refl, eqb, length}
 use Rattle.std.proofs.Math.Option.{Option, none, some}
-use Rattle.queue_model.specs.Logic.{if◌then◌else◌}
+use Rattle.std.specs.Prelude.{if◌then◌else◌}
 use Rattle.queue_model.specs.Close.{closing_bytes}
 use Rattle.queue_model.specs.Table.{find}
 use Rattle.queue_model.specs.Types.{Item, Active, Options, Queue, Answer, refused, done, number, flag, ids, fragment, nothing_waits, filled, remaining}

@@ -1,6 +1,6 @@
 -- Amounts that fall, and the events that this fires. Document 01, "Amounts and events". Assumes nothing.
 use Rattle.std.specs.Prelude.{ℕ, zero, suc, ◌-◌, ◌&&◌, List, [], ◌∷◌, ◌++◌, ltb, leb}
-use Rattle.queue_model.specs.Logic.{if◌then◌else◌}
+use Rattle.std.specs.Prelude.{if◌then◌else◌}
 use Rattle.queue_model.specs.Types.{Item, Stream, Options, Queue, Event, remaining}
 
 -- "Low fires when an amount goes from above its threshold to at or below it" (Rust: SubAssign of ThresholdWatcher), and tells the new amount: "the

@@ -1,7 +1,7 @@
 -- What is read off an answer: whether it is a refusal and which, the fragment in it, its number, its values. Assumes nothing.
 use Rattle.std.specs.Prelude.{ℕ, Bool, true, false, List, [], ◌∷◌, eqb, length}
 use Rattle.std.proofs.Math.Option.{Option, none, some}
-use Rattle.queue_model.specs.Logic.{if◌then◌else◌}
+use Rattle.std.specs.Prelude.{if◌then◌else◌}
 use Rattle.queue_model.specs.Types.{Fragment, Answer, refused, done, number, flag, ids, fragment, nothing_waits, filled, Outcome}
 use Rattle.queue_model.specs.Refusals.{Creation, not_created, new}
 use Rattle.queue_model.specs.Image.{Saving, not_saved, saved_as_lem}

@@ -4,7 +4,7 @@
 use Rattle.std.specs.Prelude.{ℕ, Bool, true, false, List, [], ◌∷◌, ◌++◌, ◌≡◌, eqb}
 use Rattle.std.proofs.Math.Option.{Option, none, some}
 use Rattle.types.specs.Wrap.{wrap_suc}
-use Rattle.queue_model.specs.Logic.{if◌then◌else◌}
+use Rattle.std.specs.Prelude.{if◌then◌else◌}
 use Rattle.queue_model.specs.Table.{find}
 use Rattle.queue_model.specs.Types.{Item, PauseState, not_paused, pending, paused, resetting, Counters, Stream, Options, Queue, Message, expired, with_numbers}
 use Rattle.queue_model.specs.Streams.{stream_at, zero_counters, new_queue}

@@ -1,6 +1,6 @@
 -- The bytes of chunks on the wire (document 02, 1/13). Assumes nothing.
 use Rattle.std.specs.Prelude.{ℕ, ◌+◌, ◌-◌, ◌%◌, Bool, true, false, List, [], ◌∷◌, ◌++◌, length, replicate}
-use Rattle.queue_model.specs.Logic.{if◌then◌else◌}
+use Rattle.std.specs.Prelude.{if◌then◌else◌}
 use Rattle.queue_model.specs.Bytes.{row_bytes}
 
 -- What a chunk can carry beside its payload.

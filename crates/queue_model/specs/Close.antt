@@ -1,6 +1,6 @@
 -- Closing a stream (Rust: prepare_reset_stream). Document 01, "Closing and restarting streams". Assumes nothing.
 use Rattle.std.specs.Prelude.{ℕ, ◌-◌, Bool, List, [], ◌∷◌, ◌++◌, eqb}
-use Rattle.queue_model.specs.Logic.{if◌then◌else◌}
+use Rattle.std.specs.Prelude.{if◌then◌else◌}
 use Rattle.queue_model.specs.Table.{find, put, sum_by}
 use Rattle.queue_model.specs.Types.{Item, PauseState, not_paused, pending, paused, resetting, Stream, Scheduler, Options, Queue, Event, done, Step, reply, remaining, with_items, model_with_pause, with_state}
 use Rattle.queue_model.specs.Scheduler.{remove_stream}

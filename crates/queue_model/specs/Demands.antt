@@ -2,7 +2,7 @@
 use Rattle.std.specs.Prelude.{◌≡◌, ◌↔◌, Bool, true, false, not, ◌&&◌, List, [], ◌∷◌, ℕ, ◌≤◌, ◌<◌, ◌^◌, T, eqb}
 use Rattle.std.proofs.Math.Option.{none, get_or}
 use Rattle.std.proofs.Math.Pow.{are_bytes}
-use Rattle.queue_model.specs.Logic.{if◌then◌else◌}
+use Rattle.std.specs.Prelude.{if◌then◌else◌}
 use Rattle.queue_model.specs.Types.{Stream, Options, Queue, Message, Packet, done, reply}
 use Rattle.queue_model.specs.Streams.{has_items, new_queue}
 use Rattle.queue_model.specs.Refusals.{max_time, create_refusal}

@@ -1,6 +1,6 @@
 -- Discarding a message (Rust: discard). Assumes nothing.
 use Rattle.std.specs.Prelude.{ℕ, List, [], ◌∷◌, eqb}
-use Rattle.queue_model.specs.Logic.{if◌then◌else◌}
+use Rattle.std.specs.Prelude.{if◌then◌else◌}
 use Rattle.queue_model.specs.Table.{find}
 use Rattle.queue_model.specs.Types.{Item, Stream, Queue, done, Step, refuse, reply, remaining}
 use Rattle.queue_model.specs.Streams.{find_stream}

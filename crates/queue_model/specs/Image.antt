@@ -1,7 +1,8 @@
 -- The changeover image: its records, its bytes, and saving. Document 01, "The changeover image". Assumes nothing.
 use Rattle.std.specs.Prelude.{ℕ, ◌+◌, ◌-◌, ◌/◌, min, Bool, true, false, ◌&&◌, List, [], ◌∷◌, ◌++◌, map, eqb, length}
 use Rattle.std.proofs.Math.Option.{Option, none, some, get_or}
-use Rattle.queue_model.specs.Logic.{if◌then◌else◌, is_some}
+use Rattle.std.specs.Prelude.{if◌then◌else◌}
+use Rattle.queue_model.specs.Logic.{is_some}
 use Rattle.queue_model.specs.Types.{Item, Stream, Queue}
 use Rattle.queue_model.specs.Refusals.{Check, first_refusal, store_other, time_late, image_long}
 use Rattle.queue_model.specs.Bytes.{row_bytes, Fits}

@@ -1,11 +1,6 @@
--- Branching on a test, and tests on a list. Assumes nothing.
+-- Tests on a list. Assumes nothing.
 use Rattle.std.specs.Prelude.{Bool, true, false, ◌&&◌, ◌||◌, List, [], ◌∷◌, ℕ, ltb}
 use Rattle.std.proofs.Math.Option.{Option, none, some}
-
-infix 5 if◌then◌else◌
-abbrev pub if◌then◌else◌ : {A : Type 0} → Bool → A → A → A
-if true then a else b = a
-if false then a else b = b
 
 -- A number outside a range.
 abbrev pub outside : ℕ → ℕ → ℕ → Bool

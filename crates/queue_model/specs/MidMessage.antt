@@ -3,7 +3,8 @@
 -- image with at most one half-sent message, a half-sent head on a waiting stream means that this stream is remembered". Assumes nothing.
 use Rattle.std.specs.Prelude.{◌≡◌, true, false, List, ℕ, ◌≤◌, ltb}
 use Rattle.std.proofs.Math.Option.{Option, none, some}
-use Rattle.queue_model.specs.Logic.{if◌then◌else◌, is_some}
+use Rattle.std.specs.Prelude.{if◌then◌else◌}
+use Rattle.queue_model.specs.Logic.{is_some}
 use Rattle.queue_model.specs.Table.{sum_by}
 use Rattle.queue_model.specs.Types.{Stream, Options, Queue, done}
 use Rattle.queue_model.specs.Scheduler.{find_active}

@@ -2,7 +2,7 @@
 use Rattle.std.specs.Prelude.{ℕ, zero, suc, ◌+◌, ◌-◌, min, Bool, true, false, List, [], ◌∷◌, ◌++◌, eqb, take, drop}
 use Rattle.std.proofs.Math.Option.{Option, none, some, get_or}
 use Rattle.types.specs.Wrap.{wrap_suc}
-use Rattle.queue_model.specs.Logic.{if◌then◌else◌}
+use Rattle.std.specs.Prelude.{if◌then◌else◌}
 use Rattle.queue_model.specs.Table.{find, put}
 use Rattle.queue_model.specs.Types.{Item, PauseState, not_paused, pending, paused, resetting, Counters, Stream, Active, Queue, Event, Fragment, fragment, nothing_waits, Step, refuse, reply, remaining, expired, with_items, model_with_pause, with_counters, with_numbers, with_state}
 use Rattle.queue_model.specs.Scheduler.{remove_stream, set_bytes_remaining, peek, accept}

@@ -1,6 +1,7 @@
 -- "The questions are the calls that only ask". They change nothing. Assumes nothing.
 use Rattle.std.specs.Prelude.{ℕ, Bool, not, ◌&&◌, eqb, ltb, length}
-use Rattle.queue_model.specs.Logic.{if◌then◌else◌, is_some, any}
+use Rattle.std.specs.Prelude.{if◌then◌else◌}
+use Rattle.queue_model.specs.Logic.{is_some, any}
 use Rattle.queue_model.specs.Table.{find}
 use Rattle.queue_model.specs.Types.{Queue}
 use Rattle.queue_model.specs.Scheduler.{peek}

@@ -4,7 +4,8 @@
 -- scheduler's choice is looked at, in Produce. That "a place kept in the state lies outside its table", part of 16, is not said here: the model has no places.)
 use Rattle.std.specs.Prelude.{ℕ, ◌+◌, Bool, not, ◌||◌, List, [], ◌∷◌, eqb, ltb, leb}
 use Rattle.std.proofs.Math.Option.{Option, none, some}
-use Rattle.queue_model.specs.Logic.{if◌then◌else◌, outside, is_nil}
+use Rattle.std.specs.Prelude.{if◌then◌else◌}
+use Rattle.queue_model.specs.Logic.{outside, is_nil}
 use Rattle.queue_model.specs.Types.{Item, Stream, Options, Queue, Step, refuse, remaining}
 use Rattle.queue_model.specs.Streams.{max_messages, too_many, waiting, free_bytes, new_queue}
 

@@ -1,7 +1,8 @@
 -- Restarting streams: ready ids, commit, rollback and the whole-queue reset. Document 01, "Closing and restarting streams". Assumes nothing.
 use Rattle.std.specs.Prelude.{ℕ, ◌+◌, ◌-◌, Bool, true, false, ◌&&◌, ◌||◌, List, [], ◌∷◌, map, ltb, length}
 use Rattle.std.proofs.Math.Option.{none}
-use Rattle.queue_model.specs.Logic.{if◌then◌else◌, any}
+use Rattle.std.specs.Prelude.{if◌then◌else◌}
+use Rattle.queue_model.specs.Logic.{any}
 use Rattle.queue_model.specs.Table.{sum_by}
 use Rattle.queue_model.specs.Types.{Item, not_paused, pending, paused, resetting, Stream, Queue, done, ids, Step, reply, remaining, with_items, model_with_pause, with_counters, with_numbers, with_state}
 use Rattle.queue_model.specs.Streams.{zero_counters, has_items, reschedule_each}

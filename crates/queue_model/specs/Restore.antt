@@ -1,7 +1,8 @@
 -- Restoring an image (Rust: restore_from_state, over the reader of the image). Document 01, "The changeover image". Assumes nothing.
 use Rattle.std.specs.Prelude.{ℕ, ◌+◌, ◌*◌, Bool, true, false, not, ◌&&◌, ◌||◌, List, [], ◌∷◌, map, eqb, ltb, length}
 use Rattle.std.proofs.Math.Option.{Option, none, some}
-use Rattle.queue_model.specs.Logic.{if◌then◌else◌, is_nil, any}
+use Rattle.std.specs.Prelude.{if◌then◌else◌}
+use Rattle.queue_model.specs.Logic.{is_nil, any}
 use Rattle.queue_model.specs.Table.{find, put}
 use Rattle.queue_model.specs.Types.{Item, not_paused, Stream, Scheduler, Options, Queue, done, Step, refuse, reply}
 use Rattle.queue_model.specs.Streams.{max_streams, max_messages, put_stream, at, waiting, occupied, amounts, has_items, reschedule_each, with_message}

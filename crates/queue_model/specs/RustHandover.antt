@@ -5,7 +5,7 @@
 -- nothing to the numbers of a record that was saved.) Assumes nothing.
 use Rattle.std.specs.Prelude.{ℕ, ◌+◌, ◌-◌, ◌*◌, ◌/◌, min, Bool, true, false, List, [], ◌∷◌, ◌++◌, map, ltb, length}
 use Rattle.std.proofs.Math.Option.{Option, none, some, get_or}
-use Rattle.queue_model.specs.Logic.{if◌then◌else◌}
+use Rattle.std.specs.Prelude.{if◌then◌else◌}
 use Rattle.queue_model.specs.Table.{find, put}
 use Rattle.queue_model.specs.Types.{Item, not_paused, Stream, Options, Queue, with_state}
 use Rattle.queue_model.specs.Streams.{put_stream, at, with_message, amounts, has_items, reschedule_each}

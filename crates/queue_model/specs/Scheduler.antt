@@ -1,7 +1,7 @@
 -- The stream scheduler (Rust: tx/stream_scheduler.rs). Document 01, "The next fragment", from "Choice:" on. Assumes nothing.
 use Rattle.std.specs.Prelude.{ℕ, zero, suc, ◌+◌, ◌-◌, ◌*◌, ◌/◌, min, max, Bool, ◌&&◌, ◌||◌, List, [], ◌∷◌, eqb, ltb, leb}
 use Rattle.std.proofs.Math.Option.{Option, none, some}
-use Rattle.queue_model.specs.Logic.{if◌then◌else◌}
+use Rattle.std.specs.Prelude.{if◌then◌else◌}
 use Rattle.queue_model.specs.Table.{find, put, without}
 use Rattle.queue_model.specs.Types.{Weight, round_robin, weighted, Active, Scheduler}
 

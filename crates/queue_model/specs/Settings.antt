@@ -1,6 +1,7 @@
 -- Setting a stream's threshold, a stream's priority, and interleaving. Assumes nothing.
 use Rattle.std.specs.Prelude.{ℕ, Bool, true, ◌&&◌, List, [], ◌∷◌, ltb, leb}
-use Rattle.queue_model.specs.Logic.{if◌then◌else◌, same_bool}
+use Rattle.std.specs.Prelude.{if◌then◌else◌}
+use Rattle.queue_model.specs.Logic.{same_bool}
 use Rattle.queue_model.specs.Table.{find, put}
 use Rattle.queue_model.specs.Types.{Stream, Queue, Event, done, Step, reply, with_priority, with_threshold}
 use Rattle.queue_model.specs.Streams.{stream_at, too_many, know, reschedule_each}

@@ -1,7 +1,8 @@
 -- The known streams of a queue: finding one, counting what waits, and letting a stream wait. Assumes nothing.
 use Rattle.std.specs.Prelude.{ℕ, ◌+◌, ◌-◌, Bool, true, false, not, ◌&&◌, List, [], ◌∷◌, ◌++◌, leb, length}
 use Rattle.std.proofs.Math.Option.{Option, none, some, get_or}
-use Rattle.queue_model.specs.Logic.{if◌then◌else◌, is_some}
+use Rattle.std.specs.Prelude.{if◌then◌else◌}
+use Rattle.queue_model.specs.Logic.{is_some}
 use Rattle.queue_model.specs.Table.{find, put, sum_by}
 use Rattle.queue_model.specs.Types.{Item, not_paused, Counters, Stream, Weight, round_robin, weighted, Scheduler, Options, Queue, remaining, with_items}
 use Rattle.queue_model.specs.Scheduler.{set_bytes_remaining, new_scheduler}

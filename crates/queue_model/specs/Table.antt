@@ -2,7 +2,7 @@
 -- (by stream id). Assumes nothing.
 use Rattle.std.specs.Prelude.{List, [], ◌∷◌, ℕ, ◌+◌, ◌<◌, eqb, ltb}
 use Rattle.std.proofs.Math.Option.{Option, none, some}
-use Rattle.queue_model.specs.Logic.{if◌then◌else◌}
+use Rattle.std.specs.Prelude.{if◌then◌else◌}
 
 -- The row of a key, if there is one.
 unfoldable pub find : {A : Type 0} → (A → ℕ) → ℕ → List A → Option A

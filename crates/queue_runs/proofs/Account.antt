@@ -12,7 +12,7 @@ use Rattle.queue_model.specs.Streams.{stream_key, new_stream, at, stream_at, wai
 use Rattle.queue_model.specs.Questions.{amount_of}
 use Rattle.queue_model.specs.Run as run
 use Rattle.queue_model.specs.Account as model
-use Rattle.queue_model.specs.Logic.{if◌then◌else◌}
+use Rattle.std.specs.Prelude.{if◌then◌else◌}
 use Rattle.queue_model.specs.Answers.{is_refused}
 use Rattle.queue_model.specs.Fill.{filling}
 use Rattle.queue_streams.specs.Events.{places_in}

@@ -4,7 +4,7 @@ use mathlib.Core.List.{List, [], ◌∷◌, ◌++◌}
 use mathlib.Core.Option.{Option, none, some, get_or}
 use Prim.Native.Nat.{ℕ, zero, suc, min}
 use lib.Dec.{eqb}
-use Rattle.queue_model.specs.Logic.{if◌then◌else◌}
+use Rattle.std.specs.Prelude.{if◌then◌else◌}
 use Rattle.queue_model.specs.Types.{Item, PauseState, not_paused, pending, paused, resetting, Stream, Active, Queue, Event, Fragment, Answer, refused, done, number, flag, ids, fragment, nothing_waits, filled, Packet, Outcome, Step, refuse, reply, remaining}
 use Rattle.queue_model.specs.Streams.{find_stream, stream_at, waiting}
 use Rattle.queue_model.specs.Refusals.{Check, first_refusal, refused_or, checked, short_of, short_of_head}

@@ -9,7 +9,7 @@ use lib.ListN.{length}
 use Rattle.types.specs.declared.StreamId.{StreamId}
 use Rattle.queue_words.specs.Flags.{pick}
 use Rattle.queue_words.specs.Header.{is_strict}
-use Rattle.queue_model.specs.Logic.{if◌then◌else◌}
+use Rattle.std.specs.Prelude.{if◌then◌else◌}
 use Rattle.queue_model.specs.Types as plain
 use Rattle.queue_model.specs.Types.{Queue, Outcome, Fragment}
 use Rattle.queue_model.specs.Answers.{fragments_in, of_stream}

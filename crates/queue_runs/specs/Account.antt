@@ -1,7 +1,7 @@
 -- The account of a stream's bytes (request 11/13, first half), of the code's calls and of what they show, on the words that they leave. Assumes nothing.
 use Rattle.std.specs.Prelude.{ℕ, zero, suc, ◌+◌, ◌^◌, ◌≡◌, List, [], ◌∷◌, length}
 use Rattle.types.specs.Keys.{key_id}
-use Rattle.queue_model.specs.Logic.{if◌then◌else◌}
+use Rattle.std.specs.Prelude.{if◌then◌else◌}
 use Rattle.queue_model.specs.Table.{find}
 use Rattle.queue_model.specs.Streams.{stream_at, waiting}
 use Rattle.queue_model.specs.Close.{closing_bytes}

@@ -11,7 +11,7 @@ use lib.ListN.{length}
 use Rattle.queue_words.specs.Header.{totals_at, scheduler_at}
 use Rattle.queue_words.specs.Known.{id_at}
 use Rattle.queue_words.proofs.Laws.{known_at_fits}
-use Rattle.queue_model.specs.Logic.{if◌then◌else◌}
+use Rattle.std.specs.Prelude.{if◌then◌else◌}
 use Rattle.queue_model.specs.Table.{find}
 use Rattle.queue_model.specs.Types.{Stream, Queue, Active, Scheduler, Weight, round_robin}
 use Rattle.queue_model.specs.Types as plain

@@ -7,7 +7,7 @@ use native.Mathlib.Omega.{arith}
 use lib.Dec.{eqb, ltb}
 use lib.ListN.{length}
 use borrow.Author.Tests.{ltb-true, eqb-true}
-use Rattle.queue_model.specs.Logic.{if◌then◌else◌}
+use Rattle.std.specs.Prelude.{if◌then◌else◌}
 use Rattle.queue_model.specs.Chunks.{chunk_type, padded}
 use Rattle.big_endian.specs.Numbers.{number_at}
 use Rattle.receiver_model.proofs.Lists.{Value, yes_is, no_is, value}

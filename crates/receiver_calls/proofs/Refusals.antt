@@ -13,7 +13,7 @@ use Rattle.chunks.specs.declared.chunk.ChunkKind.{ChunkKind}
 use Rattle.chunks.specs.declared.chunk.ChunkKind.TheVariants as kind
 use Rattle.chunks.specs.declared.chunk.ChunkRead.{ChunkRead}
 use Rattle.chunks.specs.declared.chunk.ChunkRead.TheVariants as read
-use Rattle.queue_model.specs.Logic.{if◌then◌else◌}
+use Rattle.std.specs.Prelude.{if◌then◌else◌}
 use Rattle.queue_model.specs.Chunks.{chunk_type, padded}
 use Rattle.big_endian.specs.Numbers.{number_at}
 use Rattle.chunks.specs.Layout.{header_size}

@@ -7,7 +7,8 @@ use Prim.Native.Nat.{ℕ, ◌≤◌, ◌<◌, min}
 use native.Mathlib.Omega.{arith}
 use lib.Dec.{eqb}
 use lib.ListN.{length}
-use Rattle.queue_model.specs.Logic.{if◌then◌else◌, same_bool}
+use Rattle.std.specs.Prelude.{if◌then◌else◌}
+use Rattle.queue_model.specs.Logic.{same_bool}
 use Rattle.queue_model.specs.Types as queue
 use Rattle.queue_model.specs.Types.{Item, PauseState, not_paused, pending, paused, resetting, Stream, Active, Scheduler, Options, Queue, Event, done, fragment, Step, refuse, reply, remaining, expired, model_with_pause, with_priority, with_threshold, with_state}
 use Rattle.queue_model.specs.Scheduler.{peek}

@@ -10,7 +10,8 @@ use lib.Dec.{eqb, ltb, ltb→lt}
 use lib.ListN.{length}
 use borrow.Author.Tests.{not-false}
 use Rattle.types.specs.Wrap.{wrap_suc}
-use Rattle.queue_model.specs.Logic.{if◌then◌else◌, any}
+use Rattle.std.specs.Prelude.{if◌then◌else◌}
+use Rattle.queue_model.specs.Logic.{any}
 use Rattle.queue_model.specs.Refusals.{◌when◌, first_refusal}
 use Rattle.queue_model.proofs.Tests.{eqb_true, holds, less, same, more, tri}
 use Rattle.queue_model.proofs.Checks.{not_less}

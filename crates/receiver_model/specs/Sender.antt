@@ -3,7 +3,7 @@
 -- numbered its TSNs consecutively from the starting TSN". Assumes nothing.
 use Rattle.std.specs.Prelude.{ℕ, suc, ◌+◌, ◌%◌, ◌^◌, ◌≤◌, ◌<◌, ◌≡◌, Bool, true, false, not, ◌&&◌, List, [], ◌∷◌, ◌++◌, map, eqb, length, get_or}
 use Rattle.std.proofs.Math.Option.{none}
-use Rattle.queue_model.specs.Logic.{if◌then◌else◌}
+use Rattle.std.specs.Prelude.{if◌then◌else◌}
 use Rattle.queue_model.specs.Types as queue
 use Rattle.queue_model.specs.Types.{Fragment, Options, Queue, refused, done, number, flag, ids, fragment, nothing_waits, filled}
 use Rattle.queue_model.specs.Streams.{new_queue, waiting}

@@ -6,7 +6,7 @@ use mathlib.Core.Option.{Option, none, some}
 use Prim.Native.Nat.{ℕ, suc}
 use lib.Dec.{eqb, ltb}
 use lib.ListN.{length}
-use Rattle.queue_model.specs.Logic.{if◌then◌else◌}
+use Rattle.std.specs.Prelude.{if◌then◌else◌}
 use Rattle.queue_model.specs.Refusals.{first_refusal, ◌when◌}
 use Rattle.receiver_model.specs.Types.{Kind, Chunk, Assembled, Receiver, Answer, refused, accepted, repeated, none_ready, fetched, Step, reply}
 use Rattle.receiver_model.specs.Tsn.{is_far}

@@ -11,7 +11,7 @@ use lib.Dec.{ltb}
 use lib.ListN.{length, take, drop, get_or}
 use lib.Seq.{take-append_seam}
 use Rattle.types.specs.declared.StreamId.{StreamId}
-use Rattle.queue_model.specs.Logic.{if◌then◌else◌}
+use Rattle.std.specs.Prelude.{if◌then◌else◌}
 use Rattle.queue_model.specs.Types.{Fragment}
 use Rattle.queue_model.specs.Chunks.{padded}
 use Rattle.queue_sending.specs.declared.data.DataToSend.{DataToSend}

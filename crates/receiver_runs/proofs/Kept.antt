@@ -7,7 +7,7 @@ use Prim.Native.Nat.{ℕ}
 use borrow.Author.Tests.{eqb-true}
 use lib.Dec.{eqb, ltb}
 use lib.ListN.{length}
-use Rattle.queue_model.specs.Logic.{if◌then◌else◌}
+use Rattle.std.specs.Prelude.{if◌then◌else◌}
 use Rattle.queue_model.specs.Refusals.{first_refusal, ◌when◌}
 use Rattle.receiver_model.specs.Types.{Chunk, Assembled, Receiver, refused, accepted, repeated, fetched, Step, reply}
 use Rattle.receiver_model.specs.Receive as model

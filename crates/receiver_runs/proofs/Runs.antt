@@ -6,7 +6,8 @@ use mathlib.Core.Option.{Option, none, some}
 use Prim.Native.Nat.{ℕ}
 use native.Mathlib.Omega.{arith}
 use lib.ListN.{length}
-use Rattle.queue_model.specs.Logic.{if◌then◌else◌, outside}
+use Rattle.std.specs.Prelude.{if◌then◌else◌}
+use Rattle.queue_model.specs.Logic.{outside}
 use Rattle.queue_model.specs.Refusals.{first_refusal}
 use Rattle.receiver_model.specs.Types as model
 use Rattle.receiver_model.specs.Types.{Receiver}

@@ -7,7 +7,8 @@ use Prim.Native.Nat.{ℕ, zero, suc, ◌-◌, min}
 use native.Mathlib.Omega.{arith}
 use lib.Dec.{eqb}
 use borrow.Author.Tests.{not-false}
-use Rattle.queue_model.specs.Logic.{if◌then◌else◌, is_nil, same_bool}
+use Rattle.std.specs.Prelude.{if◌then◌else◌}
+use Rattle.queue_model.specs.Logic.{is_nil, same_bool}
 use Rattle.queue_model.specs.Types.{Item, Packet, PauseState, not_paused, pending, paused, resetting, Stream, Active, Options, Queue, Event, Message, done, Step, remaining, expired, with_items, model_with_pause, with_threshold, with_priority, refuse, reply}
 use Rattle.queue_model.specs.Scheduler.{peek}
 use Rattle.queue_model.specs.Streams.{find_stream, put_stream, stream_at, waiting, stream_key, at, with_message, know}

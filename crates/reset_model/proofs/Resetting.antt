@@ -5,7 +5,7 @@ use mathlib.Core.List.{List, [], ◌∷◌, map}
 use mathlib.Core.Option.{none, some}
 use Prim.Native.Nat.{ℕ}
 use native.Mathlib.Omega.{arith}
-use Rattle.queue_model.specs.Logic.{if◌then◌else◌}
+use Rattle.std.specs.Prelude.{if◌then◌else◌}
 use Rattle.queue_model.specs.Types.{PauseState, resetting, Stream, Options, model_with_pause}
 use Rattle.queue_model.specs.Streams.{find_stream, put_stream, new_stream, at, stream_key}
 use Rattle.queue_model.specs.Reset.{is_paused, is_resetting, paused_ids, paused_to_resetting, opened, reopened, reset_stream}

@@ -2,7 +2,7 @@
 use Rattle.std.specs.Prelude.{ℕ, List, [], ◌∷◌, eqb, ltb, length}
 use Rattle.std.proofs.Math.Option.{Option, none, some}
 use Rattle.types.specs.Wrap.{wrap_suc}
-use Rattle.queue_model.specs.Logic.{if◌then◌else◌}
+use Rattle.std.specs.Prelude.{if◌then◌else◌}
 use Rattle.queue_model.specs.Types as queue
 use Rattle.queue_model.specs.Types.{Queue, Stream}
 use Rattle.queue_model.specs.Reset.{is_resetting, paused_ids}

@@ -3,7 +3,8 @@ use Rattle.std.specs.Prelude.{ℕ, ◌+◌, ◌*◌, Bool, List, [], ◌∷◌, 
 use Rattle.std.proofs.Math.Option.{Option, none, some}
 use Rattle.queue_model.specs.Bytes.{number_bytes, row_bytes}
 use Rattle.queue_model.specs.Chunks.{padding, padded}
-use Rattle.queue_model.specs.Logic.{if◌then◌else◌, all_true, only_if, and_then}
+use Rattle.std.specs.Prelude.{if◌then◌else◌}
+use Rattle.queue_model.specs.Logic.{all_true, only_if, and_then}
 use Rattle.big_endian.specs.Numbers.{number_at}
 
 -- "RE-CONFIG is chunk type 130".

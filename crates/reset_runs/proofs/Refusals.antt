@@ -9,7 +9,7 @@ use borrow.Author.Tests.{eqb-true}
 use lib.Dec.{eqb, ltb}
 use lib.ListN.{length}
 use Rattle.queue_words.specs.Flags.{pick}
-use Rattle.queue_model.specs.Logic.{if◌then◌else◌}
+use Rattle.std.specs.Prelude.{if◌then◌else◌}
 use Rattle.queue_streams.specs.Answers.{call_number, number_number}
 use Rattle.queue_streams.specs.Restart.{reopen}
 use Rattle.queue_streams.specs.declared.answers.Call.{Call}

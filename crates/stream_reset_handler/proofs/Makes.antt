@@ -13,7 +13,7 @@ use Rattle.queue_model.specs.Types.{Queue}
 use Rattle.queue_model.specs.Types as queue
 use Rattle.queue_model.specs.Calls
 use Rattle.queue_model.specs.Run as run
-use Rattle.queue_model.specs.Logic.{if◌then◌else◌}
+use Rattle.std.specs.Prelude.{if◌then◌else◌}
 use Rattle.queue_model.specs.Reset.{paused_ids}
 use Rattle.queue_model.proofs.Tests.{holds}
 use Rattle.send_queue.specs.Number.{Number}

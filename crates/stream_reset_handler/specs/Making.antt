@@ -2,7 +2,7 @@
 use Rattle.std.specs.Prelude.{ℕ, ◌≡◌, List, eqb, ltb, length, take}
 use Rattle.types.specs.Wrap.{wrap_suc}
 use Rattle.big_endian.specs.Numbers.{wrote}
-use Rattle.queue_model.specs.Logic.{if◌then◌else◌}
+use Rattle.std.specs.Prelude.{if◌then◌else◌}
 use Rattle.send_queue.specs.Number.{Number}
 use Rattle.send_queue.specs.Number as number
 use Rattle.send_queue.specs.ReadyStreams.{ReadyStreams}

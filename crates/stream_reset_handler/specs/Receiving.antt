@@ -1,6 +1,6 @@
 -- What receiving a response and the whole-queue reset promise. Assumes nothing.
 use Rattle.std.specs.Prelude.{ℕ, ◌≡◌, Bool, true, false, List}
-use Rattle.queue_model.specs.Logic.{if◌then◌else◌}
+use Rattle.std.specs.Prelude.{if◌then◌else◌}
 use Rattle.send_queue.specs.Call.{Call}
 use Rattle.send_queue.specs.Call as call
 use Rattle.send_queue.specs.Queue as state

@@ -6,7 +6,7 @@ use mathlib.Core.List.{List}
 use Prim.Native.Nat.{ℕ, zero, suc, ◌≤◌, ◌<◌}
 use native.Mathlib.Omega.{arith}
 use lib.Dec.{eqb, ltb, leb}
-use Rattle.queue_model.specs.Logic.{if◌then◌else◌}
+use Rattle.std.specs.Prelude.{if◌then◌else◌}
 use Rattle.queue_model.proofs.Tests.{holds, ltb_false, leb_true, eqb_false, less, same, more, tri}
 use Rattle.queue_words.specs.Active.{active_at, put_active_words}
 use Rattle.queue_words.specs.Header.{scheduler_at, put_scheduler}

@@ -6,7 +6,7 @@ use mathlib.Core.Option.{Option, none, some}
 use Prim.Native.Nat.{ℕ, suc, ◌-◌, ◌≤◌, ◌<◌}
 use native.Mathlib.Omega.{arith}
 use lib.Dec.{eqb, leb}
-use Rattle.queue_model.specs.Logic.{if◌then◌else◌}
+use Rattle.std.specs.Prelude.{if◌then◌else◌}
 use Rattle.queue_model.specs.Types.{Active}
 use Rattle.queue_model.specs.Scheduler.{moved, scheduled, find_active, put_active, without_active, forget, rest_time, remove_stream, least_of, remembered, or_else, peek, remember, accept_last, accept_part, accept}
 use Rattle.queue_model.proofs.Tests.{ltb_true, ltb_false, leb_false, eqb_true, eqb_false}

@@ -7,7 +7,7 @@ use Prim.Native.Nat.{ℕ, zero, suc, ◌+◌, ◌-◌, ◌≤◌, ◌<◌}
 use native.Mathlib.Omega.{arith}
 use lib.Dec.{eqb, ltb}
 use lib.ListN.{length}
-use Rattle.queue_model.specs.Logic.{if◌then◌else◌}
+use Rattle.std.specs.Prelude.{if◌then◌else◌}
 use Rattle.queue_model.specs.Types.{Weight, Active, Scheduler}
 use Rattle.queue_model.specs.Scheduler.{scheduled, active_key, find_active, put_active, without_active, forget, rest_time, remove_stream, start_of, set_bytes_remaining}
 use Rattle.queue_model.proofs.Tests.{Tri, ltb_true, ltb_false, eqb_true, eqb_false, less, same, more, tri}

@@ -8,7 +8,7 @@ use Prim.Native.Nat.{ℕ, suc, ◌+◌, ◌≤◌, ◌<◌}
 use native.Mathlib.Omega.{arith}
 use lib.Dec.{ltb}
 use lib.ListN.{length}
-use Rattle.queue_model.specs.Logic.{if◌then◌else◌}
+use Rattle.std.specs.Prelude.{if◌then◌else◌}
 use Rattle.queue_model.specs.Types.{Active}
 use Rattle.queue_model.proofs.Tests.{ltb_false, less, same, more, tri}
 use Rattle.queue_words.specs.Active.{active_at, put_active_words, FitsActive, parameters_word}

@@ -5,7 +5,7 @@ use mathlib.Core.List.{List}
 use Prim.Native.Nat.{ℕ, zero, suc, ◌+◌, ◌<◌}
 use native.Mathlib.Omega.{arith}
 use lib.Dec.{eqb}
-use Rattle.queue_model.specs.Logic.{if◌then◌else◌}
+use Rattle.std.specs.Prelude.{if◌then◌else◌}
 use Rattle.queue_model.proofs.Tests.{Tri, eqb_true, eqb_false, less, same, more, tri}
 use Rattle.queue_model.proofs.Choice.{AtMost, sooner, level}
 use Rattle.queue_words.specs.Active.{active_at}

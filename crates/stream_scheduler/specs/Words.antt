@@ -1,6 +1,6 @@
 -- What the scheduler's functions leave in the words, for every input. Assumes nothing.
 use Rattle.std.specs.Prelude.{ℕ, ◌+◌, ◌-◌, Bool, true, false, List, eqb, ltb, leb}
-use Rattle.queue_model.specs.Logic.{if◌then◌else◌}
+use Rattle.std.specs.Prelude.{if◌then◌else◌}
 use Rattle.queue_words.specs.Active.{active_at, put_active_words, parameters_of, parameters_word}
 use Rattle.queue_words.specs.Header.{options_at, scheduler_at, put_scheduler}
 use Rattle.queue_words.specs.declared.active.ActiveStreamInfo.{ActiveStreamInfo}

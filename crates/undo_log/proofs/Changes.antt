@@ -25,7 +25,7 @@ use Rattle.queue_words.specs.declared.items.Item.{Item}
 use Rattle.queue_words.specs.declared.streams.OutgoingStream.{OutgoingStream}
 use Rattle.queue_words.proofs.Rows.{row_put_length, out_get_d}
 use Rattle.active_table.specs.Rows.{seek, seek_from}
-use Rattle.queue_model.specs.Logic.{if◌then◌else◌}
+use Rattle.std.specs.Prelude.{if◌then◌else◌}
 use Rattle.stream_scheduler.specs.Words.{Outcome, outcome, dropped_row, taken_out, remove_stream_words, set_in, set_bytes_remaining_words}
 use Rattle.payload_store.specs.Words.{put_bytes}
 use Rattle.payload_store.specs.Dropping.{drop_code_words, dropped, drop_payload}

@@ -9,7 +9,8 @@ use lib.Dec.{ltb, eqb}
 use lib.ListN.{length, take, drop, length-take, length-drop}
 use borrow.Author.Tests.{not-false}
 use Rattle.types.specs.Wrap.{wrap_suc}
-use Rattle.queue_model.specs.Logic.{same_bool, is_nil, if◌then◌else◌}
+use Rattle.std.specs.Prelude.{if◌then◌else◌}
+use Rattle.queue_model.specs.Logic.{same_bool, is_nil}
 use Rattle.queue_model.specs.Table.{find}
 use Rattle.queue_model.specs.Types.{Item, PauseState, not_paused, pending, paused, resetting, Stream, Active, Scheduler, Options, Queue, Event, Fragment, Packet, Answer, refused, done, fragment, Step, remaining, expired, with_items, model_with_pause, with_threshold, with_priority, with_state, refuse, reply, Message}
 use Rattle.queue_model.specs.Scheduler.{peek, remove_stream}

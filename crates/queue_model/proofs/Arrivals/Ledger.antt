@@ -7,7 +7,8 @@ use mathlib.Core.Option.{Option, none, some, get_or}
 use Prim.Native.Nat.{ℕ, zero, suc, ◌-◌, ◌≤◌, min}
 use native.Mathlib.Omega.{arith}
 use lib.Dec.{ltb, eqb}
-use Rattle.queue_model.specs.Logic.{same_bool, if◌then◌else◌}
+use Rattle.std.specs.Prelude.{if◌then◌else◌}
+use Rattle.queue_model.specs.Logic.{same_bool}
 use Rattle.queue_model.specs.Table.{find}
 use Rattle.queue_model.specs.Types.{Item, PauseState, not_paused, pending, paused, resetting, Stream, Active, Options, Queue, Event, Fragment, Packet, done, fragment, filled, Step, remaining, with_items, model_with_pause, with_threshold, with_priority, refuse, reply, Message}
 use Rattle.queue_model.specs.Streams.{find_stream, new_stream, waiting, know, new_queue, stream_key, at, stream_at, with_message}

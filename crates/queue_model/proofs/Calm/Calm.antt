@@ -8,7 +8,7 @@ use Prim.Native.Nat.{ℕ, suc, ◌+◌, ◌-◌, ◌^◌, ◌≤◌, ◌<◌}
 use native.Mathlib.Omega.{arith}
 use lib.Dec.{eqb}
 use lib.ListN.{length}
-use Rattle.queue_model.specs.Logic.{if◌then◌else◌}
+use Rattle.std.specs.Prelude.{if◌then◌else◌}
 use Rattle.queue_model.specs.Table.{find, sum_by}
 use Rattle.queue_model.specs.Types.{Item, PauseState, not_paused, Stream, Active, Scheduler, Options, Queue, done, Step, remaining, expired, with_items, reply, refuse}
 use Rattle.queue_model.specs.Scheduler.{scheduled, find_active, put_active, without_active, forget, rest_time, remove_stream, start_of, set_bytes_remaining}

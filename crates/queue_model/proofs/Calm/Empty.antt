@@ -9,7 +9,8 @@ use native.Mathlib.Omega.{arith}
 use lib.Dec.{leb, eqb}
 use lib.ListN.{length}
 use Rattle.types.specs.Wrap.{wrap_suc}
-use Rattle.queue_model.specs.Logic.{is_some, if◌then◌else◌}
+use Rattle.std.specs.Prelude.{if◌then◌else◌}
+use Rattle.queue_model.specs.Logic.{is_some}
 use Rattle.queue_model.specs.Table.{find}
 use Rattle.queue_model.specs.Types.{Item, PauseState, Counters, Stream, Scheduler, Options, Queue, Fragment, Answer, refused, done, fragment, Outcome, Step, remaining, with_items, Message, reply, refuse}
 use Rattle.queue_model.specs.Streams.{max_messages, max_streams, find_stream, put_stream, too_many, waiting, payload_bytes, occupied, some_items, has_items, reschedule, amounts, stream_key, at, free_bytes}

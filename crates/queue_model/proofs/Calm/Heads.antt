@@ -8,7 +8,7 @@ use native.Mathlib.Omega.{arith}
 use lib.ListN.{length, take, drop, length-drop}
 use lib.Seq.{length-take-le}
 use Rattle.types.specs.Wrap.{wrap_suc}
-use Rattle.queue_model.specs.Logic.{if◌then◌else◌}
+use Rattle.std.specs.Prelude.{if◌then◌else◌}
 use Rattle.queue_model.specs.Types.{Item, Counters, Stream, Fragment, remaining, with_numbers}
 use Rattle.queue_model.specs.Produce.{Numbered, give_numbers, numbered_in, numbered, make_fragment}
 use Rattle.queue_model.proofs.Tests.{eqb_true}

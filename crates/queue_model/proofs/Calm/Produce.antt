@@ -6,7 +6,7 @@ use mathlib.Core.Option.{Option, none, some, get_or}
 use Prim.Native.Nat.{ℕ, ◌≤◌, min}
 use native.Mathlib.Omega.{arith}
 use lib.Dec.{ltb, eqb}
-use Rattle.queue_model.specs.Logic.{if◌then◌else◌}
+use Rattle.std.specs.Prelude.{if◌then◌else◌}
 use Rattle.queue_model.specs.Types.{Item, Stream, Active, Options, Queue, Event, Fragment, fragment, nothing_waits, Step, remaining, reply, refuse}
 use Rattle.queue_model.specs.Scheduler.{active_key, find_active, scheduled, least, least_of, earlier, remembered, or_else, peek}
 use Rattle.queue_model.specs.Streams.{find_stream, head_size, waiting, stream_key}

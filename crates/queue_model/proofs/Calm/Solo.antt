@@ -6,7 +6,7 @@ use mathlib.Core.Option.{Option, none, some}
 use Prim.Native.Nat.{ℕ, suc, ◌+◌, ◌-◌, ◌≤◌}
 use native.Mathlib.Omega.{arith}
 use lib.ListN.{length}
-use Rattle.queue_model.specs.Logic.{if◌then◌else◌}
+use Rattle.std.specs.Prelude.{if◌then◌else◌}
 use Rattle.queue_model.specs.Table.{sum_by}
 use Rattle.queue_model.specs.Types.{Item, PauseState, not_paused, Stream, Weight, Active, Scheduler, Options, Queue, remaining, with_items, model_with_pause, with_counters, with_state}
 use Rattle.queue_model.specs.Scheduler.{scheduled, forget, rest_time, remove_stream, set_bytes_remaining, moved, least, least_of, remembered, or_else, accept_last, accept_part, accept, active_key}

@@ -7,7 +7,8 @@ use Prim.Native.Nat.{ℕ, zero, suc, ◌+◌, ◌≤◌, ◌<◌}
 use native.Mathlib.Omega.{arith}
 use lib.Dec.{T, ltb, eqb, eqb→eq}
 use lib.ListN.{length}
-use Rattle.queue_model.specs.Logic.{is_nil, if◌then◌else◌, same_bool, any}
+use Rattle.std.specs.Prelude.{if◌then◌else◌}
+use Rattle.queue_model.specs.Logic.{is_nil, same_bool, any}
 use Rattle.queue_model.specs.Table.{sum_by}
 use Rattle.queue_model.specs.Types.{Item, Stream, Weight, Scheduler, Options, Queue, done, reply}
 use Rattle.queue_model.specs.Scheduler.{forget, remove_stream, set_bytes_remaining, new_scheduler}

@@ -6,7 +6,7 @@ use mathlib.Core.Option.{Option, get_or}
 use Prim.Native.Nat.{ℕ, zero, suc, ◌+◌, ◌^◌, ◌≤◌, ◌<◌}
 use native.Mathlib.Omega.{arith}
 use lib.ListN.{length}
-use Rattle.queue_model.specs.Logic.{if◌then◌else◌}
+use Rattle.std.specs.Prelude.{if◌then◌else◌}
 use Rattle.queue_model.specs.Types.{Item, Stream, Options}
 use Rattle.queue_model.specs.Streams.{new_stream, stream_key, at}
 use Rattle.queue_model.specs.Image.{StreamRecord, MessageRecord, plain, stream_record, stream_records, message_record, message_records}

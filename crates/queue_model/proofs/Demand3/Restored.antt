@@ -7,7 +7,8 @@ use Prim.Native.Nat.{ℕ, zero, suc, ◌+◌, ◌*◌, ◌^◌, ◌≤◌, ◌<�
 use native.Mathlib.Omega.{arith}
 use lib.Dec.{T, ltb, leb, eqb, leb→le, ltb→lt, eqb→eq}
 use lib.ListN.{length}
-use Rattle.queue_model.specs.Logic.{all_true, implies, if◌then◌else◌, is_some}
+use Rattle.std.specs.Prelude.{if◌then◌else◌}
+use Rattle.queue_model.specs.Logic.{all_true, implies, is_some}
 use Rattle.queue_model.specs.Types.{Item, Counters, Stream, Scheduler, Options, Queue, expired}
 use Rattle.queue_model.specs.Streams.{put_stream, new_stream, amounts, stream_key, at, with_message}
 use Rattle.queue_model.specs.Refusals.{max_payload}

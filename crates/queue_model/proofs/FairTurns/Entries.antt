@@ -6,7 +6,7 @@ use mathlib.Core.Option.{Option, none, some}
 use Prim.Native.Nat.{ℕ, zero, suc, ◌+◌, ◌-◌, ◌*◌, ◌/◌, ◌≤◌, ◌<◌, min, max}
 use native.Mathlib.Omega.{arith}
 use native.Mathlib.Nat.{div-mul-le_self, le-div_iff_mul-le, div-lt_iff_lt-mul}
-use Rattle.queue_model.specs.Logic.{if◌then◌else◌}
+use Rattle.std.specs.Prelude.{if◌then◌else◌}
 use Rattle.queue_model.specs.Types.{Weight, weighted, Active, Scheduler}
 use Rattle.queue_model.specs.Scheduler.{saturating, cost, moved, scheduled, active_key, find_active, without_active, forget, rest_time, remove_stream, start_of, set_bytes_remaining, least, least_of, or_else, remembered, peek, remember, accept_last, accept_part, accept}
 use Rattle.queue_model.specs.Refusals.{max_word}

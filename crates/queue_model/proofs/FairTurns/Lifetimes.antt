@@ -6,7 +6,8 @@ use mathlib.Core.Option.{Option, none, some}
 use Prim.Native.Nat.{ℕ, ◌-◌, min}
 use native.Mathlib.Omega.{arith}
 use lib.Dec.{eqb, eqb→eq}
-use Rattle.queue_model.specs.Logic.{if◌then◌else◌, any}
+use Rattle.std.specs.Prelude.{if◌then◌else◌}
+use Rattle.queue_model.specs.Logic.{any}
 use Rattle.queue_model.specs.Types.{Item, Counters, Stream, Active, Queue, Message, done, Step, remaining, expired, reply, with_items, with_counters, model_with_pause}
 use Rattle.queue_model.specs.Streams.{stream_key, stream_at, amounts, with_message}
 use Rattle.queue_model.specs.Questions.{is_empty}

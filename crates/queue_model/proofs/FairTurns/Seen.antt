@@ -5,7 +5,7 @@ use mathlib.Core.List.{List, [], ◌∷◌, ◌++◌}
 use mathlib.Core.Option.{Option, some, get_or}
 use Prim.Native.Nat.{ℕ, ◌-◌, ◌<◌, min}
 use lib.Dec.{eqb, ltb}
-use Rattle.queue_model.specs.Logic.{if◌then◌else◌}
+use Rattle.std.specs.Prelude.{if◌then◌else◌}
 use Rattle.queue_model.specs.Types.{Item, PauseState, not_paused, Stream, Active, Options, Queue, Message, done, Step, remaining, reply, with_items, model_with_pause, with_counters}
 use Rattle.queue_model.specs.Streams.{stream_key, put_stream, find_stream, new_stream, at, stream_at, with_message}
 use Rattle.queue_model.specs.Questions.{amount_of}

@@ -6,7 +6,8 @@ use mathlib.Core.List.{List, [], ◌∷◌}
 use mathlib.Core.Option.{none, some}
 use Prim.Native.Nat.{ℕ, zero, suc, ◌-◌, ◌≤◌, ◌<◌}
 use native.Mathlib.Omega.{arith}
-use Rattle.queue_model.specs.Logic.{if◌then◌else◌, is_some}
+use Rattle.std.specs.Prelude.{if◌then◌else◌}
+use Rattle.queue_model.specs.Logic.{is_some}
 use Rattle.queue_model.specs.Types.{Weight, Active, Scheduler}
 use Rattle.queue_model.specs.Scheduler.{moved, scheduled, active_key, find_active, put_active, without_active, rest_time, remove_stream, start_of, set_bytes_remaining, accept_last, accept_part, accept}
 use Rattle.queue_model.proofs.Tests.{leb_true, leb_false, less, same, more, tri}

@@ -8,7 +8,8 @@ use native.Mathlib.Omega.{arith}
 use lib.Dec.{leb, eqb, eqb→eq}
 use lib.ListN.{length, drop, length-take, length-drop}
 use borrow.Author.Tests.{not-true}
-use Rattle.queue_model.specs.Logic.{if◌then◌else◌, any, is_some}
+use Rattle.std.specs.Prelude.{if◌then◌else◌}
+use Rattle.queue_model.specs.Logic.{any, is_some}
 use Rattle.queue_model.specs.Types.{Item, PauseState, Stream, Weight, weighted, Active, Scheduler, Options, Queue, Event, Message, done, fragment, nothing_waits, Step, remaining, expired, refuse, reply, with_items, model_with_pause, with_counters}
 use Rattle.queue_model.specs.Scheduler.{cost, moved, active_key, find_active, set_bytes_remaining, peek, accept}
 use Rattle.queue_model.specs.Streams.{stream_key, find_stream, put_stream, new_stream, at, stream_at, waiting, has_items, head_size, weight_of, reschedule, with_message}

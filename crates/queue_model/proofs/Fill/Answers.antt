@@ -6,7 +6,7 @@ use mathlib.Core.Option.{Option, none, some, get_or}
 use Prim.Native.Nat.{ℕ, zero, suc, ◌≤◌, ◌<◌, min}
 use native.Mathlib.Omega.{arith}
 use lib.ListN.{length, drop, length-take, length-drop}
-use Rattle.queue_model.specs.Logic.{if◌then◌else◌}
+use Rattle.std.specs.Prelude.{if◌then◌else◌}
 use Rattle.queue_model.specs.Types.{Item, Stream, Active, Queue, Event, Fragment, Answer, fragment, nothing_waits, Step, remaining, refuse, reply}
 use Rattle.queue_model.specs.Streams.{waiting}
 use Rattle.queue_model.specs.Refusals.{short_of_head}

@@ -7,7 +7,8 @@ use Prim.Native.Nat.{ℕ, ◌+◌, ◌*◌, ◌^◌, ◌≤◌, ◌<◌}
 use native.Mathlib.Omega.{arith}
 use lib.Dec.{T, ltb, leb, eqb, le→leb, lt→ltb}
 use lib.ListN.{length, length-append}
-use Rattle.queue_model.specs.Logic.{all_true, implies, if◌then◌else◌, is_some}
+use Rattle.std.specs.Prelude.{if◌then◌else◌}
+use Rattle.queue_model.specs.Logic.{all_true, implies, is_some}
 use Rattle.queue_model.specs.Types.{Item, Stream, Queue}
 use Rattle.queue_model.specs.Streams.{waiting, payload_bytes, occupied, stream_key}
 use Rattle.queue_model.specs.Refusals.{max_payload}

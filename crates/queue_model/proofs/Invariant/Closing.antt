@@ -7,7 +7,8 @@ use mathlib.Core.Option.{Option, none, some}
 use Prim.Native.Nat.{ℕ, ◌-◌, ◌≤◌, ◌<◌}
 use native.Mathlib.Omega.{arith}
 use lib.Dec.{eqb}
-use Rattle.queue_model.specs.Logic.{if◌then◌else◌, is_some, any}
+use Rattle.std.specs.Prelude.{if◌then◌else◌}
+use Rattle.queue_model.specs.Logic.{is_some, any}
 use Rattle.queue_model.specs.Types.{Item, PauseState, not_paused, pending, paused, resetting, Stream, Active, Options, Queue, refused, done, nothing_waits, Step, remaining, with_items, model_with_pause}
 use Rattle.queue_model.specs.Scheduler.{active_key, find_active, least_of, or_else, remembered, peek}
 use Rattle.queue_model.specs.Streams.{find_stream, put_stream, stream_at, stream_key}

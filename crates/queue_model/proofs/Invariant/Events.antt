@@ -7,7 +7,7 @@ use Prim.Native.Nat.{ℕ, zero, suc, ◌+◌, ◌-◌, ◌*◌, ◌≤◌, ◌<�
 use native.Mathlib.Omega.{arith}
 use lib.Dec.{ltb, leb, eqb, ltb→lt, leb→le}
 use lib.ListN.{length, length-append}
-use Rattle.queue_model.specs.Logic.{if◌then◌else◌}
+use Rattle.std.specs.Prelude.{if◌then◌else◌}
 use Rattle.queue_model.specs.Table.{sum_by}
 use Rattle.queue_model.specs.Types.{Item, PauseState, not_paused, pending, paused, resetting, Counters, Stream, Active, Scheduler, Options, Queue, Event, Fragment, Packet, done, fragment, Step, remaining, expired, with_state, refuse, reply, Message, with_threshold, with_priority}
 use Rattle.queue_model.specs.Scheduler.{peek, remove_stream, accept, set_bytes_remaining}

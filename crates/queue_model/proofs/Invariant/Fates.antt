@@ -11,7 +11,7 @@ use native.Mathlib.Nat.{zero-add, suc-add}
 use lib.Dec.{eqb, eqb→eq}
 use lib.ListN.{take, drop, take-append-drop, length-drop}
 use lib.Seq.{take_all, drop-nil}
-use Rattle.queue_model.specs.Logic.{if◌then◌else◌}
+use Rattle.std.specs.Prelude.{if◌then◌else◌}
 use Rattle.queue_model.specs.Types.{Item, PauseState, not_paused, pending, paused, resetting, Counters, Stream, Active, Queue, Fragment, done, fragment, Step, remaining, expired, refuse, reply}
 use Rattle.queue_model.specs.Streams.{find_stream, stream_key}
 use Rattle.queue_model.specs.Refusals.{first_refusal, refused_or, checked, short_of}

@@ -9,7 +9,8 @@ use native.Mathlib.Omega.{arith}
 use lib.Dec.{eqb}
 use lib.ListN.{length}
 use Rattle.types.specs.Wrap.{wrap_suc}
-use Rattle.queue_model.specs.Logic.{same_bool, any, if◌then◌else◌}
+use Rattle.std.specs.Prelude.{if◌then◌else◌}
+use Rattle.queue_model.specs.Logic.{same_bool, any}
 use Rattle.queue_model.specs.Table.{find}
 use Rattle.queue_model.specs.Types.{Item, PauseState, not_paused, pending, paused, resetting, Counters, Stream, Active, Scheduler, Queue, Answer, refused, done, number, flag, ids, fragment, nothing_waits, filled, Step, remaining, model_with_pause, with_counters, with_priority, with_threshold, with_state, reply, Message}
 use Rattle.queue_model.specs.Scheduler.{remove_stream}

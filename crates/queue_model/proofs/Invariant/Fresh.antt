@@ -6,7 +6,8 @@ use mathlib.Core.List.{List, [], ◌∷◌, map}
 use mathlib.Core.Option.{Option, none, some}
 use Prim.Native.Nat.{ℕ}
 use lib.Dec.{eqb}
-use Rattle.queue_model.specs.Logic.{if◌then◌else◌, same_bool}
+use Rattle.std.specs.Prelude.{if◌then◌else◌}
+use Rattle.queue_model.specs.Logic.{same_bool}
 use Rattle.queue_model.specs.Types.{Item, PauseState, not_paused, pending, paused, resetting, Counters, Stream, Active, Queue, Fragment, Answer, done, Step, remaining, model_with_pause, with_threshold, with_priority, with_numbers, refuse, reply, Message}
 use Rattle.queue_model.specs.Streams.{find_stream, zero_counters, stream_at, stream_key, with_message}
 use Rattle.queue_model.specs.Refusals.{Check, first_refusal, refused_or, checked, short_of}

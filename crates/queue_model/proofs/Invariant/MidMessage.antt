@@ -11,7 +11,8 @@ use lib.ListN.{length}
 use lib.Pow.{are_bytes}
 use borrow.Author.Tests.{not-false}
 use Rattle.types.specs.Wrap.{wrap_suc}
-use Rattle.queue_model.specs.Logic.{if◌then◌else◌, same_bool}
+use Rattle.std.specs.Prelude.{if◌then◌else◌}
+use Rattle.queue_model.specs.Logic.{same_bool}
 use Rattle.queue_model.specs.Table.{sum_by}
 use Rattle.queue_model.specs.Types.{Item, PauseState, not_paused, pending, paused, resetting, Stream, Weight, round_robin, weighted, Active, Scheduler, Options, Queue, done, Step, remaining, with_items, model_with_pause, with_state, with_threshold, with_priority, refuse, reply, Message}
 use Rattle.queue_model.specs.Scheduler.{active_key, find_active, forget, remove_stream, set_bytes_remaining, remembered, least_of, or_else, peek, remember, accept_last, accept_part, accept}

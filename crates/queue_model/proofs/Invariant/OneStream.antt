@@ -8,7 +8,8 @@ use Prim.Native.Nat.{ℕ}
 use native.Mathlib.Omega.{arith}
 use lib.Dec.{eqb}
 use borrow.Author.Tests.{not-false}
-use Rattle.queue_model.specs.Logic.{if◌then◌else◌, same_bool, is_nil}
+use Rattle.std.specs.Prelude.{if◌then◌else◌}
+use Rattle.queue_model.specs.Logic.{same_bool, is_nil}
 use Rattle.queue_model.specs.Types.{Item, PauseState, not_paused, pending, paused, resetting, Stream, Queue, done, Step, with_threshold, with_priority, reply, Message}
 use Rattle.queue_model.specs.Streams.{find_stream, put_stream, stream_at, know, stream_key, with_message}
 use Rattle.queue_model.specs.Refusals.{Check, first_refusal, refused_or, checked}

@@ -7,7 +7,7 @@ use mathlib.Core.Option.{Option, none, some}
 use Prim.Native.Nat.{ℕ, ◌-◌, ◌<◌}
 use native.Mathlib.Omega.{arith}
 use lib.Dec.{eqb}
-use Rattle.queue_model.specs.Logic.{if◌then◌else◌}
+use Rattle.std.specs.Prelude.{if◌then◌else◌}
 use Rattle.queue_model.specs.Types.{Item, PauseState, not_paused, pending, paused, resetting, Stream, Options, Queue, remaining, with_items, model_with_pause}
 use Rattle.queue_model.specs.Scheduler.{active_key, find_active, forget, remove_stream}
 use Rattle.queue_model.specs.Streams.{find_stream, stream_key}

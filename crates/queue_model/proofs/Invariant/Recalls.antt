@@ -5,7 +5,7 @@ use mathlib.Core.List.{List, [], ◌∷◌}
 use mathlib.Core.Option.{Option, none, some, get_or}
 use Prim.Native.Nat.{ℕ, ◌^◌, ◌<◌}
 use native.Mathlib.Omega.{arith}
-use Rattle.queue_model.specs.Logic.{if◌then◌else◌}
+use Rattle.std.specs.Prelude.{if◌then◌else◌}
 use Rattle.queue_model.specs.Types.{Item, Stream, Active, Scheduler}
 use Rattle.queue_model.specs.Scheduler.{scheduled, find_active, start_of, put_active}
 use Rattle.queue_model.specs.Streams.{weight_of, head_size, reschedule, reschedule_each, some_items, has_items}

@@ -9,7 +9,7 @@ use native.Mathlib.Omega.{arith}
 use lib.Dec.{eqb, eqb→eq}
 use lib.ListN.{length}
 use Rattle.types.specs.Wrap.{wrap_suc}
-use Rattle.queue_model.specs.Logic.{if◌then◌else◌}
+use Rattle.std.specs.Prelude.{if◌then◌else◌}
 use Rattle.queue_model.specs.Types.{Item, PauseState, not_paused, pending, paused, resetting, Counters, Stream, Weight, round_robin, weighted, Active, Scheduler, Options, Queue, Event, done, fragment, Step, remaining, expired, with_numbers, with_state, refuse, reply}
 use Rattle.queue_model.specs.Scheduler.{active_key, find_active, scheduled, put_active, set_bytes_remaining, peek, moved, remember, accept_last, accept_part, accept, remove_stream}
 use Rattle.queue_model.specs.Streams.{find_stream, put_stream, at, stream_at, waiting, payload_bytes, head_size, weight_of, reschedule, stream_key}

@@ -8,7 +8,8 @@ use native.Mathlib.Omega.{arith}
 use lib.Dec.{eqb, leb, ltb}
 use borrow.Author.Tests.{lt-leb}
 use lib.ListN.{length}
-use Rattle.queue_model.specs.Logic.{if◌then◌else◌, same_bool, is_some}
+use Rattle.std.specs.Prelude.{if◌then◌else◌}
+use Rattle.queue_model.specs.Logic.{same_bool, is_some}
 use Rattle.queue_model.specs.Types.{Item, PauseState, not_paused, pending, paused, resetting, Stream, Active, Weight, Scheduler, Options, Queue, Event, done, fragment, Step, remaining, expired, with_items, model_with_pause, with_threshold, with_priority, refuse, reply, Message}
 use Rattle.queue_model.specs.Scheduler.{active_key, find_active, put_active, scheduled, start_of, moved, remove_stream, set_bytes_remaining, peek, accept_last, accept_part, accept}
 use Rattle.queue_model.specs.Streams.{find_stream, put_stream, stream_at, waiting, know, stream_key, with_message, some_items, has_items, head_size, weight_of, reschedule, reschedule_each, new_queue}

@@ -6,7 +6,8 @@ use mathlib.Core.Option.{Option, none, some, get_or}
 use Prim.Native.Nat.{ℕ, zero, suc, ◌^◌, ◌≤◌, ◌<◌}
 use native.Mathlib.Omega.{arith}
 use lib.Dec.{eqb}
-use Rattle.queue_model.specs.Logic.{if◌then◌else◌, any}
+use Rattle.std.specs.Prelude.{if◌then◌else◌}
+use Rattle.queue_model.specs.Logic.{any}
 use Rattle.queue_model.specs.Types.{Stream, Weight, Active, Scheduler}
 use Rattle.queue_model.specs.Scheduler.{scheduled, find_active, put_active, without_active, forget, rest_time, remove_stream, start_of, set_bytes_remaining, least, least_of, or_else, remembered, peek, active_key}
 use Rattle.queue_model.specs.Streams.{put_stream, weight_of, head_size, reschedule, reschedule_each, stream_key}
