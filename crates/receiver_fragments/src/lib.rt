@@ -3,6 +3,7 @@
 //
 // Every call takes any words, any store and any fragment; refused, it changes nothing. Words that no receiver has get 16, before the first store.
 #![tactic(auto)]
+
 pub mod answers;
 mod checks;
 pub mod creating;

@@ -1,0 +1,24 @@
+-- `receiver_fragments::holding::index_held` meets its contract: each return is what its definition says, by what the calls ensure and the tests taken.
+-- Assumes nothing.
+use Rattle.receiver_fragments.specs.Holding.{index_held}
+use Rattle.receiver_fragments.proofs.holding.index_held.Goals as goal
+
+pub returns-then-interleaved : goal.returns-then-interleaved
+unfolding index_held
+returns-then-interleaved c =
+    rw (
+      ← c.bucket_of-b.ensures.0,
+      ← c.index_row.ensures,
+      c.if-interleaved.true,
+      ← c.bucket_of-p.ensures.0,
+      ← c.index_row-then-interleaved.ensures,
+    )
+
+pub returns : goal.returns
+unfolding index_held
+returns c =
+    rw (
+      ← c.bucket_of-b.ensures.0,
+      ← c.index_row.ensures,
+      c.if-interleaved.false,
+    )
