@@ -159,4 +159,5 @@ module _ (ws st : List ℕ) (g : Good ws st) where
           let f : HeadFor (streams_in ws st) (entry_at ws at) = head_for (totals_at ws).interleaving (streams_in ws st) (entry_at ws at) (listed_at at p) in
           let c = choice_of at h f (lookup ws st g.shape (entry_at ws at).stream_id) in
           pick_expired at e p c (expired_by (item_at ws c.first) time) refl
+      go peeked.Broken e x = elim x [ ]
       go peeked.Nothing e (none_chosen p) = looks_nothing (unfold look_ahead in rw (← e)) (unfold look look_for in rw (model_schedules ws st, p))

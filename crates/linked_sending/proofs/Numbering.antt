@@ -68,9 +68,9 @@ unfolding numbered_item numbered_stream
 renumbered s m = go (are_given m.numbers) refl m.unordered refl
   where
     go : (a : Bool) → are_given m.numbers ≡ a → (b : Bool) → m.unordered ≡ b → Renumbered s m
-    go true e b f = record { offset_same = rw e; length_same = rw e; next_same = rw e; place_same = rw e; first_same = rw e; last_same = rw e; amount_same = rw e; threshold_same = rw e; priority_same = rw e; state_same = rw e }
-    go false e true f = record { offset_same = rw (e, f); length_same = rw (e, f); next_same = rw (e, f); place_same = rw (e, f); first_same = rw (e, f); last_same = rw (e, f); amount_same = rw (e, f); threshold_same = rw (e, f); priority_same = rw (e, f); state_same = rw (e, f) }
-    go false e false f = record { offset_same = rw (e, f); length_same = rw (e, f); next_same = rw (e, f); place_same = rw (e, f); first_same = rw (e, f); last_same = rw (e, f); amount_same = rw (e, f); threshold_same = rw (e, f); priority_same = rw (e, f); state_same = rw (e, f) }
+    go true e b f = record { offset_same = simp e; length_same = simp e; next_same = simp e; place_same = simp e; first_same = simp e; last_same = simp e; amount_same = simp e; threshold_same = simp e; priority_same = simp e; state_same = simp e }
+    go false e true f = record { offset_same = simp (e, f); length_same = simp (e, f); next_same = simp (e, f); place_same = simp (e, f); first_same = simp (e, f); last_same = simp (e, f); amount_same = simp (e, f); threshold_same = simp (e, f); priority_same = simp (e, f); state_same = simp (e, f) }
+    go false e false f = record { offset_same = simp (e, f); length_same = simp (e, f); next_same = simp (e, f); place_same = simp (e, f); first_same = simp (e, f); last_same = simp (e, f); amount_same = simp (e, f); threshold_same = simp (e, f); priority_same = simp (e, f); state_same = simp (e, f) }
 
 -- A message that has its numbers keeps them, and so does its stream.
 pub numbered_before : (s : OutgoingStream) (m : Item) → are_given m.numbers ≡ true → (numbered_stream s m ≡ s) × (numbered_item s m ≡ m)

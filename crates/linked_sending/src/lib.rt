@@ -1,6 +1,7 @@
 // The next fragment with both promises: what the call leaves on the words, for every input, and that on the words of a queue this
 // is the model's step.
 #![tactic(auto)]
+
 ghost use Rattle.linked_sending.specs.Meaning.{ProduceMeets};
 
 use queue_sending::Produced;
