@@ -1,6 +1,7 @@
 // Adding a message to a queue that its own calls alone have changed. What is left and answered is what the checked call leaves and answers.
 // There is no test for 16, and none of the store's length.
 #![tactic(auto)]
+
 ghost use Rattle.std.specs.Prelude.{◌≡◌};
 ghost use Rattle.queue_messages.specs.Add.{added, add_to};
 ghost use Rattle.queue_state.specs.Good.{Good};
