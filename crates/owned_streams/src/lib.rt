@@ -1,6 +1,7 @@
 // The questions and settings of a queue that its own calls alone have changed: nothing is tested for 16, and a question has no refusal. Each answers and
 // leaves what the checked call does.
 #![tactic(auto)]
+
 pub mod questions;
 pub mod settings;
 

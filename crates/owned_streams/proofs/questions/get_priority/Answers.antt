@@ -1,0 +1,12 @@
+-- `owned_streams::questions::get_priority` meets its contract: the checked call's contract, of the value. Assumes nothing.
+use mathlib.Core.Path.{refl}
+use Rattle.queue_questions.proofs.Exits.{priority_told}
+use Rattle.linked_streams.proofs.Asks.{priority_meets}
+use Rattle.owned_streams.proofs.Own.{own_findable}
+use Rattle.owned_streams.proofs.questions.get_priority.Goals as goal
+
+pub stream_of-s-requires : goal.stream_of-s-requires
+stream_of-s-requires c = own_findable _ c.requires _
+
+pub returns : goal.returns
+returns c = priority_meets _ _ _ (priority_told _ _ _ c.stream_of-s.ensures _ refl)
