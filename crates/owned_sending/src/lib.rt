@@ -1,6 +1,7 @@
 // The next fragment of a queue that its own calls alone have changed. What is left and answered is what the checked call leaves and
 // answers. There is no test for 16, and nothing is kept to be put back: once what is lent is accepted, no refusal follows.
 #![tactic(auto)]
+
 pub mod next_fragment;
 pub mod passing;
 
