@@ -1,6 +1,6 @@
 // The current image: shown, changed, cut or extended.
 use trace_text::hex::put_part;
-use trace_text::output::{Output, put_byte, put_text};
+use trace_text::output::{Answers, put_byte, put_text};
 use trace_text::state::{IMAGE, IMAGE_LENGTH, STATE, low8};
 
 // Where so many bytes from a place on end, clipped to the length.
@@ -15,7 +15,7 @@ fn end_of(from: u64, count: u64, length: u64) -> u64 {
 }
 
 // "shows bytes of the current image, clipped to its end"
-pub fn answer_show(image: &[u8; IMAGE], output: &mut Output, state: &[u64; STATE]) {
+pub fn answer_show(image: &[u8; IMAGE], output: &mut Answers, state: &[u64; STATE]) {
     let from = state[0];
     let end = end_of(from, state[1], state[IMAGE_LENGTH]);
     put_byte(output, b'h');
@@ -30,7 +30,7 @@ fn put_in(image: &mut [u8; IMAGE], at: u64, b: u8) {
 }
 
 // "sets a byte of the current image; past the end, nothing"
-pub fn answer_change(image: &mut [u8; IMAGE], output: &mut Output, state: &[u64; STATE]) {
+pub fn answer_change(image: &mut [u8; IMAGE], output: &mut Answers, state: &[u64; STATE]) {
     let at = state[0];
     if at < state[IMAGE_LENGTH] {
         put_in(image, at, low8(state[1]));
@@ -50,7 +50,7 @@ fn zeros(image: &mut [u8; IMAGE], from: usize, to: usize) {
 }
 
 // "cuts the current image to the length, or extends it with zero bytes"
-pub fn answer_length(image: &mut [u8; IMAGE], output: &mut Output, state: &mut [u64; STATE]) {
+pub fn answer_length(image: &mut [u8; IMAGE], output: &mut Answers, state: &mut [u64; STATE]) {
     zeros(image, state[IMAGE_LENGTH] as usize, state[0] as usize);
     state[IMAGE_LENGTH] = state[0];
     put_text(output, b"l\n");

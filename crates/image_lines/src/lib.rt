@@ -11,7 +11,7 @@ use trace_answers::settle::{
     events_of, refusal_number, refusal_of, settle_image, settle_no_events, settle_store,
     settle_words,
 };
-use trace_text::output::{Output, put_answer, put_broken, put_byte, put_number, put_text};
+use trace_text::output::{Answers, put_answer, put_broken, put_byte, put_number, put_text};
 use trace_text::payload::sum_of;
 use trace_text::state::{IMAGE, IMAGE_LENGTH, LENT_IMAGE, LENT_STORE, LETTER, STATE, STORE, low8};
 
@@ -20,7 +20,7 @@ fn take_image(
     buffer: &[u8; IMAGE],
     image: &mut [u8; IMAGE],
     n: usize,
-    output: &mut Output,
+    output: &mut Answers,
     state: &mut [u64; STATE],
 ) -> usize {
     put_text(output, b"s 0");
@@ -36,7 +36,7 @@ fn take_image(
     n
 }
 
-fn refuse_save(r: u8, output: &mut Output) -> usize {
+fn refuse_save(r: u8, output: &mut Answers) -> usize {
     put_answer(output, b's', refusal_number(r));
     0
 }
@@ -45,7 +45,7 @@ fn put_saved(
     buffer: &[u8; IMAGE],
     image: &mut [u8; IMAGE],
     s: Saved,
-    output: &mut Output,
+    output: &mut Answers,
     state: &mut [u64; STATE],
 ) -> usize {
     match s {
@@ -77,7 +77,7 @@ pub fn answer_save(
     store: &[u8; STORE],
     buffer: &mut [u8; IMAGE],
     image: &mut [u8; IMAGE],
-    output: &mut Output,
+    output: &mut Answers,
     state: &mut [u64; STATE],
 ) {
     mark_bytes(buffer, 2100000);
@@ -110,7 +110,7 @@ pub fn answer_restore(
     store: &mut [u8; STORE],
     kept_store: &mut [u8; STORE],
     image: &[u8; IMAGE],
-    output: &mut Output,
+    output: &mut Answers,
     state: &[u64; STATE],
 ) {
     let c = restore_line(queue, store, image, state);

@@ -18,7 +18,7 @@ use trace_answers::settle::{
     events_of, refusal_number, refusal_of, settle_events, settle_fragment, settle_no_events,
     settle_store, settle_words,
 };
-use trace_text::output::{Output, put_answer, put_broken, put_byte, put_number, put_text};
+use trace_text::output::{Answers, put_answer, put_broken, put_byte, put_number, put_text};
 use trace_text::payload::{fill, sum_of};
 use trace_text::state::{
     CHOICE, COUNT, CREATED_HANDOVER, CREATED_LIMIT, CREATED_PRIORITY, CREATED_RULE, CREATED_STORE,
@@ -73,7 +73,7 @@ pub fn answer_create(
     kept: &mut [u64; QUEUE_WORDS],
     store: &mut [u8; STORE],
     kept_store: &mut [u8; STORE],
-    output: &mut Output,
+    output: &mut Answers,
     state: &mut [u64; STATE],
 ) {
     begin(state);
@@ -90,7 +90,7 @@ pub fn answer_create(
 }
 
 // The arguments of a queue that is there are right, so a queue alike is created, and the choice is never refused.
-fn settle_alike(created: Call, chosen: Call, output: &mut Output) {
+fn settle_alike(created: Call, chosen: Call, output: &mut Answers) {
     if refusal_of(created) > 0 {
         put_broken(output, b"a queue alike is refused");
     }
@@ -105,7 +105,7 @@ pub fn put_alike(
     kept: &mut [u64; QUEUE_WORDS],
     store: &mut [u8; STORE],
     kept_store: &mut [u8; STORE],
-    output: &mut Output,
+    output: &mut Answers,
     state: &mut [u64; STATE],
 ) {
     let n = state[CREATED_STORE] as usize;
@@ -118,7 +118,7 @@ pub fn put_alike(
     settle_alike(created, chosen, output);
 }
 
-pub fn answer_lent(output: &mut Output, state: &mut [u64; STATE]) {
+pub fn answer_lent(output: &mut Answers, state: &mut [u64; STATE]) {
     state[LENT_EVENTS] = state[0];
     state[LENT_FRAGMENT] = state[1];
     state[LENT_IMAGE] = state[2];
@@ -171,7 +171,7 @@ pub fn answer_add(
     store: &mut [u8; STORE],
     kept_store: &mut [u8; STORE],
     payload: &mut [u8; PAYLOAD],
-    output: &mut Output,
+    output: &mut Answers,
     state: &[u64; STATE],
 ) {
     fill_first(payload, state[9] as usize, state[10]);
@@ -197,7 +197,7 @@ struct Wrote {
     bytes: u64,
 }
 
-fn put_produced(fragment: &[u8; PAYLOAD], output: &mut Output, p: Produced) -> Wrote {
+fn put_produced(fragment: &[u8; PAYLOAD], output: &mut Answers, p: Produced) -> Wrote {
     match p {
         Produced::Nothing(n) => {
             put_text(output, b"p 0 0\n");
@@ -258,7 +258,7 @@ pub fn answer_produce(
     store: &[u8; STORE],
     events: &mut [u64; EVENT_BUFFER],
     fragment: &mut [u8; PAYLOAD],
-    output: &mut Output,
+    output: &mut Answers,
     state: &[u64; STATE],
 ) {
     mark_bytes(fragment, 300000);
@@ -291,7 +291,7 @@ pub fn answer_event_call(
     queue: &mut [u64; QUEUE_WORDS],
     kept: &mut [u64; QUEUE_WORDS],
     events: &mut [u64; EVENT_BUFFER],
-    output: &mut Output,
+    output: &mut Answers,
     state: &[u64; STATE],
 ) {
     let letter = low8(state[LETTER]);
@@ -313,7 +313,7 @@ fn keep_choice(state: &mut [u64; STATE], letter: u8) {
 pub fn answer_plain(
     queue: &mut [u64; QUEUE_WORDS],
     kept: &mut [u64; QUEUE_WORDS],
-    output: &mut Output,
+    output: &mut Answers,
     state: &mut [u64; STATE],
 ) {
     let letter = low8(state[LETTER]);
@@ -331,7 +331,7 @@ pub fn answer_plain(
     settle_words(&*queue, kept, refusal, output);
 }
 
-fn put_ids(output: &mut Output, ids: &[u16; 256], count: usize) {
+fn put_ids(output: &mut Answers, ids: &[u16; 256], count: usize) {
     put_text(output, b"g 0");
     put_number(output, count as u64);
     let mut i = 0;
@@ -345,7 +345,7 @@ fn put_ids(output: &mut Output, ids: &[u16; 256], count: usize) {
     put_byte(output, b'\n');
 }
 
-fn put_ready(output: &mut Output, r: ReadyStreams, refusal: u64) {
+fn put_ready(output: &mut Answers, r: ReadyStreams, refusal: u64) {
     if refusal == 0 {
         let ids = r.ids;
         put_ids(output, &ids, r.count);
@@ -355,7 +355,7 @@ fn put_ready(output: &mut Output, r: ReadyStreams, refusal: u64) {
 }
 
 // No line asks how many ids are ready: the question is asked before they are taken, and compared.
-fn settle_count(asked: Number, count: u64, output: &mut Output) {
+fn settle_count(asked: Number, count: u64, output: &mut Answers) {
     match asked {
         Number::Value(n) => {
             if n != count {
@@ -369,7 +369,7 @@ fn settle_count(asked: Number, count: u64, output: &mut Output) {
 pub fn answer_ready(
     queue: &mut [u64; QUEUE_WORDS],
     kept: &mut [u64; QUEUE_WORDS],
-    output: &mut Output,
+    output: &mut Answers,
 ) {
     let asked = count_streams_ready_to_reset(&*queue);
     let r = get_streams_ready_to_reset(queue);
@@ -382,21 +382,21 @@ pub fn answer_ready(
     settle_words(&*queue, kept, refusal, output);
 }
 
-fn put_asked(output: &mut Output, n: Number) {
+fn put_asked(output: &mut Answers, n: Number) {
     match n {
         Number::Value(v) => put_number(output, v),
         Number::Refused(_) => put_text(output, b" BROKEN"),
     }
 }
 
-fn put_flag(output: &mut Output, f: Flag) {
+fn put_flag(output: &mut Answers, f: Flag) {
     match f {
         Flag::Value(b) => put_number(output, bit(b)),
         Flag::Refused(_) => put_text(output, b" BROKEN"),
     }
 }
 
-pub fn answer_questions(queue: &[u64; QUEUE_WORDS], output: &mut Output, id: u16) {
+pub fn answer_questions(queue: &[u64; QUEUE_WORDS], output: &mut Answers, id: u16) {
     put_byte(output, b'q');
     put_asked(output, buffered_amount(queue, id));
     put_number(output, total_buffered_amount(queue));

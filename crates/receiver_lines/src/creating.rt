@@ -4,7 +4,7 @@ use crate::state::{HEAD_STORE, HEADS, LENT_HEAD, settle_room};
 use crate::words::settle_head;
 use receiver_calls::create;
 use receiver_words::RECEIVER_WORDS;
-use trace_text::output::{Output, put_answer, put_text};
+use trace_text::output::{Answers, put_answer, put_text};
 use trace_text::state::{STATE, STORE, bit, low32, wide};
 
 fn lent_create(
@@ -40,7 +40,7 @@ pub(crate) fn answer_head(
     head: &mut [u64; RECEIVER_WORDS],
     store: &mut [u8; STORE],
     kept_store: &mut [u8; STORE],
-    output: &mut Output,
+    output: &mut Answers,
     state: &mut [u64; STATE],
 ) {
     let refusal = head_line(head, &*store, &*state);
@@ -53,7 +53,7 @@ pub(crate) fn answer_head(
     settle_head(&*head, refusal, output, state);
 }
 
-pub(crate) fn answer_lent_head(output: &mut Output, state: &mut [u64; STATE]) {
+pub(crate) fn answer_lent_head(output: &mut Answers, state: &mut [u64; STATE]) {
     state[LENT_HEAD] = state[0];
     put_text(output, b"V\n");
 }

@@ -7,7 +7,7 @@ use receiver_words::RECEIVER_WORDS;
 use trace_answers::marks::{BEFORE, SHOWN, as_before, keep_store};
 use trace_answers::settle::refusal_number;
 use trace_text::hex::put_part;
-use trace_text::output::{Output, put_answer, put_broken, put_byte, put_number, put_text};
+use trace_text::output::{Answers, put_answer, put_broken, put_byte, put_number, put_text};
 use trace_text::payload::sum;
 use trace_text::state::{STATE, STORE, bit};
 
@@ -17,7 +17,7 @@ fn fetch_at(head: &mut [u64; RECEIVER_WORDS], store: &[u8], buffer: &mut [u8], n
 }
 
 // stream unordered ppid length, the sum over the whole buffer, and the message if it is short.
-fn put_message(buffer: &[u8], d: Delivery, output: &mut Output) {
+fn put_message(buffer: &[u8], d: Delivery, output: &mut Answers) {
     let stream = d.stream;
     put_text(output, b"G 0 1");
     put_number(output, stream.0 as u64);
@@ -38,7 +38,7 @@ struct Wrote {
     quiet: u64,
 }
 
-fn put_fetched(buffer: &[u8], f: Fetched, output: &mut Output) -> Wrote {
+fn put_fetched(buffer: &[u8], f: Fetched, output: &mut Answers) -> Wrote {
     match f {
         Fetched::Refused(number) => {
             put_answer(output, b'G', refusal_number(number));
@@ -64,7 +64,7 @@ fn fetch_into(
     store: &[u8],
     buffer: &mut [u8],
     n: u64,
-    output: &mut Output,
+    output: &mut Answers,
 ) -> u64 {
     put_all(buffer, BEFORE);
     let f = fetch_at(head, store, buffer, n);
@@ -82,7 +82,7 @@ fn lent_fetch(
     buffer: &mut [u8],
     room: usize,
     n: u64,
-    output: &mut Output,
+    output: &mut Answers,
 ) -> u64 {
     if room > buffer.len() {
         return 1;
@@ -95,7 +95,7 @@ pub(crate) fn answer_fetch(
     head: &mut [u64; RECEIVER_WORDS],
     store: &[u8; STORE],
     buffer: &mut [u8; STORE],
-    output: &mut Output,
+    output: &mut Answers,
     state: &mut [u64; STATE],
 ) {
     let room = state[0] as usize;

@@ -14,7 +14,7 @@ use fetching::answer_fetch;
 use receiver_words::RECEIVER_WORDS;
 use receiving::answer_receive;
 pub use state::HEADS;
-use trace_text::output::Output;
+use trace_text::output::Answers;
 use trace_text::state::{PAYLOAD, STATE, STORE};
 pub use words::keep_sum;
 
@@ -23,7 +23,7 @@ pub fn answer_receiver(
     store: &mut [u8; STORE],
     kept_store: &mut [u8; STORE],
     payload: &[u8; PAYLOAD],
-    output: &mut Output,
+    output: &mut Answers,
     state: &mut [u64; STATE],
     letter: u8,
 ) {

@@ -6,7 +6,7 @@ use lent_calls::TOO_SHORT;
 use receiver_calls::{Received, receive};
 use receiver_words::RECEIVER_WORDS;
 use trace_answers::settle::{refusal_number, settle_store};
-use trace_text::output::{Output, put_answer, put_text};
+use trace_text::output::{Answers, put_answer, put_text};
 use trace_text::state::{PAYLOAD, STATE, STORE};
 
 fn receive_at(
@@ -33,7 +33,7 @@ fn lent_receive(
 }
 
 // The answer's line, and 0 where the call may change something.
-fn put_received(r: Received, output: &mut Output) -> u64 {
+fn put_received(r: Received, output: &mut Answers) -> u64 {
     match r {
         Received::Refused(number) => {
             put_answer(output, b'D', refusal_number(number));
@@ -56,7 +56,7 @@ pub(crate) fn answer_receive(
     store: &mut [u8; STORE],
     kept_store: &mut [u8; STORE],
     payload: &[u8; PAYLOAD],
-    output: &mut Output,
+    output: &mut Answers,
     state: &mut [u64; STATE],
 ) {
     let r = lent_receive(head, store, payload, state[0] as usize, state[LENT_HEAD]);

@@ -4,7 +4,7 @@
 //     153           1 if there is a receiving head
 //     154 to 155    its store's length at its creation, and the length lent
 //     156           the sum of its words after the last call
-use trace_text::output::{Output, put_broken};
+use trace_text::output::{Answers, put_broken};
 use trace_text::state::{CREATED_STORE, QUEUES, STATE};
 
 pub const HEADS: usize = 153;
@@ -19,7 +19,7 @@ pub const HEAD_SUM: usize = 156;
 const BOTH: u64 = 2100000;
 
 // After a line of the head: a trace whose two stores are too long together is not for this program, and that is told.
-pub(crate) fn settle_room(output: &mut Output, state: &[u64; STATE]) {
+pub(crate) fn settle_room(output: &mut Answers, state: &[u64; STATE]) {
     if state[QUEUES] == 0 {
         return;
     }

@@ -2,7 +2,7 @@
 // it, since every step of the mix can be undone; changes of several words escape once in 2^64.
 use crate::state::HEAD_SUM;
 use receiver_words::RECEIVER_WORDS;
-use trace_text::output::{Output, put_broken};
+use trace_text::output::{Answers, put_broken};
 use trace_text::state::STATE;
 
 // A seed, other than 0.
@@ -35,7 +35,7 @@ pub fn keep_sum(head: &[u64; RECEIVER_WORDS], state: &mut [u64; STATE]) {
 pub(crate) fn settle_head(
     head: &[u64; RECEIVER_WORDS],
     quiet: u64,
-    output: &mut Output,
+    output: &mut Answers,
     state: &mut [u64; STATE],
 ) {
     let sum = sum_words(head);

@@ -12,13 +12,13 @@ use request_lines::resets::{answer_request, answer_reset, answer_response, answe
 use request_lines::wire::{answer_read, answer_write};
 use send_queue::QUEUE_WORDS;
 use trace_answers::marks::EVENT_BUFFER;
-use trace_text::output::Output;
+use trace_text::output::Answers;
 use trace_text::state::{IMAGE, LETTER, PAYLOAD, STATE, STORE, low8, low16};
 
 // The lines that are lent nothing of a queue: chunks on the wire, a plan, a start of reset requests, the lengths lent.
 fn answer_alone(
     payload: &mut [u8; PAYLOAD],
-    output: &mut Output,
+    output: &mut Answers,
     state: &mut [u64; STATE],
     letter: u8,
 ) {
@@ -34,7 +34,7 @@ fn answer_alone(
 // The lines of the current image.
 fn answer_image(
     image: &mut [u8; IMAGE],
-    output: &mut Output,
+    output: &mut Answers,
     state: &mut [u64; STATE],
     letter: u8,
 ) {
@@ -50,7 +50,7 @@ fn answer_words(
     queue: &mut [u64; QUEUE_WORDS],
     kept: &mut [u64; QUEUE_WORDS],
     payload: &[u8; PAYLOAD],
-    output: &mut Output,
+    output: &mut Answers,
     state: &mut [u64; STATE],
     letter: u8,
 ) {
@@ -71,7 +71,7 @@ fn answer_events(
     store: &[u8; STORE],
     events: &mut [u64; EVENT_BUFFER],
     fragment: &mut [u8; PAYLOAD],
-    output: &mut Output,
+    output: &mut Answers,
     state: &[u64; STATE],
     letter: u8,
 ) {
@@ -89,7 +89,7 @@ fn answer_alike(
     store: &mut [u8; STORE],
     kept_store: &mut [u8; STORE],
     image: &[u8; IMAGE],
-    output: &mut Output,
+    output: &mut Answers,
     state: &mut [u64; STATE],
 ) {
     put_alike(queue, kept, store, kept_store, output, state);
@@ -104,7 +104,7 @@ fn answer_store(
     kept_store: &mut [u8; STORE],
     payload: &mut [u8; PAYLOAD],
     image: &mut [u8; IMAGE],
-    output: &mut Output,
+    output: &mut Answers,
     state: &mut [u64; STATE],
     letter: u8,
 ) {
@@ -126,7 +126,7 @@ pub(crate) fn answer(
     payload: &mut [u8; PAYLOAD],
     image: &mut [u8; IMAGE],
     head: &mut [u64; RECEIVER_WORDS],
-    output: &mut Output,
+    output: &mut Answers,
     state: &mut [u64; STATE],
 ) {
     let letter = low8(state[LETTER]);

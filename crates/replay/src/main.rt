@@ -14,7 +14,7 @@ use std::io::{self, Stdin};
 use trace_answers::marks::{EVENT_BUFFER, mark_events};
 use trace_text::given::parse_bytes;
 use trace_text::input::{BAD_LINE, NO_LINE, read_line};
-use trace_text::output::{Output, count_line, finish, put_broken};
+use trace_text::output::{Answers, count_line, finish, put_broken};
 use trace_text::parse::parse;
 use trace_text::state::{BUFFER, IMAGE, LINE_BYTES, PAYLOAD, STATE, STORE};
 
@@ -24,7 +24,7 @@ fn next_call(
     stdin: &mut Stdin,
     payload: &mut [u8; PAYLOAD],
     input: &mut [u8; BUFFER],
-    output: &mut Output,
+    output: &mut Answers,
     state: &mut [u64; STATE],
 ) -> io::Result<bool> {
     let mut line = [0u8; LINE_BYTES];
@@ -93,7 +93,7 @@ fn run(
     image: &mut [u8; IMAGE],
     head: &mut [u64; RECEIVER_WORDS],
     input: &mut [u8; BUFFER],
-    output: &mut Output,
+    output: &mut Answers,
     state: &mut [u64; STATE],
 ) -> io::Result<()> {
     let mut left = u64::MAX;
@@ -121,7 +121,7 @@ fn main(rt: HostRuntime) -> io::Result<()> {
     let mut image = [0u8; IMAGE];
     let mut head = [0u64; RECEIVER_WORDS];
     let mut input = [0u8; BUFFER];
-    let mut output = Output::new(rt.stdout());
+    let mut output = Answers::new(rt.stdout());
     let mut state = [0u64; STATE];
     mark_events(&mut events, EVENT_BUFFER);
     keep_sum(&head, &mut state);

@@ -4,7 +4,7 @@ use send_queue::{Packet, PacketFilled, QUEUE_WORDS, fill_packet};
 use trace_answers::marks::{BEFORE, EVENT_BUFFER, OUTPUT, SHOWN, as_before, event_words};
 use trace_answers::settle::{refusal_number, settle_events, settle_words};
 use trace_text::hex::put_part;
-use trace_text::output::{Output, put_answer, put_broken, put_byte, put_number, put_text};
+use trace_text::output::{Answers, put_answer, put_broken, put_byte, put_number, put_text};
 use trace_text::payload::sum_of;
 use trace_text::state::{LENT_EVENTS, LENT_STORE, STATE, STORE, low16, low32};
 
@@ -62,7 +62,7 @@ fn lent_fill(
     fill_events(queue, &store[0..n], events, packet, state)
 }
 
-fn put_packet(packet: &[u8], bytes: usize, chunks: usize, output: &mut Output, room: usize) {
+fn put_packet(packet: &[u8], bytes: usize, chunks: usize, output: &mut Answers, room: usize) {
     let total = sum_of(packet, room);
     put_text(output, b"F 0");
     put_number(output, bytes as u64);
@@ -84,7 +84,7 @@ struct Wrote {
     bytes: usize,
 }
 
-fn put_filled(packet: &[u8], a: PacketFilled, output: &mut Output, room: usize) -> Wrote {
+fn put_filled(packet: &[u8], a: PacketFilled, output: &mut Answers, room: usize) -> Wrote {
     match a {
         PacketFilled::Filled(k, bytes, chunks) => {
             put_packet(packet, bytes, chunks, output, room);
@@ -112,7 +112,7 @@ fn fill_into(
     kept: &mut [u64; QUEUE_WORDS],
     store: &[u8; STORE],
     events: &mut [u64; EVENT_BUFFER],
-    output: &mut Output,
+    output: &mut Answers,
     state: &[u64; STATE],
 ) {
     let a = lent_fill(queue, store, events, packet, state);
@@ -130,7 +130,7 @@ pub fn answer_fill(
     kept: &mut [u64; QUEUE_WORDS],
     store: &[u8; STORE],
     events: &mut [u64; EVENT_BUFFER],
-    output: &mut Output,
+    output: &mut Answers,
     state: &[u64; STATE],
 ) {
     let mut packet = [BEFORE; OUTPUT];

@@ -4,7 +4,7 @@ ghost use Rattle.std.specs.Prelude.{◌≤◌};
 use lent_calls::TOO_SHORT;
 use send_queue::{Call, MAX_PLANNED, PlannedPriorities, plan_priorities};
 use trace_answers::settle::refusal_of;
-use trace_text::output::{Output, put_answer, put_byte, put_number, put_text};
+use trace_text::output::{Answers, put_answer, put_byte, put_number, put_text};
 use trace_text::state::{BITS16, COUNT, STATE, low16, wide16};
 
 // "each list at most 64".
@@ -114,7 +114,7 @@ fn plan(state: &[u64; STATE]) -> PlannedPriorities {
     plan_lists(state, &ids, &sizes)
 }
 
-fn put_priorities(output: &mut Output, values: &[u16; MAX_PLANNED], count: usize) {
+fn put_priorities(output: &mut Answers, values: &[u16; MAX_PLANNED], count: usize) {
     put_text(output, b"P 0");
     let mut i = 0;
     while i < MAX_PLANNED {
@@ -127,7 +127,7 @@ fn put_priorities(output: &mut Output, values: &[u16; MAX_PLANNED], count: usize
     put_byte(output, b'\n');
 }
 
-pub fn answer_plan(output: &mut Output, state: &[u64; STATE]) {
+pub fn answer_plan(output: &mut Answers, state: &[u64; STATE]) {
     let r = plan(state);
     let c = r.answer;
     let refusal = refusal_of(c);

@@ -8,7 +8,7 @@ use stream_reset_handler::{
 use trace_answers::marks::{BEFORE, OUTPUT, SHOWN, as_before};
 use trace_answers::settle::{refusal_number, refusal_of, settle_words};
 use trace_text::hex::put_part;
-use trace_text::output::{Output, put_answer, put_broken, put_byte, put_number, put_text};
+use trace_text::output::{Answers, put_answer, put_broken, put_byte, put_number, put_text};
 use trace_text::payload::sum_of;
 use trace_text::state::{
     IS_UNDERWAY, NEXT_NUMBER, PAYLOAD, STARTED, STATE, UNDERWAY_NUMBER, low32,
@@ -61,7 +61,7 @@ fn keep_handler(state: &mut [u64; STATE], handler: StreamResetHandler) {
 fn settle_handler(
     handler: StreamResetHandler,
     refusal: u64,
-    output: &mut Output,
+    output: &mut Answers,
     state: &mut [u64; STATE],
 ) {
     let next = state[NEXT_NUMBER];
@@ -78,7 +78,7 @@ fn settle_handler(
     put_broken(output, b"handler changed at a refusal");
 }
 
-pub fn answer_start(output: &mut Output, state: &mut [u64; STATE]) {
+pub fn answer_start(output: &mut Answers, state: &mut [u64; STATE]) {
     let handler = start(low32(state[0]));
     state[STARTED] = 1;
     keep_handler(state, handler);
@@ -103,7 +103,7 @@ fn told_request(a: RequestAnswer) -> Told {
 }
 
 // The sum over the whole output, and the message if it is short.
-fn put_message(message: &[u8], n: usize, output: &mut Output, room: usize) {
+fn put_message(message: &[u8], n: usize, output: &mut Answers, room: usize) {
     let total = sum_of(message, room);
     put_text(output, b"Q 0");
     put_number(output, n as u64);
@@ -114,7 +114,7 @@ fn put_message(message: &[u8], n: usize, output: &mut Output, room: usize) {
     put_byte(output, b'\n');
 }
 
-fn put_requested(message: &[u8], t: Told, output: &mut Output, room: usize) {
+fn put_requested(message: &[u8], t: Told, output: &mut Answers, room: usize) {
     if t.refusal > 0 {
         put_answer(output, b'Q', t.refusal);
     }
@@ -153,7 +153,7 @@ fn request_into(
     queue: &mut [u64; QUEUE_WORDS],
     kept: &mut [u64; QUEUE_WORDS],
     message: &mut [u8],
-    output: &mut Output,
+    output: &mut Answers,
     state: &mut [u64; STATE],
 ) {
     let m = lent_request(queue, message, &*state);
@@ -169,7 +169,7 @@ fn request_into(
 pub fn answer_request(
     queue: &mut [u64; QUEUE_WORDS],
     kept: &mut [u64; QUEUE_WORDS],
-    output: &mut Output,
+    output: &mut Answers,
     state: &mut [u64; STATE],
 ) {
     let mut message = [BEFORE; OUTPUT];
@@ -201,7 +201,7 @@ fn told_response(a: ResponseAnswer) -> Told {
     }
 }
 
-fn put_responded(t: Told, output: &mut Output) {
+fn put_responded(t: Told, output: &mut Answers) {
     put_byte(output, b'A');
     put_number(output, t.refusal);
     if t.refusal == 0 {
@@ -230,7 +230,7 @@ pub fn answer_response(
     queue: &mut [u64; QUEUE_WORDS],
     kept: &mut [u64; QUEUE_WORDS],
     payload: &[u8; PAYLOAD],
-    output: &mut Output,
+    output: &mut Answers,
     state: &mut [u64; STATE],
 ) {
     let h = lent_response(queue, payload, &*state);
@@ -246,7 +246,7 @@ pub fn answer_response(
 pub fn answer_reset(
     queue: &mut [u64; QUEUE_WORDS],
     kept: &mut [u64; QUEUE_WORDS],
-    output: &mut Output,
+    output: &mut Answers,
     state: &mut [u64; STATE],
 ) {
     let r = reset(queue, handler_of(&*state));

@@ -8,7 +8,7 @@ use trace_answers::fragments::put_fields;
 use trace_answers::marks::{BEFORE, OUTPUT, SHOWN, as_before};
 use trace_answers::settle::refusal_number;
 use trace_text::hex::put_part;
-use trace_text::output::{Output, put_answer, put_broken, put_byte, put_number, put_text};
+use trace_text::output::{Answers, put_answer, put_broken, put_byte, put_number, put_text};
 use trace_text::payload::{fill, sum, sum_of};
 use trace_text::state::{PAYLOAD, STATE, low16, low32};
 
@@ -69,7 +69,7 @@ fn lent_write(chunk: &mut [u8], payload: &mut [u8], state: &[u64; STATE]) -> Chu
     )
 }
 
-fn put_chunk(chunk: &[u8], n: usize, output: &mut Output, room: usize) {
+fn put_chunk(chunk: &[u8], n: usize, output: &mut Answers, room: usize) {
     let total = sum_of(chunk, room);
     put_text(output, b"W 0");
     put_number(output, n as u64);
@@ -81,7 +81,7 @@ fn put_chunk(chunk: &[u8], n: usize, output: &mut Output, room: usize) {
 }
 
 // The answer's line, and how many bytes are written.
-fn put_written(chunk: &[u8], w: ChunkWritten, output: &mut Output, room: usize) -> usize {
+fn put_written(chunk: &[u8], w: ChunkWritten, output: &mut Answers, room: usize) -> usize {
     match w {
         ChunkWritten::Bytes(n) => {
             put_chunk(chunk, n, output, room);
@@ -94,7 +94,7 @@ fn put_written(chunk: &[u8], w: ChunkWritten, output: &mut Output, room: usize) 
     }
 }
 
-fn write_into(chunk: &mut [u8], payload: &mut [u8], output: &mut Output, state: &[u64; STATE]) {
+fn write_into(chunk: &mut [u8], payload: &mut [u8], output: &mut Answers, state: &[u64; STATE]) {
     let w = lent_write(chunk, payload, state);
     let n = put_written(&*chunk, w, output, state[1] as usize);
     let stays = as_before(&*chunk, n);
@@ -103,7 +103,7 @@ fn write_into(chunk: &mut [u8], payload: &mut [u8], output: &mut Output, state: 
     }
 }
 
-pub fn answer_write(payload: &mut [u8; PAYLOAD], output: &mut Output, state: &[u64; STATE]) {
+pub fn answer_write(payload: &mut [u8; PAYLOAD], output: &mut Answers, state: &[u64; STATE]) {
     let mut chunk = [BEFORE; OUTPUT];
     write_into(&mut chunk, payload, output, state);
 }
@@ -120,7 +120,7 @@ fn sum_at(bytes: &[u8], at: usize, n: u64) -> u64 {
     sum(&bytes[at..end])
 }
 
-fn put_read(bytes: &[u8], c: Chunk, output: &mut Output) {
+fn put_read(bytes: &[u8], c: Chunk, output: &mut Answers) {
     let kind = c.kind;
     let fragment = c.fragment;
     let data = fragment.data;
@@ -131,7 +131,7 @@ fn put_read(bytes: &[u8], c: Chunk, output: &mut Output) {
     put_fields(output, fragment, total);
 }
 
-fn read_from(bytes: &[u8], output: &mut Output) {
+fn read_from(bytes: &[u8], output: &mut Answers) {
     let r = read_chunk(bytes);
     match r {
         ChunkRead::Read(c) => put_read(bytes, c, output),
@@ -139,13 +139,13 @@ fn read_from(bytes: &[u8], output: &mut Output) {
     }
 }
 
-fn read_first(payload: &[u8], output: &mut Output, state: &[u64; STATE]) {
+fn read_first(payload: &[u8], output: &mut Answers, state: &[u64; STATE]) {
     let n = state[0] as usize;
     if n <= payload.len() {
         read_from(&payload[0..n], output);
     }
 }
 
-pub fn answer_read(payload: &[u8; PAYLOAD], output: &mut Output, state: &[u64; STATE]) {
+pub fn answer_read(payload: &[u8; PAYLOAD], output: &mut Answers, state: &[u64; STATE]) {
     read_first(payload, output, state);
 }

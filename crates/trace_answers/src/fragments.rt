@@ -1,9 +1,9 @@
 // A fragment's fields, as the lines of `p` and `R` have them.
 use send_queue::{Data, DataToSend, Expiry};
-use trace_text::output::{Output, put_byte, put_number, put_text};
+use trace_text::output::{Answers, put_byte, put_number, put_text};
 use trace_text::state::bit;
 
-fn put_expiry(output: &mut Output, e: Expiry) {
+fn put_expiry(output: &mut Answers, e: Expiry) {
     match e {
         Expiry::Never => put_text(output, b" 0 0"),
         Expiry::At(t) => {
@@ -14,7 +14,7 @@ fn put_expiry(output: &mut Output, e: Expiry) {
 }
 
 // stream unordered ssn mid fsn ppid first last
-fn put_data(output: &mut Output, d: Data) {
+fn put_data(output: &mut Answers, d: Data) {
     let key = d.stream_key;
     let id = key.id();
     put_number(output, id.0 as u64);
@@ -28,7 +28,7 @@ fn put_data(output: &mut Output, d: Data) {
 }
 
 // A fragment, and the end of the line.
-pub fn put_fields(output: &mut Output, d: DataToSend, sum: u64) {
+pub fn put_fields(output: &mut Answers, d: DataToSend, sum: u64) {
     let data = d.data;
     let expires_at = d.expires_at;
     put_number(output, d.message_id.0 as u64);

@@ -4,7 +4,7 @@ use crate::marks::{
     words_same,
 };
 use send_queue::{Call, PLACE_WORDS, QUEUE_WORDS};
-use trace_text::output::{Output, put_broken, put_byte, put_number};
+use trace_text::output::{Answers, put_broken, put_byte, put_number};
 use trace_text::state::{IMAGE, MOST_PLACES, PAYLOAD, STORE};
 
 // A refusal's number, which is above 0.
@@ -35,7 +35,7 @@ pub fn settle_words(
     queue: &[u64; QUEUE_WORDS],
     kept: &mut [u64; QUEUE_WORDS],
     refusal: u64,
-    output: &mut Output,
+    output: &mut Answers,
 ) {
     if refusal == 0 {
         keep_words(queue, kept);
@@ -55,7 +55,7 @@ pub fn settle_store(
     kept: &mut [u8; STORE],
     n: usize,
     refusal: u64,
-    output: &mut Output,
+    output: &mut Answers,
 ) {
     if refusal == 0 {
         keep_store(store, kept, n);
@@ -70,7 +70,7 @@ pub fn settle_store(
 }
 
 // A call that is lent no event list reports no event.
-pub fn settle_no_events(n: usize, output: &mut Output) {
+pub fn settle_no_events(n: usize, output: &mut Answers) {
     if n == 0 {
         return;
     }
@@ -78,7 +78,7 @@ pub fn settle_no_events(n: usize, output: &mut Output) {
 }
 
 // A line for each event: kind, number and amount.
-fn put_events(events: &[u64; EVENT_BUFFER], n: usize, output: &mut Output) {
+fn put_events(events: &[u64; EVENT_BUFFER], n: usize, output: &mut Answers) {
     if n > MOST_PLACES {
         return;
     }
@@ -94,7 +94,7 @@ fn put_events(events: &[u64; EVENT_BUFFER], n: usize, output: &mut Output) {
 }
 
 // The event list: n events, and then nothing but marks. The marks are put back.
-pub fn settle_events(events: &mut [u64; EVENT_BUFFER], n: usize, output: &mut Output) {
+pub fn settle_events(events: &mut [u64; EVENT_BUFFER], n: usize, output: &mut Answers) {
     if n > MOST_PLACES {
         put_broken(output, b"more events than places");
         mark_events(events, EVENT_BUFFER);
@@ -111,7 +111,7 @@ pub fn settle_events(events: &mut [u64; EVENT_BUFFER], n: usize, output: &mut Ou
 }
 
 // The fragment buffer: n bytes, and then nothing but marks.
-pub fn settle_fragment(fragment: &[u8; PAYLOAD], n: u64, output: &mut Output) {
+pub fn settle_fragment(fragment: &[u8; PAYLOAD], n: u64, output: &mut Answers) {
     if n > 300000 {
         put_broken(output, b"fragment longer than its buffer");
         return;
@@ -124,7 +124,7 @@ pub fn settle_fragment(fragment: &[u8; PAYLOAD], n: u64, output: &mut Output) {
 }
 
 // The image buffer: n bytes, and then nothing but marks.
-pub fn settle_image(buffer: &[u8; IMAGE], n: usize, output: &mut Output) {
+pub fn settle_image(buffer: &[u8; IMAGE], n: usize, output: &mut Answers) {
     let marked = bytes_marked(buffer, n);
     if marked {
         return;

@@ -8,11 +8,6 @@ use lib.ListN.{length, take, drop, set, get_or}
 use lib.Seq.{take-suc-set, take_all, drop-cons, drop-length}
 use Rattle.trace_text.specs.Payload.{next_of, byte_of, bytes_from, sum_with, sum_from}
 
-pub fill_start : (l : List ℕ) (x n : ℕ) → take 0 l ++ bytes_from x (n - 0) ≡ bytes_from x n
-fill_start l x n =
-    let e : n - 0 ≡ n = omega arith in
-    rw e
-
 pub fill_next : (l w : List ℕ) (x y b i n : ℕ) → i < length l → length l ≡ n → y ≡ next_of x → b ≡ byte_of y → take i l ++ bytes_from x (n - i) ≡ w → take (i + 1) (set l i b) ++ bytes_from y (n - (i + 1)) ≡ w
 unfolding bytes_from
 fill_next l w x y b i n h e ey eb known =

@@ -1,5 +1,5 @@
 // Bytes, as lowercase hexadecimal digits.
-use crate::output::{Output, put_byte};
+use crate::output::{Answers, put_byte};
 
 fn digit(n: u8) -> u8 {
     if n < 10 {
@@ -12,13 +12,13 @@ fn digit(n: u8) -> u8 {
 }
 
 // A byte, as two digits.
-fn put_hex(output: &mut Output, b: u8) {
+fn put_hex(output: &mut Answers, b: u8) {
     put_byte(output, digit(b / 16));
     put_byte(output, digit(b % 16));
 }
 
 // A space and the bytes, if any.
-fn put_bytes(bytes: &[u8], output: &mut Output) {
+fn put_bytes(bytes: &[u8], output: &mut Answers) {
     let mut i = 0;
     while i < bytes.len() {
         if i == 0 {
@@ -30,7 +30,7 @@ fn put_bytes(bytes: &[u8], output: &mut Output) {
 }
 
 // The bytes from one place to another.
-pub fn put_part(bytes: &[u8], from: usize, to: usize, output: &mut Output) {
+pub fn put_part(bytes: &[u8], from: usize, to: usize, output: &mut Answers) {
     if to > bytes.len() {
         return;
     }

@@ -7,7 +7,7 @@ use crate::state::{low8, wide};
 use itoa::Buffer;
 use std::io::{self, Stdout};
 
-const ANSWERS: usize = 8194;
+const WORDS: usize = 8194;
 
 const WAITING: usize = 0;
 
@@ -19,16 +19,16 @@ const TEXT: usize = 2;
 const ROOM: usize = 8192;
 
 #[derive(Drop)]
-pub struct Output {
-    words: [u64; ANSWERS],
+pub struct Answers {
+    words: [u64; WORDS],
     stdout: Stdout,
     written: io::Result<()>,
 }
 
-impl Output {
-    pub fn new(stdout: Stdout) -> Output {
-        Output {
-            words: [0u64; ANSWERS],
+impl Answers {
+    pub fn new(stdout: Stdout) -> Answers {
+        Answers {
+            words: [0u64; WORDS],
             stdout,
             written: Ok(()),
         }
@@ -36,7 +36,7 @@ impl Output {
 }
 
 // The places of the bytes, whether one waits there or not.
-fn take_bytes(output: &[u64; ANSWERS], bytes: &mut [u8; ROOM]) {
+fn take_bytes(output: &[u64; WORDS], bytes: &mut [u8; ROOM]) {
     let mut i = 0;
     while i < ROOM {
         bytes[i] = low8(output[TEXT + i]);
@@ -56,7 +56,7 @@ fn write_waiting(stdout: Stdout, bytes: &[u8; ROOM], n: u64) -> io::Result<()> {
 }
 
 // Writes out what waits.
-pub fn flush(output: &mut Output) {
+pub fn flush(output: &mut Answers) {
     let mut bytes = [0u8; ROOM];
     take_bytes(&output.words, &mut bytes);
     if output.written.is_ok() {
@@ -66,13 +66,13 @@ pub fn flush(output: &mut Output) {
 }
 
 // Writes out what waits, at the end, and answers whether all went well.
-pub fn finish(output: &mut Output) -> io::Result<()> {
+pub fn finish(output: &mut Answers) -> io::Result<()> {
     flush(output);
     output.written
 }
 
 // A place for one byte more. A full buffer is written out first.
-fn room(output: &mut Output) -> usize
+fn room(output: &mut Answers) -> usize
     ensures { result < 8192 }
 {
     let at = output.words[WAITING];
@@ -83,13 +83,13 @@ fn room(output: &mut Output) -> usize
     0
 }
 
-pub fn put_byte(output: &mut Output, b: u8) {
+pub fn put_byte(output: &mut Answers, b: u8) {
     let at = room(output);
     output.words[TEXT + at] = wide(b);
     output.words[WAITING] = (at + 1) as u64;
 }
 
-pub fn put_text(output: &mut Output, text: &[u8]) {
+pub fn put_text(output: &mut Answers, text: &[u8]) {
     let mut i = 0;
     while i < text.len() {
         put_byte(output, text[i]);
@@ -98,21 +98,21 @@ pub fn put_text(output: &mut Output, text: &[u8]) {
 }
 
 // A space and a number.
-pub fn put_number(output: &mut Output, n: u64) {
+pub fn put_number(output: &mut Answers, n: u64) {
     let mut digits = Buffer::new();
     put_byte(output, b' ');
     put_text(output, digits.format(n).as_bytes());
 }
 
 // The answer of most calls: the letter and the refusal's number, 0 for accepted.
-pub fn put_answer(output: &mut Output, letter: u8, refusal: u64) {
+pub fn put_answer(output: &mut Answers, letter: u8, refusal: u64) {
     put_byte(output, letter);
     put_number(output, refusal);
     put_byte(output, b'\n');
 }
 
 // Says loudly that the queue broke what a trace cannot show.
-pub fn put_broken(output: &mut Output, what: &[u8]) {
+pub fn put_broken(output: &mut Answers, what: &[u8]) {
     let line = output.words[LINE];
     put_text(output, b"BROKEN line");
     put_number(output, line);
@@ -122,7 +122,7 @@ pub fn put_broken(output: &mut Output, what: &[u8]) {
 }
 
 // One line more of the trace.
-pub fn count_line(output: &mut Output) {
+pub fn count_line(output: &mut Answers) {
     let n = output.words[LINE];
     if n < 18446744073709551615 {
         output.words[LINE] = n + 1;

@@ -1,2 +1,0 @@
--- What the proofs of the loops use. Assumes nothing.
-pub mod Copies

@@ -1,0 +1,11 @@
+-- `trace_answers::marks::keep_words` meets its contract: the words passed are copied. Assumes nothing.
+use mathlib.Core.Path.{◌≡◌}
+use Prim.Native.Nat.{ℕ, ◌-◌, ◌<◌}
+use lib.ListN.{length, get_or}
+use Rattle.trace_answers.proofs.marks.keep_words.Given as goal
+
+abbrev pub invariant-loop-i : goal.invariant-loop-i
+invariant-loop-i l = (length l.kept ≡ 20768) × ((k : ℕ) → k < l.i → get_or l.kept k 0 ≡ get_or l.queue k 0)
+
+abbrev pub decreases-loop-i : goal.decreases-loop-i
+decreases-loop-i l = 20768 - l.i
