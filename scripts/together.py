@@ -41,5 +41,5 @@ def unproved(said):
 
 
 def is_verdict(said):
-    """Whether the provers were reached, in the last crate that was checked."""
-    return re.search(r"^logic=[^\n]*\n(?![\s\S]*^(?:rt|rattle): [^\n]*(?:mend these first|did not build|cannot read))", said, re.M) is not None
+    """Whether the provers were reached."""
+    return re.search(r"^logic=", said, re.M) is not None
