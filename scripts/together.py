@@ -1,56 +1,38 @@
-"""One check of a crate and of others below it from their sources, for scripts that change a crate and look what the crate above it says.
-`rt check` gives the verdict; this one is quicker: it starts from what was checked when the crates were last proved (target/rlib), so only
-what a change touches is checked, and crates below are not built. The crates that are not named are read as they were last proved."""
+"""A copy of the crates, in which scripts change one and look what `rt check` says of it and of the crates above it. The copy lies outside the repository,
+whose `rt ci` reads no .rt or .antt file beside its own. A check there begins with what checks in other copies of this machine kept, so only what a
+change touches is checked."""
 import pathlib, re, shutil, subprocess
 
-
-def kit():
-    """The kit's folder, and in it that of this machine."""
-    home = pathlib.Path(subprocess.run(["rt", "doc"], capture_output=True, text=True).stdout.strip()).parent.parent
-    machine = subprocess.run(["uname", "-m"], capture_output=True, text=True).stdout.strip()
-    return home, home / "on" / machine
+ROOT = pathlib.Path(__file__).resolve().parent.parent
+LEFT_OUT = shutil.ignore_patterns("out", "must-fail", "data", "stdin", "stdout")
 
 
-HOME, OWN = kit()
+def fresh(tree, crates=()):
+    """The crates as they stand, in the tree: all where it is new, else those that are named."""
+    if not (tree / "crates").exists():
+        (tree / ".git").mkdir(parents=True)  # the top of a repository
+        crates = [p.name for p in (ROOT / "crates").iterdir()]
+    shutil.copy(ROOT / "crates.txt", tree)
+    for crate in crates:
+        for part in ("src", "specs", "proofs"):
+            shutil.rmtree(tree / "crates" / crate / part, ignore_errors=True)
+        shutil.copytree(ROOT / "crates" / crate, tree / "crates" / crate, ignore=LEFT_OUT, dirs_exist_ok=True)
 
 
-def dependencies(tree):
-    lines = [line.split("#")[0] for line in (tree / "crates.txt").read_text().split("\n")]
-    return {line.split(":")[0].strip(): line.split(":")[1].split() for line in lines if ":" in line}
-
-
-def source(tree, crate):
-    return tree / "crates" / crate / "src" / "lib.rt"
-
-
-def filled(kept, crates, target):
-    """The folder in which a check finds what was checked, with what these crates had when they were last proved."""
-    found = [p.name for p in kept.parent.glob("*/antt-checked*")]  # the checker's own name for it, once it has run
-    for crate in crates if found else []:
-        for file in (target / f"{crate}.rlib" / "toolchain" / "checked").glob("*.oantt"):
-            (kept / found[0]).mkdir(parents=True, exist_ok=True)
-            shutil.copy(file, kept / found[0])
-
-
-def check(tree, crate, below, kept, target):
-    """Whether `crate` and those `below` are proved, and what was said. `kept` is the folder of what was checked, `target` has the libraries."""
-    deps, target = dependencies(tree), target / "rlib"
-    filled(kept, [crate, *below], target)
-    words = ["--crate-name", crate, source(tree, crate), "--extern", f"std={OWN}/rlib/std.rlib"]
-    for d in list(dict.fromkeys(deps[crate] + [d for b in below for d in deps[b]])):
-        if d in below:
-            words += ["--lib", f"{d}:{','.join(deps[d] + ['std'])}={source(tree, d)}"]
-        else:
-            words += ["--extern", f"{d}={target if d in deps else OWN / 'rlib'}/{d}.rlib"]
-    kept.mkdir(parents=True, exist_ok=True)
-    words += ["-L", f"dependency={target}", "-L", f"dependency={OWN}/rlib", "--antt-project", HOME / "logic" / "antt-project.json", "--logic-built", OWN / "logic-built", "--incremental", kept]
-    done = subprocess.run([OWN / "bin" / "rattle", "check", *words], cwd=tree, capture_output=True, text=True)
-    return done.returncode == 0, done.stdout + done.stderr
+def check(tree, crate, below=()):
+    """Whether `crate` and those `below`, the lowest first, are proved, and what was said: each path from its crate's name on, up to the first that is not."""
+    said = ""
+    for each in (*below, crate):
+        done = subprocess.run(["rt", "check"], cwd=tree / "crates" / each, capture_output=True, text=True)
+        said += re.sub(r"^(?:\./)?((?:src|specs|proofs)/\S+:\d+:\d+: )", rf"{each}/\1", done.stdout + done.stderr, flags=re.M)
+        if done.returncode:
+            return False, said
+    return True, said
 
 
 def errors(said):
     """The errors, each from its crate's name on."""
-    return [re.sub(r"^.*?/crates/", "", line) for line in said.split("\n") if ": error: " in line or line.startswith("error")]
+    return [line for line in said.split("\n") if ": error" in line or line.startswith("error")]
 
 
 def unproved(said):
