@@ -1,6 +1,7 @@
 // Restoring a changeover image with both promises: what the call leaves on the words, for every input, and that on the words of a
 // queue this is the model's step.
 #![tactic(auto)]
+
 ghost use Rattle.linked_restoring.specs.Restore.{RestoreMeets};
 
 use queue_streams::Call;
