@@ -1,10 +1,10 @@
 -- The lengths of records, and a copied payload. Assumes nothing.
 use mathlib.Core.Path.{◌≡◌, refl, sym, ap, ◌∙◌}
 use mathlib.Core.Bool.{true, false}
-use mathlib.Core.List.{List, [], ◌∷◌, ◌++◌}
+use mathlib.Core.List.{List, [], ◌∷◌, ◌++◌, append-nil}
 use Prim.Native.Nat.{ℕ, ◌+◌, ◌-◌, ◌≤◌}
 use native.Mathlib.Omega.{arith}
-use lib.ListN.{length, take, drop, length-append, length-drop}
+use lib.ListN.{length, take, drop, length-append, length-drop, drop_of_length-le}
 use lib.Seq.{length-take-le}
 use Rattle.queue_model.specs.Bytes.{row_bytes}
 use Rattle.queue_model.specs.Image.{stream_widths, message_widths, trailer_widths}
@@ -15,7 +15,7 @@ use Rattle.queue_words.specs.Streams.{stream_at_words}
 use Rattle.queue_state.specs.Chains.{sum_of}
 use Rattle.queue_state.specs.Model.{row_at}
 use Rattle.payload_store.specs.Good.{payload_of}
-use Rattle.payload_store.proofs.Parts.{part_in, copy_all}
+use Rattle.payload_store.proofs.Parts.{part_in}
 use Rattle.big_endian.specs.Numbers.{wrote}
 use Rattle.handover_records.specs.Records.{stream_row_words, message_row_words, trailer_row}
 use Rattle.big_endian.proofs.Rows.{row_length}
@@ -60,13 +60,14 @@ trailer_long ws t = row_length trailer_widths (trailer_row (trailer_of ws t)) re
 
 -- a part of the store copied into the middle of the buffer
 pub part_between : (b st src l : List ℕ) (at from n : ℕ) → at + n ≤ length b → from + n ≤ length st → src ≡ take (from + n - from) (drop from st)
-    → l ≡ take (length src) src ++ drop (length src) (take (at + n - at) (drop at b))
-    → take at b ++ (l ++ drop (at + n - at) (drop at b)) ≡ wrote b at (take n (drop from st))
+    → l ≡ src → take at b ++ (l ++ drop (at + n - at) (drop at b)) ≡ wrote b at (take n (drop from st))
 unfolding wrote
 part_between b st src l at from n h k es e =
     let m : from + n - from ≡ n = omega arith in
     let s : src ≡ take n (drop from st) = es ∙ ap (λ (j : ℕ). take j (drop from st)) m in
     let ls : length src ≡ n = ap length s ∙ length-take-le n (drop from st) (rw length-drop (omega (arith, k))) in
     let lt : length (take n (drop from st)) ≡ n = length-take-le n (drop from st) (rw length-drop (omega (arith, k))) in
-    part_in b src l at n (sym ls) h (copy_all src l (take (at + n - at) (drop at b)) e)
+    let m' : at + n - at ≡ n = omega arith in
+    let k' : length (take n (drop at b)) ≤ length src = omega (arith, ls, length-take-le n (drop at b) (rw length-drop (omega (arith, h)))) in
+    part_in b src l at n (sym ls) h (e ∙ sym (rw (m', drop_of_length-le (take n (drop at b)) k', append-nil)))
     ∙ rw (lt, s)

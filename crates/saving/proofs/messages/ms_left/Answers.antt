@@ -1,0 +1,11 @@
+-- `saving::messages::ms_left` meets its contract: each arm is a case of `ms_left`. Assumes nothing.
+use Rattle.saving.specs.Records.{ms_left}
+use Rattle.saving.proofs.messages.ms_left.Goals as goal
+
+pub returns-in-Never : goal.returns-in-Never
+unfolding ms_left
+returns-in-Never c = rw c.in-Never.is
+
+pub returns-in-At : goal.returns-in-At
+unfolding ms_left
+returns-in-At c = rw (c.in-At.is, ← c.left_at.ensures)
