@@ -1,5 +1,6 @@
 // Commit, rollback, the interleaving switch, the whole-queue reset and the ready ids of a queue that its own calls alone have changed: no walk before the first write settles that 16 does not come, and there is no refusal.
 #![tactic(auto)]
+
 ghost use Rattle.std.specs.Prelude.{◌≡◌};
 ghost use Rattle.queue_streams.specs.declared.answers.Call.TheVariants.{Accepted};
 ghost use Rattle.queue_restarts.specs.Ready.{collected, marked_all, readied};
