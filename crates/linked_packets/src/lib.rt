@@ -1,6 +1,7 @@
 // Filling a packet with both promises: what the call leaves on the words, for every input, and that on the words of a queue this is
 // the model's step.
 #![tactic(auto)]
+
 ghost use Rattle.linked_packets.specs.Meaning.{FillMeets};
 
 use packets::{Packet, PacketFilled};
