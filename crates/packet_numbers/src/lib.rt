@@ -1,5 +1,6 @@
 // What the libraries that fill packets share: a packet by its numbers, and what is told of a filled one in named places of an array.
 #![tactic(auto)]
+
 ghost use Rattle.std.specs.Prelude.{◌≡◌};
 ghost use Rattle.packet_numbers.specs.Packets.{packet_with, told_packet};
 
