@@ -4,6 +4,7 @@
 //
 // Creation and messages.
 #![tactic(auto)]
+
 pub use linked_adding::{add, create};
 pub use linked_dropping::discard;
 pub use queue_messages::{Lifetime, MaxRetransmissions, Message};
