@@ -1,6 +1,7 @@
 // Saving with both promises: what the call leaves in the lent buffer, for every input, and that on the words of a queue this is the
 // model's image or the model's refusal.
 #![tactic(auto)]
+
 ghost use Rattle.linked_saving.specs.Meaning.{SaveMeets};
 
 use queue_words::QUEUE_WORDS;
