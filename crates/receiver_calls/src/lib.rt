@@ -2,6 +2,7 @@
 //
 // Every call takes any words, any store and any bytes; refused, it changes nothing.
 #![tactic(auto)]
+
 mod receiving;
 
 pub use receiver_fragments::answers::{Delivery, Fetched, Received};
