@@ -38,24 +38,24 @@ use Rattle.queue_runs.proofs.Account.{sent_handed, value_is}
 -- ------------------------------------------------------------------ one call
 
 -- An allowed call is the model's allowed call.
-allowed_link : (c : Call) (s : State) → Allowed s c → model.Allowed (queue_of s) (call_of (length s.store) c)
-allowed_link c s (adds time m payload) = model.adds (length s.store) time (message_of_words m payload)
-allowed_link c s (sends es bs time e) =
+allowed_link : (s : State) (c : Call) → Allowed s c → model.Allowed (queue_of s) (call_of (length s.store) c)
+allowed_link s c (adds time m payload) = model.adds (length s.store) time (message_of_words m payload)
+allowed_link s c (sends es bs time e) =
     subst (λ (n : ℕ). model.Allowed (queue_of s) (run.produce (length s.store) (places_in es) (length bs) time n)) (ap (λ (o : plain.Options). o.payload_limit) (model_options s.words s.store))
     (model.sends (length s.store) (places_in es) (length bs) time e)
 
 turn_link : (c : Call) (s : State) → GoodState s → Turn c s → model.Turn (call_of (length s.store) c) (queue_of s)
-turn_link c s g t = record { typed = typed_call (length s.store) c (store_small s g) t.typed; allowed = allowed_link c s t.allowed; below = t.below }
+turn_link c s g t = record { typed = typed_call (length s.store) c (store_small s g) t.typed; allowed = allowed_link s c t.allowed; below = t.below }
 
 -- What it charges is what the model's charges.
 quiet_charge : (p k : ℕ) (o : Outcome) → Quiet o → model.charge p k o.answer ≡ cost (weighted p) 0
 quiet_charge p k o (quiet_refused n) = refl
 quiet_charge p k o quiet_done = refl
 
-charge_allowed : (p k : ℕ) (c : Call) (s : State) → GoodState s → Turn c s → Allowed s c → charge p k (step c s).shows.answer ≡ model.charge p k (meant c s).outcome.answer
-charge_allowed p k c s g t (adds time m payload) =
+charge_allowed : (p k : ℕ) (s : State) (c : Call) → GoodState s → Turn c s → Allowed s c → charge p k (step c s).shows.answer ≡ model.charge p k (meant c s).outcome.answer
+charge_allowed p k s c g t (adds time m payload) =
     ap (λ (x : Shown). charge p k x.answer) (step_link c s g t.typed).shows_are ∙ sym (quiet_charge p k (meant c s).outcome (form_of (run.add (length s.store) time (message_of_words m payload)) (queue_of s)))
-charge_allowed p k c s g t (sends es bs time e) =
+charge_allowed p k s c g t (sends es bs time e) =
     ap (λ (x : Shown). charge p k x.answer) (step_link c s g t.typed).shows_are ∙ ap (cost (weighted p)) (sent_handed k (meant c s).outcome.answer (length (meant c s).outcome.events))
 
 -- ------------------------------------------------------------------ lists of calls
@@ -85,7 +85,7 @@ unfolding charged model.charged runs.run run.run
 charged_link p k [] s g t = refl
 charged_link p k (c ∷ cs) s g t =
     let h = step_link c s g t.0.typed in
-    ap₂ ◌+◌ (charge_allowed p k c s g t.0 t.0.allowed)
+    ap₂ ◌+◌ (charge_allowed p k s c g t.0 t.0.allowed)
     (charged_link p k cs (step c s).next h.good t.1 ∙ ap₂ (λ (ms : List run.Call) (q : Queue). model.charged p k (run.run ms q)) (same_calls c cs s g t.0) h.next_is)
 
 calls_join : (len : ℕ) (cs ds : List Call) → calls_of len (cs ++ ds) ≡ calls_of len cs ++ calls_of len ds
