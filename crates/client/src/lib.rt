@@ -1,5 +1,6 @@
 // A user of the queue, proved from what the public calls promise alone: two messages go in, and the bytes that come out are theirs.
 #![tactic(auto)]
+
 ghost use Rattle.std.specs.Prelude.{◌≡◌, length};
 ghost use Rattle.client.specs.Carried.{plain_message, is_fragment, Fits, Carried};
 
