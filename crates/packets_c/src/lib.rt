@@ -1,6 +1,7 @@
 // Filling a packet, for a host in C or Rust (header: c/send_queue.h): a library of its own, so that the next fragment has one caller in its library
 // (send_queue_c) and is compiled into dsq_produce.
 #![tactic(auto)]
+
 ghost use Rattle.std.specs.Prelude.{◌≡◌};
 ghost use Rattle.packets.specs.Filling.{filled_number, fill_packet};
 ghost use Rattle.packet_numbers.specs.Packets.{packet_with, filled_out, GivesPacket};
