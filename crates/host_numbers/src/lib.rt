@@ -1,5 +1,6 @@
 // What the libraries for C and for the Rust crate share: a message by its numbers, what goes with an answer in named places of an array, and the layout's number.
 #![tactic(auto)]
+
 pub mod answers;
 pub mod fragment;
 pub mod ids;
