@@ -1,6 +1,7 @@
 // Saving a queue that its own calls alone have changed: the checked call's image. There is no first pass over the messages and no test
 // for 16: what the image's size needs to know of them stands in the totals.
 #![tactic(auto)]
+
 ghost use Rattle.queue_state.specs.Good.{Good};
 ghost use Rattle.linked_saving.specs.Meaning.{SaveMeets};
 ghost use Rattle.owned_saving.specs.Save.{saved_as};

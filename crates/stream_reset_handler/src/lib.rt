@@ -1,6 +1,7 @@
 // Reset requests to the peer (document 02, 9/13; RFC 6525), "made in a crate above the queue that uses nothing but its published
 // contracts". The handler goes in by value and comes back with the answer.
 #![tactic(auto)]
+
 mod handler;
 mod making;
 mod receiving;

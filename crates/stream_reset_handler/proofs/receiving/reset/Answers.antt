@@ -1,0 +1,9 @@
+-- `stream_reset_handler::receiving::reset` meets its contract: each return is a case of `reset_by` and of the model's (proofs/Handles.antt). Assumes nothing.
+use Rattle.stream_reset_handler.proofs.Handles.{reset_accepted, reset_refused}
+use Rattle.stream_reset_handler.proofs.receiving.reset.Goals as goal
+
+pub returns-in-Accepted : goal.returns-in-Accepted
+returns-in-Accepted c = reset_accepted _ _ _ _ c.reset-done.ensures _ _ c.in-Accepted.is c.ended.ensures
+
+pub returns-in-Refused : goal.returns-in-Refused
+returns-in-Refused c = reset_refused _ _ _ _ c.reset-done.ensures _ c.in-Refused.is
