@@ -1,5 +1,6 @@
 // The stream reset handler, lent as three numbers, and what its calls tell: what the libraries for C and for the Rust crate share.
 #![tactic(auto)]
+
 ghost use Rattle.std.specs.Prelude.{◌≡◌};
 ghost use Rattle.queue_streams.specs.Answers.{call_number};
 ghost use Rattle.host_handler.specs.Handler.{handler_in, handler_numbers, request_number, request_out, request_handler, response_number_words, response_out, response_handler, reset_handler};

@@ -1,6 +1,7 @@
 // Filling a packet from an owned queue, for the Rust crate, which alone calls it (as owned_c): a library of its own, so that the next
 // fragment has one caller in its library (owned_c) and is compiled into dsq_owned_produce. No part of c/send_queue.h.
 #![tactic(auto)]
+
 ghost use Rattle.std.specs.Prelude.{◌≡◌};
 ghost use Rattle.queue_state.specs.Good.{Good};
 ghost use Rattle.packets.specs.Filling.{filled_number, fill_packet};

@@ -1,5 +1,6 @@
 // The stream reset handler's calls on a queue that its own calls alone have changed: nothing is tested for 16. Each answers and leaves what the checked call does.
 #![tactic(auto)]
+
 pub mod making;
 pub mod receiving;
 
