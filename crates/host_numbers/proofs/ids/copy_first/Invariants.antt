@@ -1,10 +1,8 @@
 -- `host_numbers::ids::copy_first` meets its contract: the first i places are copied, the others are as they were. Assumes nothing.
-use mathlib.Core.Path.{◌≡◌, refl, ◌∙◌}
+use mathlib.Core.Path.{◌≡◌}
 use mathlib.Core.List.{◌++◌}
 use Prim.Native.Nat.{◌≤◌, ◌-◌}
-use native.Mathlib.Omega.{arith}
-use lib.ListN.{length, take, drop, length-set}
-use Rattle.queue_sending.proofs.Passes.{turn}
+use lib.ListN.{length, take, drop}
 use Rattle.host_numbers.proofs.ids.copy_first.Given as goal
 
 abbrev pub invariant-loop-i : goal.invariant-loop-i
