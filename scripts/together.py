@@ -4,7 +4,6 @@ change touches is checked."""
 import pathlib, re, shutil, subprocess
 
 ROOT = pathlib.Path(__file__).resolve().parent.parent
-LEFT_OUT = shutil.ignore_patterns("out", "must-fail", "data", "stdin", "stdout")
 
 
 def fresh(tree, crates=()):
@@ -16,7 +15,8 @@ def fresh(tree, crates=()):
     for crate in crates:
         for part in ("src", "specs", "proofs"):
             shutil.rmtree(tree / "crates" / crate / part, ignore_errors=True)
-        shutil.copytree(ROOT / "crates" / crate, tree / "crates" / crate, ignore=LEFT_OUT, dirs_exist_ok=True)
+            if (ROOT / "crates" / crate / part).exists():
+                shutil.copytree(ROOT / "crates" / crate / part, tree / "crates" / crate / part)
 
 
 def check(tree, crate, below=()):
