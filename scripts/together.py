@@ -1,5 +1,5 @@
 """A copy of the crates, in which scripts change one and look what `rt check` says of it and of the crates above it. The copy lies outside the repository,
-whose `rt ci` reads no .rt or .antt file beside its own. A check there begins with what checks in other copies of this machine kept, so only what a
+whose `rt ci` refuses .rt and .antt files beside those of its crates. A check there begins with what checks in other copies of this machine kept, so only what a
 change touches is checked."""
 import pathlib, re, shutil, subprocess
 
