@@ -1,10 +1,9 @@
 """A copy of the crates, in which scripts change one and look what `rt check` says of it and of the crates above it. The copy lies outside the repository,
-whose `rt ci` reads no .rt or .antt file beside its own. A check there begins with what checks in other copies of this machine kept, so only what a
+whose `rt ci` refuses .rt and .antt files beside those of its crates. A check there begins with what checks in other copies of this machine kept, so only what a
 change touches is checked."""
 import pathlib, re, shutil, subprocess
 
 ROOT = pathlib.Path(__file__).resolve().parent.parent
-LEFT_OUT = shutil.ignore_patterns("out", "must-fail", "data", "stdin", "stdout")
 
 
 def fresh(tree, crates=()):
@@ -16,7 +15,8 @@ def fresh(tree, crates=()):
     for crate in crates:
         for part in ("src", "specs", "proofs"):
             shutil.rmtree(tree / "crates" / crate / part, ignore_errors=True)
-        shutil.copytree(ROOT / "crates" / crate, tree / "crates" / crate, ignore=LEFT_OUT, dirs_exist_ok=True)
+            if (ROOT / "crates" / crate / part).exists():
+                shutil.copytree(ROOT / "crates" / crate / part, tree / "crates" / crate / part)
 
 
 def check(tree, crate, below=()):
