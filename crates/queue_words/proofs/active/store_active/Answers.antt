@@ -1,6 +1,5 @@
 -- `queue_words::active::store_active` meets its contract: it is what `active_in` does, and the row's group is stale. Assumes nothing.
 use Rattle.queue_words.proofs.Laws.{active_stored}
-use Rattle.std.proofs.Common.{rules}
 use Rattle.queue_words.proofs.active.store_active.Goals as goal
 
 -- `queue_words::active::store_active` meets its contract: it is what `active_in` does, and the row's group is stale. Assumes nothing.

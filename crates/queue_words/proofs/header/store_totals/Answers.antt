@@ -1,6 +1,5 @@
 -- `queue_words::header::store_totals` meets its contract: it is what `totals_in` does, under the name that laws speak of. Assumes nothing.
 use Rattle.queue_words.specs.Header.{put_totals}
-use Rattle.std.proofs.Common.{rules}
 use Rattle.queue_words.proofs.header.store_totals.Goals as goal
 
 -- `queue_words::header::store_totals` meets its contract: it is what `totals_in` does, under the name that laws speak of. Assumes nothing.

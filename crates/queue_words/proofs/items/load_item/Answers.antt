@@ -1,6 +1,5 @@
 -- `queue_words::items::load_item` meets its contract: it is what `item_out` does, under the name that laws speak of. Assumes nothing.
 use Rattle.queue_words.specs.Items.{item_at}
-use Rattle.std.proofs.Common.{rules}
 use Rattle.queue_words.proofs.items.load_item.Goals as goal
 
 -- `queue_words::items::load_item` meets its contract: it is what `item_out` does, under the name that laws speak of. Assumes nothing.

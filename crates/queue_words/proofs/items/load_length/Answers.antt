@@ -1,7 +1,6 @@
 -- `queue_words::items::load_length` meets its contract. Assumes nothing.
 use mathlib.Core.Path.{refl}
 use Rattle.queue_words.specs.Items.{item_at}
-use Rattle.std.proofs.Common.{rules}
 use Rattle.queue_words.proofs.items.load_length.Goals as goal
 
 -- `queue_words::items::load_length` meets its contract. Assumes nothing.

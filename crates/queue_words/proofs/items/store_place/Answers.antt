@@ -1,7 +1,6 @@
 -- `queue_words::items::store_place` meets its contract. Assumes nothing.
 use mathlib.Core.Path.{refl}
 use Rattle.queue_words.specs.Items.{put_place}
-use Rattle.std.proofs.Common.{rules}
 use Rattle.queue_words.proofs.items.store_place.Goals as goal
 
 -- `queue_words::items::store_place` meets its contract. Assumes nothing.

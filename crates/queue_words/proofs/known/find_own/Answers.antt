@@ -3,7 +3,6 @@ use mathlib.Core.Path.{ap, subst, sym}
 use Prim.Native.Nat.{◌≤◌}
 use Rattle.queue_words.specs.declared.header.Totals.{Totals}
 use Rattle.queue_words.proofs.Finds.{findable_known, own_found}
-use Rattle.std.proofs.Common.{rules}
 use Rattle.queue_words.proofs.known.find_own.Goals as goal
 
 -- `queue_words::known::find_own` meets its contract: where the tests cannot fail, what is sought is found (proofs/Finds.antt). Assumes nothing.

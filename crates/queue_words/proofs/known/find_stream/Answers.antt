@@ -1,10 +1,8 @@
 -- `queue_words::known::find_stream` meets its contract: each return is a case of `find_stream_words`. Assumes nothing.
-use mathlib.Core.Path.{sym, ap, subst, ◌∙◌}
+use mathlib.Core.Path.{sym, subst, ◌∙◌}
 use Prim.Native.Nat.{◌≤◌, ◌<◌}
-use Rattle.queue_words.specs.Find.{place_tested}
 use Rattle.queue_words.specs.declared.header.Totals.{Totals}
 use Rattle.queue_words.proofs.Finds.{find_broken, among_is, place_broken, place_kept}
-use Rattle.std.proofs.Common.{rules, refl}
 use Rattle.queue_words.proofs.known.find_stream.Goals as goal
 
 -- `queue_words::known::find_stream` meets its contract: each return is a case of `find_stream_words`. Assumes nothing.

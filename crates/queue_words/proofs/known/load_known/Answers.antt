@@ -1,6 +1,5 @@
 -- `queue_words::known::load_known` meets its contract: it is what `known_out` does, under the name that laws speak of. Assumes nothing.
 use Rattle.queue_words.specs.Known.{known_at}
-use Rattle.std.proofs.Common.{rules}
 use Rattle.queue_words.proofs.known.load_known.Goals as goal
 
 -- `queue_words::known::load_known` meets its contract: it is what `known_out` does, under the name that laws speak of. Assumes nothing.

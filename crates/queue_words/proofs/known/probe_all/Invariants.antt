@@ -1,9 +1,7 @@
 -- `queue_words::known::probe_all` meets its contract. Invariant: the steps left lead where all of them do. Assumes nothing.
-use mathlib.Core.Path.{◌≡◌, refl, sym, ◌∙◌}
+use mathlib.Core.Path.{◌≡◌}
 use Prim.Native.Nat.{◌+◌, ◌≤◌}
-use native.Mathlib.Omega.{arith}
 use Rattle.queue_words.specs.Find.{all, probes}
-use Rattle.queue_words.proofs.Finds.{shrinks, one_more, no_more, stays_within}
 use Rattle.queue_words.proofs.known.probe_all.Given as goal
 
 -- `queue_words::known::probe_all` meets its contract. Invariant: the steps left lead where all of them do. Assumes nothing.

@@ -3,7 +3,6 @@ use mathlib.Core.Path.{sym, ap}
 use borrow.Author.Tests.{lt-ltb, le-ltb}
 use Rattle.queue_words.specs.declared.known.Known.{Known}
 use Rattle.queue_words.specs.Find.{probed}
-use Rattle.std.proofs.Common.{rules}
 use Rattle.queue_words.proofs.known.probe_once.Goals as goal
 
 -- `queue_words::known::probe_once` meets its contract: each return is a case of `probed`. Assumes nothing.

@@ -1,6 +1,5 @@
 -- `queue_words::known::row_known` meets its contract: the search ends at a stream that is known (proofs/Finds.antt). Assumes nothing.
 use Rattle.queue_words.proofs.Finds.{known_few, known_among, known_row}
-use Rattle.std.proofs.Common.{rules}
 use Rattle.queue_words.proofs.known.row_known.Goals as goal
 
 -- `queue_words::known::row_known` meets its contract: the search ends at a stream that is known (proofs/Finds.antt). Assumes nothing.

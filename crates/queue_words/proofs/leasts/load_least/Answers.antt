@@ -2,7 +2,6 @@
 use mathlib.Core.Path.{sym}
 use Rattle.queue_words.specs.Leasts.{leasts_at}
 use Rattle.queue_words.proofs.Rows.{row_word}
-use Rattle.std.proofs.Common.{rules}
 use Rattle.queue_words.proofs.leasts.load_least.Goals as goal
 
 -- `queue_words::leasts::load_least` meets its contract. Assumes nothing.

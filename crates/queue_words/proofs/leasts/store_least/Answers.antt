@@ -1,7 +1,6 @@
 -- `queue_words::leasts::store_least` meets its contract. Assumes nothing.
 use mathlib.Core.Path.{refl}
 use Rattle.queue_words.specs.Leasts.{put_least}
-use Rattle.std.proofs.Common.{rules}
 use Rattle.queue_words.proofs.leasts.store_least.Goals as goal
 
 -- `queue_words::leasts::store_least` meets its contract. Assumes nothing.
