@@ -1,15 +1,16 @@
 -- `owned_resets::receiving::handle_response` meets its contract: each return is a case of the checked call's (stream_reset_handler: proofs/Handles). Assumes nothing.
-use Rattle.std.proofs.Common.{rules}
 use mathlib.Core.Path.{refl}
 use mathlib.Core.Bool.{true, false}
 use Rattle.stream_reset_handler.proofs.Handles.{finish_accepted, step_commits, step_rolls_back, step_waits, step_ignores, step_refuses}
+use Rattle.std.proofs.Common.{rules}
+use Rattle.send_queue.specs.Call as call
 use Rattle.owned_resets.proofs.receiving.handle_response.Goals as goal
 
 pub returns-in-Commit : goal.returns-in-Commit
-returns-in-Commit c = step_commits _ _ _ _ c.in-Commit.ensures _ _ refl (finish_accepted true _ _ _ _ (search rules) 0 _ _ refl c.ended.ensures c.answered.ensures)
+returns-in-Commit c = step_commits _ _ _ _ c.in-Commit.ensures _ _ refl (finish_accepted true _ _ (call.Accepted 0) _ (search rules) 0 _ _ refl refl (search rules))
 
 pub returns-in-RollBack : goal.returns-in-RollBack
-returns-in-RollBack c = step_rolls_back _ _ _ _ c.in-RollBack.ensures _ _ refl (finish_accepted false _ _ _ _ (search rules) 0 _ _ refl c.ended-in-RollBack.ensures c.answered-in-RollBack.ensures)
+returns-in-RollBack c = step_rolls_back _ _ _ _ c.in-RollBack.ensures _ _ refl (finish_accepted false _ _ (call.Accepted 0) _ (search rules) 0 _ _ refl refl (search rules))
 
 pub returns-in-Wait : goal.returns-in-Wait
 returns-in-Wait c = step_waits _ _ _ _ c.in-Wait.ensures _ refl c.answered-in-Wait.ensures
