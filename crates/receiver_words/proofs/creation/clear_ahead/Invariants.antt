@@ -6,7 +6,4 @@ use Rattle.receiver_words.specs.Creation.{fill_to}
 use Rattle.receiver_words.proofs.creation.clear_ahead.Given as goal
 
 abbrev pub invariant-loop-i : goal.invariant-loop-i
-invariant-loop-i l = (l.i ≤ 1024) × (l.receiver ≡ fill_to Ahead l.initial.receiver 0 0 l.i)
-
-abbrev pub decreases-loop-i : goal.decreases-loop-i
-decreases-loop-i l = 1024 - l.i
+invariant-loop-i l = l.receiver ≡ fill_to Ahead l.initial.receiver 0 0 l.i

@@ -6,7 +6,4 @@ use Rattle.receiver_words.specs.Creation.{fill_to}
 use Rattle.receiver_words.proofs.creation.clear_buckets.Given as goal
 
 abbrev pub invariant-loop-i : goal.invariant-loop-i
-invariant-loop-i l = (l.i ≤ 4096) × (l.receiver ≡ fill_to Buckets l.initial.receiver l.k 4096 l.i)
-
-abbrev pub decreases-loop-i : goal.decreases-loop-i
-decreases-loop-i l = 4096 - l.i
+invariant-loop-i l = l.receiver ≡ fill_to Buckets l.initial.receiver l.k 4096 l.i
