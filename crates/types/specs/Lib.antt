@@ -1,2 +1,3 @@
 pub mod Keys
+pub mod Refusal
 pub mod Wrap

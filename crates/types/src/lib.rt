@@ -5,12 +5,16 @@ ghost use Rattle.std.specs.Prelude.{◌≡◌};
 ghost use Rattle.types.specs.Keys.{key_of, key_id, key_unordered};
 ghost use Rattle.types.specs.Wrap.{wrapping_add};
 
+pub mod refusal;
+
+pub use refusal::Refusal;
+
 // A stream's number.
-#[derive(Clone, Copy)]
+#[derive(Clone, Copy, Debug, PartialEq, Eq)]
 pub struct StreamId(pub u16);
 
 // A stream's ordered or unordered side: "ordered and unordered counting separately in each stream".
-#[derive(Clone, Copy)]
+#[derive(Clone, Copy, Debug, PartialEq, Eq)]
 pub enum StreamKey {
     Ordered(StreamId),
     Unordered(StreamId),
@@ -41,10 +45,7 @@ impl StreamKey {
     pub fn is_unordered(self) -> bool
         ensures { result ≡ key_unordered self }
     {
-        match self {
-            StreamKey::Ordered(_) => false,
-            StreamKey::Unordered(_) => true,
-        }
+        matches!(self, StreamKey::Unordered(_))
     }
 }
 
@@ -53,66 +54,54 @@ impl StreamKey {
 // width". A sum that passes the last number comes round; one law, over the width, proves all four.
 
 // The number of an ordered message of a stream.
-#[derive(Clone, Copy)]
+#[derive(Clone, Copy, Debug, PartialEq, Eq)]
 pub struct Ssn(pub u16);
 
 impl Ssn {
+    #[tactic(auto, unfolding(crate::specs::Wrap::wrapping_add))]
     pub fn add_to(self, other: u16) -> Self
         ensures { result.0 ≡ wrapping_add 16 self.0 other }
     {
-        if other <= u16::MAX - self.0 {
-            Ssn(self.0 + other)
-        } else {
-            Ssn(self.0 - (u16::MAX - other) - 1)
-        }
+        Ssn(self.0.wrapping_add(other))
     }
 }
 
 // The number of a message on its side of a stream.
-#[derive(Clone, Copy)]
+#[derive(Clone, Copy, Debug, PartialEq, Eq)]
 pub struct Mid(pub u32);
 
 impl Mid {
+    #[tactic(auto, unfolding(crate::specs::Wrap::wrapping_add))]
     pub fn add_to(self, other: u32) -> Self
         ensures { result.0 ≡ wrapping_add 32 self.0 other }
     {
-        if other <= u32::MAX - self.0 {
-            Mid(self.0 + other)
-        } else {
-            Mid(self.0 - (u32::MAX - other) - 1)
-        }
+        Mid(self.0.wrapping_add(other))
     }
 }
 
 // The number of a fragment in its message: "FSN grows by one a fragment (RFC 8260, 2.1)."
-#[derive(Clone, Copy)]
+#[derive(Clone, Copy, Debug, PartialEq, Eq)]
 pub struct Fsn(pub u32);
 
 impl Fsn {
+    #[tactic(auto, unfolding(crate::specs::Wrap::wrapping_add))]
     pub fn add_to(self, other: u32) -> Self
         ensures { result.0 ≡ wrapping_add 32 self.0 other }
     {
-        if other <= u32::MAX - self.0 {
-            Fsn(self.0 + other)
-        } else {
-            Fsn(self.0 - (u32::MAX - other) - 1)
-        }
+        Fsn(self.0.wrapping_add(other))
     }
 }
 
 // "Message ids have 32 bits, start at 0, grow by one with each accepted message and wrap." The Rust
 // adds to one with `+=`.
-#[derive(Clone, Copy)]
+#[derive(Clone, Copy, Debug, PartialEq, Eq)]
 pub struct OutgoingMessageId(pub u32);
 
 impl OutgoingMessageId {
+    #[tactic(auto, unfolding(crate::specs::Wrap::wrapping_add))]
     pub fn add_to(self, other: u32) -> Self
         ensures { result.0 ≡ wrapping_add 32 self.0 other }
     {
-        if other <= u32::MAX - self.0 {
-            OutgoingMessageId(self.0 + other)
-        } else {
-            OutgoingMessageId(self.0 - (u32::MAX - other) - 1)
-        }
+        OutgoingMessageId(self.0.wrapping_add(other))
     }
 }
