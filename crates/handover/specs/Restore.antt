@@ -2,7 +2,7 @@
 use Rattle.std.specs.Prelude.{ℕ, ◌-◌, Bool, List, ltb, eqb, length}
 use Rattle.queue_words.specs.Flags.{pick}
 use Rattle.queue_words.specs.Header.{options_at, totals_at}
-use Rattle.queue_streams.specs.declared.answers.Call.TheVariants.{Accepted, Refused}
+use Rattle.queue_streams.specs.Call.{Accepted, Refused}
 use Rattle.queue_messages.specs.Add.{Added, added, Stored, stored}
 use Rattle.handover_records.specs.Records.{trailer_at}
 use Rattle.handover_records.specs.declared.records.Trailer.{Trailer}

@@ -2,8 +2,8 @@
 use Rattle.std.specs.Prelude.{ℕ, ◌≡◌, List, eqb, set, get_or}
 use Rattle.queue_words.specs.Flags.{pick}
 use Rattle.queue_streams.specs.Answers.{call_number}
-use Rattle.queue_streams.specs.declared.answers.Call.{Call}
-use Rattle.queue_streams.specs.declared.answers.Call.TheVariants as call
+use Rattle.queue_streams.specs.Call.{Call}
+use Rattle.queue_streams.specs.Call as call
 use Rattle.stream_reset_handler.specs.declared.handler.Underway.{Underway}
 use Rattle.stream_reset_handler.specs.declared.handler.Underway.TheVariants as underway
 use Rattle.stream_reset_handler.specs.declared.handler.StreamResetHandler.{StreamResetHandler}

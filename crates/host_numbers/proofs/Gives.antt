@@ -4,7 +4,7 @@ use mathlib.Core.Path.{◌≡◌, refl}
 use mathlib.Core.List.{List}
 use Rattle.queue_streams.specs.Settings.{Called, CalledWith, called, called_with}
 use Rattle.queue_streams.specs.Answers.{call_number}
-use Rattle.queue_streams.specs.declared.answers.Call.{Call}
+use Rattle.queue_streams.specs.Call.{Call}
 use Rattle.queue_messages.specs.Add.{Added, added}
 use Rattle.queue_sending.specs.Data.{ProducedWith, produced_with, produced_number}
 use Rattle.queue_sending.specs.declared.data.Produced.{Produced}

@@ -4,8 +4,8 @@ use Rattle.queue_words.specs.Flags.{bit}
 use Rattle.queue_words.specs.declared.items.Expiry.{Expiry}
 use Rattle.queue_words.specs.declared.items.Expiry.TheVariants as expiry
 use Rattle.types.specs.Keys.{key_id, key_unordered}
-use Rattle.queue_streams.specs.declared.answers.Call.{Call}
-use Rattle.queue_streams.specs.declared.answers.Call.TheVariants.{Accepted, Refused}
+use Rattle.queue_streams.specs.Call.{Call}
+use Rattle.queue_streams.specs.Call.{Accepted, Refused}
 use Rattle.queue_messages.specs.declared.message.Lifetime.{Lifetime}
 use Rattle.queue_messages.specs.declared.message.Lifetime.TheVariants as life
 use Rattle.queue_messages.specs.declared.message.MaxRetransmissions.{MaxRetransmissions}

@@ -35,9 +35,9 @@ use Rattle.payload_store.proofs.Goods.{used_fits}
 use Rattle.stream_scheduler.specs.Link.{model_scheduler}
 use Rattle.stream_scheduler.specs.Link as link
 use Rattle.queue_streams.specs.Known.{new_stream_words, look_up, inserted}
-use Rattle.queue_streams.specs.declared.answers.Call.TheVariants.{Accepted, Refused}
-use Rattle.queue_streams.specs.declared.known.Place.{Place}
-use Rattle.queue_streams.specs.declared.known.Place.TheVariants as place
+use Rattle.queue_streams.specs.Call.{Accepted, Refused}
+use Rattle.queue_streams.specs.Place.{Place}
+use Rattle.queue_streams.specs.Place as place
 use Rattle.queue_state.specs.Chains.{each}
 use Rattle.queue_state.specs.Model.{next_of, item_in_words, pause_of, stream_of, row_at, options_of, stream_in, streams_in, model}
 use Rattle.queue_state.specs.Good.{Shape, Good}

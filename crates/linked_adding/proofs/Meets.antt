@@ -12,7 +12,7 @@ use Rattle.queue_model.specs.Run as run
 use Rattle.queue_words.specs.declared.header.RestartRule.{RestartRule}
 use Rattle.queue_streams.specs.Settings.{Called, called}
 use Rattle.queue_streams.specs.Answers.{call_number, call_events}
-use Rattle.queue_streams.specs.declared.answers.Call.{Call}
+use Rattle.queue_streams.specs.Call.{Call}
 use Rattle.queue_state.specs.Good.{Good}
 use Rattle.queue_state.specs.Promise.{Does}
 use Rattle.queue_state.proofs.Numbers.{tells}

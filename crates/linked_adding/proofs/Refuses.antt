@@ -21,7 +21,7 @@ use Rattle.queue_model.specs.Demands.{MessageTyped}
 use Rattle.queue_model.proofs.Invariant.Fine.{Fine}
 use Rattle.queue_model.proofs.Invariant.Sixteen.{fine_step}
 use Rattle.payload_store.specs.Words.{used_of}
-use Rattle.queue_streams.specs.declared.answers.Call.TheVariants.{Accepted, Refused}
+use Rattle.queue_streams.specs.Call.{Accepted, Refused}
 use Rattle.queue_state.specs.Model.{model}
 use Rattle.queue_state.specs.Good.{Shape, Good}
 use Rattle.queue_state.specs.Promise.{call_of, Does}

@@ -7,8 +7,8 @@ use Rattle.queue_words.specs.Header.{is_strict}
 use Rattle.queue_words.specs.declared.header.RestartRule.{RestartRule}
 use Rattle.queue_streams.specs.Settings.{called}
 use Rattle.queue_streams.specs.Answers.{call_number, call_events}
-use Rattle.queue_streams.specs.declared.answers.Call.{Call}
-use Rattle.queue_streams.specs.declared.answers.Call.TheVariants.{Accepted, Refused}
+use Rattle.queue_streams.specs.Call.{Call}
+use Rattle.queue_streams.specs.Call.{Accepted, Refused}
 use Rattle.queue_state.specs.Model.{model}
 use Rattle.queue_state.specs.Good.{Good}
 use Rattle.queue_messages.specs.Create as words_create

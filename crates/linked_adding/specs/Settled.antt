@@ -9,7 +9,7 @@ use Rattle.queue_words.specs.declared.streams.OutgoingStream.{OutgoingStream}
 use Rattle.queue_model.specs.Demands.{MessageTyped}
 use Rattle.payload_store.specs.Putting.{put_payload}
 use Rattle.stream_scheduler.specs.Words.{begin_waiting}
-use Rattle.queue_streams.specs.declared.known.Place.{Place}
+use Rattle.queue_streams.specs.Place.{Place}
 use Rattle.queue_messages.specs.Add.{starts, message_code, linked_last, counted, stream_for, row_for, made_known, HasPlace}
 use Rattle.queue_messages.specs.Message.{new_item_words}
 use Rattle.queue_messages.specs.declared.message.Message.{Message}

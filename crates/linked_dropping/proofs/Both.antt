@@ -6,7 +6,7 @@ use lib.ListN.{length}
 use Rattle.queue_model.specs.Run as run
 use Rattle.queue_streams.specs.Events.{places_in}
 use Rattle.queue_streams.specs.Settings.{CalledWith, called_with}
-use Rattle.queue_streams.specs.declared.answers.Call.{Call}
+use Rattle.queue_streams.specs.Call.{Call}
 use Rattle.queue_messages.specs.Discard.{discard}
 use Rattle.queue_closing.specs.Close.{close}
 use Rattle.queue_state.specs.Good.{Good}

@@ -39,9 +39,9 @@ use Rattle.stream_scheduler.proofs.Link.{remove_link}
 use Rattle.queue_streams.specs.Events.{event_words, places_in, written}
 use Rattle.queue_streams.specs.Known.{new_stream_words, look_up, inserted}
 use Rattle.queue_streams.specs.Settings.{CalledWith, called_with}
-use Rattle.queue_streams.specs.declared.answers.Call.TheVariants.{Accepted, Refused}
-use Rattle.queue_streams.specs.declared.known.Place.{Place}
-use Rattle.queue_streams.specs.declared.known.Place.TheVariants as place
+use Rattle.queue_streams.specs.Call.{Accepted, Refused}
+use Rattle.queue_streams.specs.Place.{Place}
+use Rattle.queue_streams.specs.Place as place
 use Rattle.message_chains.specs.Amounts.{rest}
 use Rattle.queue_closing.specs.Close.{closed_as, whole_left, close_whole, behind_left, close_behind, close_open_words, close_in, paused_new, close_at, close}
 use Rattle.queue_closing.specs.Sweep.{Swept, swept, sweep_from}

@@ -23,7 +23,7 @@ use Rattle.queue_model.specs.Produce.{drop_in}
 use Rattle.queue_model.proofs.Invariant.Events.{events_fit}
 use Rattle.queue_streams.specs.Events.{event_words, places_in}
 use Rattle.queue_streams.specs.Settings.{CalledWith, called_with}
-use Rattle.queue_streams.specs.declared.answers.Call.TheVariants.{Accepted, Refused}
+use Rattle.queue_streams.specs.Call.{Accepted, Refused}
 use Rattle.payload_store.proofs.Cases.{by_index}
 use Rattle.message_chains.specs.Dropping.{dropped_in_state}
 use Rattle.queue_messages.specs.Discard.{discard_in, discard}

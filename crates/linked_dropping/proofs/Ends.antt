@@ -11,7 +11,7 @@ use Rattle.queue_model.specs.Demands.{Typed}
 use Rattle.queue_model.proofs.Invariant.Well.{Well}
 use Rattle.queue_model.proofs.Invariant.Sixteen.{fine_step}
 use Rattle.queue_streams.specs.Events.{written}
-use Rattle.queue_streams.specs.declared.answers.Call.{Call}
+use Rattle.queue_streams.specs.Call.{Call}
 use Rattle.queue_state.specs.Model.{model}
 use Rattle.queue_state.specs.Good.{Shape, Good}
 use Rattle.queue_state.specs.Promise.{call_of, Reports}

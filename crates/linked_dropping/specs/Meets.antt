@@ -3,7 +3,7 @@ use Rattle.std.specs.Prelude.{ℕ, ◌≡◌, List}
 use Rattle.queue_model.specs.Run as run
 use Rattle.queue_streams.specs.Events.{places_in}
 use Rattle.queue_streams.specs.Settings.{called_with}
-use Rattle.queue_streams.specs.declared.answers.Call.{Call}
+use Rattle.queue_streams.specs.Call.{Call}
 use Rattle.queue_messages.specs.Discard.{discard}
 use Rattle.queue_closing.specs.Close.{close}
 use Rattle.queue_state.specs.Good.{Good}

@@ -9,7 +9,7 @@ use Rattle.queue_model.specs.Demands.{Typed}
 use Rattle.queue_model.specs.Types.{done}
 use Rattle.queue_model.proofs.Invariant.Well.{Well}
 use Rattle.queue_model.proofs.Invariant.Sixteen.{fine_step}
-use Rattle.queue_streams.specs.declared.answers.Call.TheVariants.{Accepted}
+use Rattle.queue_streams.specs.Call.{Accepted}
 use Rattle.queue_state.specs.Model.{model}
 use Rattle.queue_state.specs.Good.{Shape, Good}
 use Rattle.queue_state.specs.Promise.{Does, shown}

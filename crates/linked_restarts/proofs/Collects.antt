@@ -13,7 +13,7 @@ use Rattle.queue_words.specs.Streams.{is_paused_words, stream_at_words}
 use Rattle.std.specs.Prelude.{if◌then◌else◌}
 use Rattle.queue_model.specs.Types.{Stream}
 use Rattle.queue_model.specs.Reset.{is_paused, paused_ids}
-use Rattle.queue_streams.specs.declared.answers.Call.TheVariants.{Accepted}
+use Rattle.queue_streams.specs.Call.{Accepted}
 use Rattle.queue_restarts.specs.Ready.{paused_at, one_more, collected}
 use Rattle.queue_restarts.specs.declared.ready.ReadyStreams.{ReadyStreams}
 use Rattle.queue_state.specs.Chains.{each}

@@ -11,8 +11,8 @@ use Rattle.queue_model.specs.Run as run
 use Rattle.queue_streams.specs.Settings.{Called, called}
 use Rattle.queue_streams.specs.Restart.{reopen, set_interleaving_words}
 use Rattle.queue_streams.specs.Answers.{number_number, number_value}
-use Rattle.queue_streams.specs.declared.answers.Call.{Call}
-use Rattle.queue_streams.specs.declared.answers.Number.{Number}
+use Rattle.queue_streams.specs.Call.{Call}
+use Rattle.queue_streams.specs.Number.{Number}
 use Rattle.queue_restarts.specs.Ready.{Readied, readied, ready, ready_number, ready_list, count_of, ready_count}
 use Rattle.queue_restarts.specs.Reset.{reset_queue}
 use Rattle.queue_restarts.specs.declared.ready.ReadyStreams.{ReadyStreams}

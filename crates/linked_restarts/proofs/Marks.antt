@@ -26,7 +26,7 @@ use Rattle.queue_model.proofs.Ready.{paused_ascending}
 use Rattle.payload_store.proofs.Cases.{by_index}
 use Rattle.stream_scheduler.specs.Link.{model_scheduler}
 use Rattle.stream_scheduler.proofs.Link.{scheduler_same}
-use Rattle.queue_streams.specs.declared.answers.Call.TheVariants.{Accepted}
+use Rattle.queue_streams.specs.Call.{Accepted}
 use Rattle.queue_restarts.specs.Marking.{put_resetting}
 use Rattle.queue_restarts.specs.Ready.{places_fit, all_places_fit, marked, marked_all, collected, readied, ready, count_of, ready_count}
 use Rattle.queue_restarts.specs.declared.ready.ReadyStreams.{ReadyStreams}

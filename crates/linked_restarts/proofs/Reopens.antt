@@ -25,7 +25,7 @@ use Rattle.stream_scheduler.specs.Link.{model_scheduler}
 use Rattle.queue_streams.specs.Settings.{called}
 use Rattle.queue_streams.specs.Waiting.{rescheduled}
 use Rattle.queue_streams.specs.Restart.{opened, reopened_in, reopened_at, reopened_all, reopen}
-use Rattle.queue_streams.specs.declared.answers.Call.TheVariants.{Accepted}
+use Rattle.queue_streams.specs.Call.{Accepted}
 use Rattle.queue_streams.proofs.Commits.{opened_fits}
 use Rattle.queue_state.specs.Chains.{each}
 use Rattle.queue_state.specs.Model.{item_in_words, pause_of, stream_of, row_at, stream_in, streams_in, model, options_of}

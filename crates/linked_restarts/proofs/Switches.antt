@@ -20,7 +20,7 @@ use Rattle.stream_scheduler.specs.Link.{model_scheduler}
 use Rattle.queue_streams.specs.Settings.{called}
 use Rattle.queue_streams.specs.Waiting.{room_for}
 use Rattle.queue_streams.specs.Restart.{with_interleaving, switched_at, switched_all, alike, set_interleaving_words}
-use Rattle.queue_streams.specs.declared.answers.Call.TheVariants.{Accepted, Refused}
+use Rattle.queue_streams.specs.Call.{Accepted, Refused}
 use Rattle.queue_state.specs.Model.{row_at, stream_in, streams_in, model, options_of}
 use Rattle.queue_state.specs.Good.{Shape, Good}
 use Rattle.queue_state.specs.Promise.{Does}

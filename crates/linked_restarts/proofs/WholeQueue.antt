@@ -21,7 +21,7 @@ use Rattle.queue_model.proofs.PutBack.{no_overflow}
 use Rattle.queue_model.proofs.Invariant.Well.{Well}
 use Rattle.stream_scheduler.specs.Link.{model_scheduler}
 use Rattle.queue_streams.specs.Settings.{called}
-use Rattle.queue_streams.specs.declared.answers.Call.TheVariants.{Accepted}
+use Rattle.queue_streams.specs.Call.{Accepted}
 use Rattle.queue_restarts.specs.Reset.{with_total, reset_at, reset_all, reset_queue}
 use Rattle.queue_state.specs.Model.{row_at, stream_in, streams_in, model, options_of, tab}
 use Rattle.queue_state.specs.Good.{Shape, Good}

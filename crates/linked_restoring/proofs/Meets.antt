@@ -6,7 +6,7 @@ use lib.Dec.{T}
 use lib.ListN.{length}
 use lib.Pow.{are_bytes}
 use Rattle.queue_model.specs.Run as run
-use Rattle.queue_streams.specs.declared.answers.Call.{Call}
+use Rattle.queue_streams.specs.Call.{Call}
 use Rattle.queue_messages.specs.Add.{Added, added}
 use Rattle.queue_state.specs.Good.{Good}
 use Rattle.queue_state.specs.Promise.{Does}

@@ -15,7 +15,7 @@ use Rattle.queue_model.specs.Run as run
 use Rattle.queue_model.proofs.Invariant.Well.{room}
 use Rattle.queue_model.proofs.Invariant.Fine.{Fine}
 use Rattle.queue_model.proofs.Invariant.Sixteen.{fine_step}
-use Rattle.queue_streams.specs.declared.answers.Call.TheVariants.{Accepted, Refused}
+use Rattle.queue_streams.specs.Call.{Accepted, Refused}
 use Rattle.queue_state.specs.Model.{model}
 use Rattle.queue_state.specs.Good.{Good}
 use Rattle.queue_state.specs.Promise.{Does, call_of}

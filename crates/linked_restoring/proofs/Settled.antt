@@ -10,7 +10,7 @@ use lib.ListN.{length}
 use lib.Pow.{are_bytes}
 use Rattle.queue_words.specs.Flags.{pick}
 use Rattle.queue_words.specs.Header.{options_at, totals_at}
-use Rattle.queue_streams.specs.declared.answers.Call.TheVariants.{Accepted}
+use Rattle.queue_streams.specs.Call.{Accepted}
 use Rattle.queue_messages.specs.Add.{Added, added}
 use Rattle.queue_state.specs.Model.{model}
 use Rattle.handover_records.specs.declared.records.Trailer.{Trailer}

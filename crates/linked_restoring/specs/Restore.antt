@@ -1,7 +1,7 @@
 -- What restoring promises. Assumes nothing.
 use Rattle.std.specs.Prelude.{ℕ, ◌≡◌, List, length}
 use Rattle.queue_model.specs.Run as run
-use Rattle.queue_streams.specs.declared.answers.Call.{Call}
+use Rattle.queue_streams.specs.Call.{Call}
 use Rattle.queue_messages.specs.Add.{added}
 use Rattle.queue_state.specs.Good.{Good}
 use Rattle.queue_state.specs.Promise.{shown, Does, Tells}

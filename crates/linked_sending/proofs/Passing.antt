@@ -25,8 +25,8 @@ use Rattle.queue_model.proofs.Invariant.Events.{potential, LookSpends, look_spen
 use Rattle.stream_scheduler.specs.Link.{entry_at}
 use Rattle.queue_streams.specs.Events.{event_words, written}
 use Rattle.queue_streams.specs.Settings.{CalledWith, called_with}
-use Rattle.queue_streams.specs.declared.answers.Call.{Call}
-use Rattle.queue_streams.specs.declared.answers.Call.TheVariants as call
+use Rattle.queue_streams.specs.Call.{Call}
+use Rattle.queue_streams.specs.Call as call
 use Rattle.message_chains.specs.Amounts.{rest}
 use Rattle.queue_sending.specs.Choice.{look_ahead}
 use Rattle.queue_sending.specs.Data.{ProducedWith}

@@ -32,10 +32,10 @@ use Rattle.stream_scheduler.proofs.Handing.{peek_link}
 use Rattle.queue_streams.specs.Known.{new_stream_words}
 use Rattle.queue_questions.specs.Questions.{looked_at, stream_or_new, asked, priority_of_words, amount_of_words, threshold_of, total_of, empty_of, waits, data_of, ready_among, ready_of, readiness_of, room_of}
 use Rattle.queue_streams.specs.Answers.{number_number, number_value, flag_number, flag_value}
-use Rattle.queue_streams.specs.declared.answers.Flag.{Flag}
-use Rattle.queue_streams.specs.declared.answers.Flag.TheVariants as flag
-use Rattle.queue_streams.specs.declared.answers.Number.{Number}
-use Rattle.queue_streams.specs.declared.answers.Number.TheVariants as number
+use Rattle.queue_streams.specs.Flag.{Flag}
+use Rattle.queue_streams.specs.Flag as flag
+use Rattle.queue_streams.specs.Number.{Number}
+use Rattle.queue_streams.specs.Number as number
 use Rattle.queue_questions.specs.declared.questions.Looked.TheVariants as looked
 use Rattle.queue_state.specs.Model.{options_of, pause_of, row_at, stream_in, streams_in, model, tab}
 use Rattle.queue_state.specs.Good.{Good}

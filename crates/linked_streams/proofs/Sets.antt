@@ -27,10 +27,10 @@ use Rattle.queue_model.proofs.Invariant.Fine.{Fine, fine_set_priority, fine_set_
 use Rattle.queue_streams.specs.Events.{event_words, places_in, put_event, written}
 use Rattle.queue_streams.specs.Known.{new_stream_words, look_up}
 use Rattle.queue_streams.specs.Settings.{Called, CalledWith, called, called_with, with_priority_words, with_threshold_words, priority_in, set_priority_words, raised, threshold_in, set_threshold_words}
-use Rattle.queue_streams.specs.declared.answers.Call.{Call}
-use Rattle.queue_streams.specs.declared.answers.Call.TheVariants.{Accepted, Refused}
-use Rattle.queue_streams.specs.declared.known.Place.{Place}
-use Rattle.queue_streams.specs.declared.known.Place.TheVariants as place
+use Rattle.queue_streams.specs.Call.{Call}
+use Rattle.queue_streams.specs.Call.{Accepted, Refused}
+use Rattle.queue_streams.specs.Place.{Place}
+use Rattle.queue_streams.specs.Place as place
 use Rattle.queue_state.specs.Chains.{each}
 use Rattle.queue_state.specs.Model.{item_in_words, pause_of, stream_of, row_at, stream_in, streams_in, model}
 use Rattle.queue_state.specs.Good.{Good}

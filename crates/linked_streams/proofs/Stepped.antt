@@ -19,8 +19,8 @@ use Rattle.queue_model.proofs.Invariant.Well.{Well}
 use Rattle.queue_model.proofs.Invariant.Fine.{Fine}
 use Rattle.stream_scheduler.specs.Link.{model_scheduler}
 use Rattle.queue_streams.specs.Known.{inserted}
-use Rattle.queue_streams.specs.declared.answers.Call.{Call}
-use Rattle.queue_streams.specs.declared.answers.Call.TheVariants.{Accepted, Refused}
+use Rattle.queue_streams.specs.Call.{Call}
+use Rattle.queue_streams.specs.Call.{Accepted, Refused}
 use Rattle.queue_state.specs.Chains.{each}
 use Rattle.queue_state.specs.Model.{item_in_words, stream_of, row_at, options_of, streams_in, model}
 use Rattle.queue_state.specs.Good.{Shape, Good}

@@ -7,9 +7,9 @@ use Rattle.queue_model.specs.Calls
 use Rattle.queue_model.specs.Run as run
 use Rattle.queue_questions.specs.Questions.{priority_of_words, amount_of_words, threshold_of, total_of, empty_of, data_of, ready_of, readiness_of, room_of}
 use Rattle.queue_streams.specs.Answers.{number_number, number_value, flag_number, flag_value}
-use Rattle.queue_streams.specs.declared.answers.Flag.{Flag}
-use Rattle.queue_streams.specs.declared.answers.Flag.TheVariants as flag_answer
-use Rattle.queue_streams.specs.declared.answers.Number.{Number}
+use Rattle.queue_streams.specs.Flag.{Flag}
+use Rattle.queue_streams.specs.Flag as flag_answer
+use Rattle.queue_streams.specs.Number.{Number}
 use Rattle.queue_state.specs.Good.{Good}
 use Rattle.queue_state.specs.Model.{model}
 use Rattle.queue_state.specs.Promise.{shown, number_of}

@@ -3,7 +3,7 @@ use Rattle.std.specs.Prelude.{ℕ, ◌≡◌, List}
 use Rattle.queue_model.specs.Run as run
 use Rattle.queue_streams.specs.Events.{places_in}
 use Rattle.queue_streams.specs.Settings.{called, called_with, set_priority_words, set_threshold_words}
-use Rattle.queue_streams.specs.declared.answers.Call.{Call}
+use Rattle.queue_streams.specs.Call.{Call}
 use Rattle.queue_state.specs.Good.{Good}
 use Rattle.queue_state.specs.Promise.{shown, Does, Reports, Tells}
 

@@ -11,7 +11,7 @@ use Rattle.queue_words.specs.declared.streams.PauseState.TheVariants.{NotPaused,
 use Rattle.stream_scheduler.specs.Words.{Outcome, remove_stream_words, set_bytes_remaining_words}
 use Rattle.queue_streams.specs.Settings.{CalledWith, called_with}
 use Rattle.queue_streams.specs.Waiting.{head_size_words, parameters_for}
-use Rattle.queue_streams.specs.declared.answers.Call.TheVariants.{Accepted, Refused}
+use Rattle.queue_streams.specs.Call.{Accepted, Refused}
 use Rattle.message_chains.specs.Amounts.{rest}
 use Rattle.message_chains.specs.Heads.{head_code, head_dropped, drop_notes}
 

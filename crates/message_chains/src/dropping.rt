@@ -8,7 +8,7 @@ ghost use Rattle.payload_store.specs.Dropping.{drop_code_words};
 ghost use Rattle.stream_scheduler.specs.Words.{outcome};
 ghost use Rattle.queue_streams.specs.Settings.{called_with};
 ghost use Rattle.queue_streams.specs.Waiting.{parameters_for};
-ghost use Rattle.queue_streams.specs.declared.answers.Call.TheVariants.{Accepted};
+ghost use Rattle.queue_streams.specs.Call.{Accepted};
 ghost use Rattle.message_chains.specs.Dropping.{scheduled_behind, end_pending_words, behind_dropped, dropped_in_state, MayDrop};
 
 use crate::amounts::remaining;

@@ -6,8 +6,8 @@ use Prim.Native.Nat.{ℕ}
 use borrow.Author.Tests.{eqb-true}
 use lib.Dec.{eqb}
 use Rattle.queue_streams.specs.Answers.{call_number}
-use Rattle.queue_streams.specs.declared.answers.Call.{Call}
-use Rattle.queue_streams.specs.declared.answers.Call.TheVariants as call
+use Rattle.queue_streams.specs.Call.{Call}
+use Rattle.queue_streams.specs.Call as call
 use Rattle.queue_runs.specs.Calls as calls
 use Rattle.queue_runs.specs.Run.{State}
 use Rattle.queue_runs.specs.Creation.{Arguments, creation, sixteen}

@@ -18,9 +18,9 @@ use Rattle.payload_store.proofs.Goods.{used_fits}
 use Rattle.queue_streams.specs.Answers.{call_number}
 use Rattle.queue_streams.specs.Known.{new_stream_words, look_up}
 use Rattle.queue_streams.specs.Owned.{placed_as}
-use Rattle.queue_streams.specs.declared.answers.Call.TheVariants as call
-use Rattle.queue_streams.specs.declared.known.Place.{Place}
-use Rattle.queue_streams.specs.declared.known.Place.TheVariants as place
+use Rattle.queue_streams.specs.Call as call
+use Rattle.queue_streams.specs.Place.{Place}
+use Rattle.queue_streams.specs.Place as place
 use Rattle.queue_streams.specs.declared.owned.OwnPlace.{OwnPlace}
 use Rattle.queue_streams.specs.declared.owned.OwnPlace.TheVariants as own
 use Rattle.queue_state.specs.Good.{Good}

@@ -2,9 +2,9 @@
 use Rattle.std.specs.Prelude.{ℕ, ◌≤◌, ◌≡◌, List, length}
 use Rattle.queue_model.specs.Run as run
 use Rattle.queue_streams.specs.Answers.{call_number}
-use Rattle.queue_streams.specs.declared.answers.Call.{Call}
-use Rattle.queue_streams.specs.declared.answers.Call.TheVariants as call
-use Rattle.queue_streams.specs.declared.known.Place.{Place}
+use Rattle.queue_streams.specs.Call.{Call}
+use Rattle.queue_streams.specs.Call as call
+use Rattle.queue_streams.specs.Place.{Place}
 use Rattle.queue_state.specs.Promise.{shown, Does, Tells}
 use Rattle.queue_messages.specs.Add as checked
 use Rattle.queue_messages.specs.Message.{nanoseconds}

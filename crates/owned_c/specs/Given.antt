@@ -1,6 +1,6 @@
 -- What a call gives that is never refused: its value, and what is left in each array, by the definition on the words. Assumes nothing.
 use Rattle.std.specs.Prelude.{ℕ, ◌≡◌, List}
-use Rattle.queue_streams.specs.declared.answers.Call.TheVariants.{Accepted}
+use Rattle.queue_streams.specs.Call.{Accepted}
 use Rattle.queue_restarts.specs.Ready.{Readied}
 use Rattle.host_numbers.specs.Numbers.{with_first}
 

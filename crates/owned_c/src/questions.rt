@@ -2,7 +2,7 @@
 ghost use Rattle.std.specs.Prelude.{◌≡◌};
 ghost use Rattle.queue_words.specs.Flags.{bit};
 ghost use Rattle.queue_streams.specs.Answers.{flag_number, flag_value};
-ghost use Rattle.queue_streams.specs.declared.answers.Number.TheVariants.{Value};
+ghost use Rattle.queue_streams.specs.Number.{Value};
 ghost use Rattle.queue_questions.specs.Questions.{priority_of_words, amount_of_words, threshold_of, data_of, ready_of};
 ghost use Rattle.queue_restarts.specs.Ready.{ready_count};
 ghost use Rattle.owned_streams.specs.Own.{OwnWords};

@@ -2,7 +2,7 @@
 ghost use Rattle.std.specs.Prelude.{◌≡◌, true, false};
 ghost use Rattle.queue_streams.specs.Settings.{called};
 ghost use Rattle.queue_streams.specs.Restart.{reopen, set_interleaving_words};
-ghost use Rattle.queue_streams.specs.declared.answers.Call.TheVariants.{Accepted};
+ghost use Rattle.queue_streams.specs.Call.{Accepted};
 ghost use Rattle.queue_restarts.specs.Ready.{ready};
 ghost use Rattle.queue_restarts.specs.Reset.{reset_queue};
 ghost use Rattle.owned_streams.specs.Own.{OwnWords};

@@ -24,8 +24,8 @@ use Rattle.stream_scheduler.proofs.Frames.{untouched_same}
 use Rattle.queue_streams.specs.Events.{event_words, places_in}
 use Rattle.queue_streams.specs.Known.{look_up}
 use Rattle.queue_streams.specs.Settings.{CalledWith, called_with}
-use Rattle.queue_streams.specs.declared.answers.Call.TheVariants.{Accepted}
-use Rattle.queue_streams.specs.declared.known.Place.TheVariants as place
+use Rattle.queue_streams.specs.Call.{Accepted}
+use Rattle.queue_streams.specs.Place as place
 use Rattle.queue_closing.specs.Walk.{may_sweep}
 use Rattle.queue_closing.specs.Sweep.{sweep_from, Goes}
 use Rattle.queue_closing.specs.Close.{whole_left, behind_left, close_open_words}

@@ -17,7 +17,7 @@ use Rattle.queue_model.specs.Demands.{Typed}
 use Rattle.queue_model.specs.Run as run
 use Rattle.queue_streams.specs.Events.{event_words, places_in}
 use Rattle.queue_streams.specs.Settings.{CalledWith, called_with}
-use Rattle.queue_streams.specs.declared.answers.Call.TheVariants.{Accepted, Refused}
+use Rattle.queue_streams.specs.Call.{Accepted, Refused}
 use Rattle.message_chains.specs.Dropping.{dropped_in_state, MayDrop}
 use Rattle.message_chains.proofs.Own.{may_drop}
 use Rattle.queue_messages.specs.Discard.{discard_in, discard}

@@ -3,7 +3,7 @@
 ghost use Rattle.std.specs.Prelude.{◌≡◌, true, ◌<◌};
 ghost use Rattle.queue_words.specs.Streams.{is_open, stream_at_words};
 ghost use Rattle.queue_streams.specs.Settings.{called_with};
-ghost use Rattle.queue_streams.specs.declared.answers.Call.TheVariants.{Accepted};
+ghost use Rattle.queue_streams.specs.Call.{Accepted};
 ghost use Rattle.queue_closing.specs.Close.{close_open_words, close_in};
 ghost use Rattle.linked_dropping.specs.Meets.{CloseMeets};
 ghost use Rattle.owned_streams.specs.Own.{OwnWords};

@@ -2,7 +2,7 @@
 ghost use Rattle.std.specs.Prelude.{◌≡◌, ◌<◌};
 ghost use Rattle.queue_words.specs.Streams.{stream_at_words};
 ghost use Rattle.queue_streams.specs.Settings.{called_with};
-ghost use Rattle.queue_streams.specs.declared.answers.Call.TheVariants.{Accepted};
+ghost use Rattle.queue_streams.specs.Call.{Accepted};
 ghost use Rattle.queue_messages.specs.Discard.{discard_in};
 ghost use Rattle.linked_dropping.specs.Meets.{DiscardMeets};
 ghost use Rattle.owned_streams.specs.Own.{OwnWords};

@@ -15,7 +15,7 @@ use Rattle.queue_model.proofs.Invariant.Events.{LookSpends, look_spends}
 use Rattle.stream_scheduler.specs.Link.{entry_at}
 use Rattle.queue_streams.specs.Events.{written}
 use Rattle.queue_streams.specs.Settings.{CalledWith, called_with}
-use Rattle.queue_streams.specs.declared.answers.Call.TheVariants.{Accepted}
+use Rattle.queue_streams.specs.Call.{Accepted}
 use Rattle.message_chains.specs.Dropping.{dropped_in_state, MayDrop}
 use Rattle.message_chains.proofs.Own.{may_drop}
 use Rattle.queue_sending.specs.Choice.{look_ahead}

@@ -21,9 +21,9 @@ use Rattle.queue_words.proofs.Finds.{find_hit}
 use Rattle.std.specs.Prelude.{if◌then◌else◌}
 use Rattle.stream_scheduler.specs.Words.{peek_among, peek_words}
 use Rattle.stream_scheduler.specs.declared.Peeked.TheVariants as peeked
-use Rattle.queue_streams.specs.declared.answers.Call.TheVariants.{Accepted}
-use Rattle.queue_streams.specs.declared.answers.Flag.TheVariants as flag
-use Rattle.queue_streams.specs.declared.answers.Number.TheVariants as number
+use Rattle.queue_streams.specs.Call.{Accepted}
+use Rattle.queue_streams.specs.Flag as flag
+use Rattle.queue_streams.specs.Number as number
 use Rattle.queue_questions.specs.Questions.{waits, data_of, ready_among, ready_of}
 use Rattle.queue_questions.proofs.Exits.{ready_told}
 use Rattle.queue_restarts.specs.Ready.{paused_at, one_more, collected, ready_count}

@@ -1,7 +1,7 @@
 -- "If an answer is an enum, a definition states this paper's number and values for each case of the enum." Of the owned settings, as the checked call
 -- says it; 16 is none of them. Assumes nothing.
-use Rattle.queue_streams.specs.declared.answers.Call.{Call}
-use Rattle.queue_streams.specs.declared.answers.Call.TheVariants.{Accepted, Refused}
+use Rattle.queue_streams.specs.Call.{Call}
+use Rattle.queue_streams.specs.Call.{Accepted, Refused}
 use Rattle.owned_streams.specs.declared.settings.PrioritySet.{PrioritySet}
 use Rattle.owned_streams.specs.declared.settings.PrioritySet.TheVariants as priority
 use Rattle.owned_streams.specs.declared.settings.ThresholdSet.{ThresholdSet}

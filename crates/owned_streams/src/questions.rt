@@ -1,8 +1,8 @@
 // The questions: each answers the plain value.
 ghost use Rattle.std.specs.Prelude.{◌≡◌, ◌≤◌};
 ghost use Rattle.queue_words.specs.Find.{Findable};
-ghost use Rattle.queue_streams.specs.declared.answers.Number.TheVariants as number;
-ghost use Rattle.queue_streams.specs.declared.answers.Flag.TheVariants as flag;
+ghost use Rattle.queue_streams.specs.Number as number;
+ghost use Rattle.queue_streams.specs.Flag as flag;
 ghost use Rattle.queue_questions.specs.Questions.{stream_or_new, ready_among};
 ghost use Rattle.queue_questions.specs.declared.questions.Looked.TheVariants.{Stream};
 ghost use Rattle.queue_restarts.specs.Ready.{collected};

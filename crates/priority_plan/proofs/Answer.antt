@@ -15,7 +15,7 @@ use Rattle.queue_model.proofs.Tests.{holds}
 use Rattle.queue_model.proofs.Checks.{or_left, or_right, not_less}
 use Rattle.priority_plan.specs.declared.plan.PlannedPriorities.{PlannedPriorities}
 use Rattle.queue_streams.specs.Answers.{call_number}
-use Rattle.queue_streams.specs.declared.answers.Call.TheVariants.{Accepted, Refused}
+use Rattle.queue_streams.specs.Call.{Accepted, Refused}
 use Rattle.priority_plan.specs.Works.{PlannedStream, planned_streams, All, Works, max_priority}
 use Rattle.priority_plan.specs.Least.{least_set, max_limit}
 use Rattle.priority_plan.specs.Lists.{named_twice, size_outside, list_wrong, max_planned}

@@ -4,7 +4,7 @@ use Rattle.std.proofs.Math.Option.{Option, none, some}
 use Rattle.std.specs.Prelude.{if◌then◌else◌}
 use Rattle.queue_model.specs.Logic.{any}
 use Rattle.queue_model.specs.Refusals.{Check, ◌when◌, first_refusal, limit_wrong}
-use Rattle.queue_streams.specs.declared.answers.Call.TheVariants.{Accepted, Refused}
+use Rattle.queue_streams.specs.Call.{Accepted, Refused}
 use Rattle.priority_plan.specs.declared.plan.PlannedPriorities.{PlannedPriorities}
 use Rattle.priority_plan.specs.Works.{PlannedStream, planned_streams, max_priority}
 use Rattle.priority_plan.specs.Least.{least_set}

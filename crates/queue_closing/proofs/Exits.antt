@@ -14,9 +14,9 @@ use Rattle.stream_scheduler.proofs.Frames.{kept_remove, untouched_remove}
 use Rattle.queue_streams.specs.Events.{event_words}
 use Rattle.queue_streams.specs.Known.{new_stream_words, look_up, inserted}
 use Rattle.queue_streams.specs.Settings.{CalledWith, called_with}
-use Rattle.queue_streams.specs.declared.answers.Call.TheVariants.{Accepted, Refused}
-use Rattle.queue_streams.specs.declared.known.Place.{Place}
-use Rattle.queue_streams.specs.declared.known.Place.TheVariants as place
+use Rattle.queue_streams.specs.Call.{Accepted, Refused}
+use Rattle.queue_streams.specs.Place.{Place}
+use Rattle.queue_streams.specs.Place as place
 use Rattle.queue_closing.specs.Walk.{may_sweep}
 use Rattle.queue_closing.specs.Sweep.{Goes}
 use Rattle.queue_closing.specs.Close.{close_whole, close_in, paused_new, close}

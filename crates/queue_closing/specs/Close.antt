@@ -11,9 +11,9 @@ use Rattle.stream_scheduler.specs.Words.{remove_stream_words}
 use Rattle.queue_streams.specs.Events.{event_words}
 use Rattle.queue_streams.specs.Known.{new_stream_words, look_up, inserted}
 use Rattle.queue_streams.specs.Settings.{CalledWith, called_with}
-use Rattle.queue_streams.specs.declared.answers.Call.TheVariants.{Accepted, Refused}
-use Rattle.queue_streams.specs.declared.known.Place.{Place}
-use Rattle.queue_streams.specs.declared.known.Place.TheVariants as place
+use Rattle.queue_streams.specs.Call.{Accepted, Refused}
+use Rattle.queue_streams.specs.Place.{Place}
+use Rattle.queue_streams.specs.Place as place
 use Rattle.queue_closing.specs.Walk.{may_sweep}
 use Rattle.queue_closing.specs.Sweep.{Swept, sweep_from}
 

@@ -9,7 +9,7 @@ ghost use Rattle.queue_streams.specs.Settings.{called_with};
 ghost use Rattle.queue_closing.specs.Walk.{walk_failed, may_go, walk_item, walk, may_sweep};
 ghost use Rattle.queue_closing.specs.Sweep.{swept, sweep_notes, sweep_item_words, sweep, sweep_from, Goes};
 ghost use Rattle.queue_closing.specs.Close.{whole_left, close_whole, behind_left, close_behind, close_open_words, close_in, paused_new, close};
-ghost use Rattle.queue_streams.specs.declared.answers.Call.TheVariants.{Accepted};
+ghost use Rattle.queue_streams.specs.Call.{Accepted};
 
 use message_chains::amounts::{minus, remaining};
 use message_chains::heads::release;

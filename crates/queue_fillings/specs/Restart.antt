@@ -2,7 +2,7 @@
 -- Assumes nothing.
 use Rattle.std.specs.Prelude.{ℕ, ◌≡◌, false, List, [], ◌∷◌}
 use Rattle.queue_words.specs.declared.header.RestartRule.TheVariants.{Strict}
-use Rattle.queue_streams.specs.declared.answers.Call.TheVariants as call
+use Rattle.queue_streams.specs.Call as call
 use Rattle.queue_runs.specs.Calls.{Call, reset, restore, called}
 use Rattle.queue_runs.specs.Run.{State, step}
 use Rattle.queue_runs.specs.Meaning.{AllTyped}

@@ -10,7 +10,7 @@ use Rattle.queue_words.specs.Flags.{pick}
 use Rattle.queue_words.specs.Header.{options_at}
 use Rattle.queue_streams.specs.Answers.{call_number}
 use Rattle.queue_streams.specs.Settings.{called}
-use Rattle.queue_streams.specs.declared.answers.Call.TheVariants as call
+use Rattle.queue_streams.specs.Call as call
 use Rattle.queue_messages.specs.Create.{create_code, create, new_words, new_options}
 use Rattle.queue_runs.specs.Numbers.{among}
 use Rattle.queue_runs.specs.Refusals.{call_refused}

@@ -3,7 +3,7 @@ use Rattle.std.specs.Prelude.{ℕ, ◌≤◌, ◌<◌, ◌^◌, ◌≡◌, Bool,
 use Rattle.queue_model.specs.Types.{Queue}
 use Rattle.queue_model.specs.Demands.{fresh, forget_plain, Matched}
 use Rattle.queue_model.specs.RustHandover.{HandoverState, handover_state, restore_from_state, restore_remembering}
-use Rattle.queue_streams.specs.declared.answers.Call.TheVariants.{Accepted}
+use Rattle.queue_streams.specs.Call.{Accepted}
 use Rattle.saving.specs.Save.{saved_as, save_image}
 use Rattle.saving.specs.declared.image.Saved.TheVariants.{Image}
 use Rattle.queue_runs.specs.Calls.{restore, set_interleaving, called}

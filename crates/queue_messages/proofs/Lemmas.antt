@@ -15,8 +15,8 @@ use Rattle.queue_words.specs.declared.known.Found.{Found}
 use Rattle.queue_words.specs.declared.known.Found.TheVariants.{At}
 use Rattle.queue_words.proofs.Finds.{find_hit}
 use Rattle.queue_streams.specs.Known.{look_up}
-use Rattle.queue_streams.specs.declared.known.Place.{Place}
-use Rattle.queue_streams.specs.declared.known.Place.TheVariants as place
+use Rattle.queue_streams.specs.Place.{Place}
+use Rattle.queue_streams.specs.Place as place
 use Rattle.queue_streams.proofs.Exits.{look_row, look_new}
 use Rattle.queue_messages.specs.Add.{arguments_code, HasPlace, row_for}
 use Rattle.queue_messages.specs.Create.{freed}

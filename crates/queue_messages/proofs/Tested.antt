@@ -21,8 +21,8 @@ use Rattle.payload_store.specs.Putting.{row_fits_words, fits_to, all_fit, put_co
 use Rattle.payload_store.proofs.Cases.{pick_else, pick_then, false_true}
 use Rattle.payload_store.proofs.Frames.{put_frame}
 use Rattle.queue_streams.specs.Known.{new_stream_words}
-use Rattle.queue_streams.specs.declared.known.Place.{Place}
-use Rattle.queue_streams.specs.declared.known.Place.TheVariants as place
+use Rattle.queue_streams.specs.Place.{Place}
+use Rattle.queue_streams.specs.Place as place
 use Rattle.queue_streams.proofs.Beside.{around}
 use Rattle.queue_messages.proofs.Lemmas.{row_fits}
 use Rattle.queue_messages.specs.Add.{starts, has_room_words, places_code, full_code, broken_code, message_code, HasLast, linked_last, counted, MayAppend, stream_for, row_for, made_known, HasPlace}

@@ -14,10 +14,10 @@ use Rattle.payload_store.specs.Putting.{put_code, put_payload}
 use Rattle.stream_scheduler.specs.Words.{begin_waiting}
 use Rattle.queue_streams.specs.Known.{new_stream_words, look_up, inserted}
 use Rattle.queue_streams.specs.Waiting.{parameters_for}
-use Rattle.queue_streams.specs.declared.answers.Call.{Call}
-use Rattle.queue_streams.specs.declared.answers.Call.TheVariants.{Accepted, Refused}
-use Rattle.queue_streams.specs.declared.known.Place.{Place}
-use Rattle.queue_streams.specs.declared.known.Place.TheVariants as place
+use Rattle.queue_streams.specs.Call.{Call}
+use Rattle.queue_streams.specs.Call.{Accepted, Refused}
+use Rattle.queue_streams.specs.Place.{Place}
+use Rattle.queue_streams.specs.Place as place
 use Rattle.message_chains.specs.Amounts.{sum}
 use Rattle.queue_messages.specs.Message.{nanoseconds, new_item_words}
 use Rattle.queue_messages.specs.declared.message.Lifetime.{Lifetime}

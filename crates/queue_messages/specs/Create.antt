@@ -9,7 +9,7 @@ use Rattle.queue_words.specs.declared.header.RestartRule.{RestartRule}
 use Rattle.queue_words.specs.declared.header.SchedulerState.{SchedulerState}
 use Rattle.queue_words.specs.declared.header.Totals.{Totals}
 use Rattle.queue_streams.specs.Settings.{Called, called}
-use Rattle.queue_streams.specs.declared.answers.Call.TheVariants.{Accepted, Refused}
+use Rattle.queue_streams.specs.Call.{Accepted, Refused}
 
 -- 1: "At creation, the payload limit is outside 1 to 65,535." 2: "The store is outside 1 to 2,000,000 bytes at creation".
 unfoldable pub create_code : ℕ → ℕ → ℕ

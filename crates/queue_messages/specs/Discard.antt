@@ -9,7 +9,7 @@ use Rattle.queue_words.specs.declared.known.Found.TheVariants.{At, Gap, Broken}
 use Rattle.queue_words.specs.declared.streams.OutgoingStream.{OutgoingStream}
 use Rattle.queue_streams.specs.Events.{event_words}
 use Rattle.queue_streams.specs.Settings.{CalledWith, called_with}
-use Rattle.queue_streams.specs.declared.answers.Call.TheVariants.{Accepted, Refused}
+use Rattle.queue_streams.specs.Call.{Accepted, Refused}
 use Rattle.message_chains.specs.Dropping.{dropped_in_state}
 
 -- "Discard acts only on a head with that id."

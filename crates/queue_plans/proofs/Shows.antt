@@ -10,7 +10,7 @@ use lib.ListN.{length}
 use Rattle.queue_model.specs.Types as plain
 use Rattle.queue_model.specs.Types.{Queue, Outcome}
 use Rattle.queue_model.specs.Run as run
-use Rattle.queue_streams.specs.declared.answers.Call.TheVariants as call
+use Rattle.queue_streams.specs.Call as call
 use Rattle.linked_sending.specs.Meaning.{produced_of}
 use Rattle.queue_runs.specs.Calls.{Call, call_of, set_priority, set_interleaving, called}
 use Rattle.queue_runs.specs.Meaning.{quiet_of, shown_of, calls_of, all_shown_of}

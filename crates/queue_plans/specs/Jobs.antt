@@ -1,7 +1,7 @@
 -- The calls of a job: the priorities are set on a new interleaving queue, then the messages are added, then fragments are asked for. Assumes nothing.
 use Rattle.std.specs.Prelude.{ℕ, ◌≡◌, true, List, [], ◌∷◌, map, length}
 use Rattle.std.proofs.Math.Option.{some}
-use Rattle.queue_streams.specs.declared.answers.Call.TheVariants as call
+use Rattle.queue_streams.specs.Call as call
 use Rattle.queue_messages.specs.declared.message.Message.{Message}
 use Rattle.linked_adding.specs.Message.{message_of_words}
 use Rattle.queue_runs.specs.Calls.{Call, add, produce, set_priority, set_interleaving, called, Shown}

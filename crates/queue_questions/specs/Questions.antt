@@ -13,10 +13,10 @@ use Rattle.stream_scheduler.specs.Words.{peek_words}
 use Rattle.stream_scheduler.specs.declared.Peeked.{Peeked}
 use Rattle.stream_scheduler.specs.declared.Peeked.TheVariants as peeked
 use Rattle.queue_streams.specs.Known.{new_stream_words}
-use Rattle.queue_streams.specs.declared.answers.Flag.{Flag}
-use Rattle.queue_streams.specs.declared.answers.Flag.TheVariants as flag
-use Rattle.queue_streams.specs.declared.answers.Number.{Number}
-use Rattle.queue_streams.specs.declared.answers.Number.TheVariants as number
+use Rattle.queue_streams.specs.Flag.{Flag}
+use Rattle.queue_streams.specs.Flag as flag
+use Rattle.queue_streams.specs.Number.{Number}
+use Rattle.queue_streams.specs.Number as number
 use Rattle.queue_questions.specs.declared.questions.Looked.{Looked}
 use Rattle.queue_questions.specs.declared.questions.Looked.TheVariants as looked
 

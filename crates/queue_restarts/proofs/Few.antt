@@ -8,9 +8,9 @@ use lib.ListN.{length, length-set, length-replicate}
 use Rattle.queue_words.specs.Flags.{pick}
 use Rattle.queue_words.specs.Header.{totals_at}
 use Rattle.queue_words.specs.Known.{known_at}
-use Rattle.queue_streams.specs.declared.answers.Call.{Call}
-use Rattle.queue_streams.specs.declared.answers.Call.TheVariants.{Accepted, Refused}
-use Rattle.queue_streams.specs.declared.answers.Number.TheVariants as number
+use Rattle.queue_streams.specs.Call.{Call}
+use Rattle.queue_streams.specs.Call.{Accepted, Refused}
+use Rattle.queue_streams.specs.Number as number
 use Rattle.queue_restarts.specs.Ready.{all_places_fit, paused_at, one_more, collected, refused_ready, marked_all, readied, ready, count_of, ready_count}
 use Rattle.queue_restarts.specs.declared.ready.ReadyStreams.{ReadyStreams}
 use Rattle.queue_restarts.proofs.Loops.{all_fit}

@@ -18,9 +18,9 @@ use Rattle.queue_words.specs.declared.header.Totals.{Totals}
 use Rattle.queue_words.specs.declared.known.Known.{Known}
 use Rattle.queue_words.specs.declared.streams.OutgoingStream.{OutgoingStream}
 use Rattle.queue_streams.specs.Answers.{is_accepted}
-use Rattle.queue_streams.specs.declared.answers.Call.{Call}
-use Rattle.queue_streams.specs.declared.answers.Call.TheVariants.{Accepted, Refused}
-use Rattle.queue_streams.specs.declared.answers.Number.TheVariants as number
+use Rattle.queue_streams.specs.Call.{Call}
+use Rattle.queue_streams.specs.Call.{Accepted, Refused}
+use Rattle.queue_streams.specs.Number as number
 use Rattle.queue_restarts.specs.Ready.{places_fit, all_places_fit, paused_at, one_more, collected, refused_ready, collected_or16, marked, marked_all, readied, ready, count_of, ready_count}
 use Rattle.queue_restarts.specs.Reset.{put_back, sum_stream, sum_known, sum_all, reset_at, reset_all}
 use Rattle.queue_restarts.specs.Settled.{reset_done_at, ResetSteps}

@@ -13,7 +13,7 @@ use Rattle.queue_words.specs.declared.streams.OutgoingStream.{OutgoingStream}
 use Rattle.queue_words.specs.Streams.{stream_at_words, put_stream_words}
 use Rattle.queue_streams.specs.Settings.{called}
 use Rattle.queue_streams.specs.Waiting.{room_for}
-use Rattle.queue_streams.specs.declared.answers.Call.TheVariants.{Accepted, Refused}
+use Rattle.queue_streams.specs.Call.{Accepted, Refused}
 use Rattle.queue_streams.specs.Settled.{reschedule_done}
 use Rattle.queue_streams.proofs.Restarts.{not_stopped}
 use Rattle.queue_restarts.specs.Reset.{put_back, whole_stream, whole_head_words, reset_in, reset_at, sum_all, reset_all, with_total, sum_of, reset_with, reset_queue}

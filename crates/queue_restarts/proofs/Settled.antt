@@ -18,7 +18,7 @@ use Rattle.queue_streams.specs.Answers.{is_accepted}
 use Rattle.queue_streams.specs.Settings.{called}
 use Rattle.queue_streams.specs.Settled.{reschedule_done}
 use Rattle.queue_streams.specs.Waiting.{rescheduled, tally, room_for}
-use Rattle.queue_streams.specs.declared.answers.Call.TheVariants.{Accepted, Refused}
+use Rattle.queue_streams.specs.Call.{Accepted, Refused}
 use Rattle.queue_streams.proofs.Walk.{Kept, Done, all_done, kept_totals, kept_item, kept_stream, in_table_lem, none_passed, first_bounded, wait_done, next_kept}
 use Rattle.queue_restarts.specs.Reset.{put_back, whole_stream, whole_head_words, reset_in, reset_at, reset_all, with_total, sum_of, reset_with, reset_queue}
 use Rattle.queue_restarts.specs.Settled.{reset_done_in, reset_done_at, ResetSteps, risen, ResetSettled}

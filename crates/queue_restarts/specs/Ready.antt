@@ -5,10 +5,10 @@ use Rattle.queue_words.specs.Header.{totals_at}
 use Rattle.queue_words.specs.Known.{known_at}
 use Rattle.queue_words.specs.Streams.{is_paused_words, stream_at_words}
 use Rattle.queue_streams.specs.Answers.{call_number}
-use Rattle.queue_streams.specs.declared.answers.Call.{Call}
-use Rattle.queue_streams.specs.declared.answers.Call.TheVariants.{Accepted, Refused}
-use Rattle.queue_streams.specs.declared.answers.Number.{Number}
-use Rattle.queue_streams.specs.declared.answers.Number.TheVariants as number
+use Rattle.queue_streams.specs.Call.{Call}
+use Rattle.queue_streams.specs.Call.{Accepted, Refused}
+use Rattle.queue_streams.specs.Number.{Number}
+use Rattle.queue_streams.specs.Number as number
 use Rattle.queue_restarts.specs.Marking.{put_resetting}
 use Rattle.queue_restarts.specs.declared.ready.ReadyStreams.{ReadyStreams}
 

@@ -12,7 +12,7 @@ use Rattle.queue_words.specs.declared.streams.OutgoingStream.{OutgoingStream}
 use Rattle.queue_words.specs.declared.streams.PauseState.TheVariants.{NotPaused}
 use Rattle.queue_streams.specs.Settings.{Called, called}
 use Rattle.queue_streams.specs.Waiting.{rescheduled, room_for}
-use Rattle.queue_streams.specs.declared.answers.Call.TheVariants.{Accepted, Refused}
+use Rattle.queue_streams.specs.Call.{Accepted, Refused}
 use Rattle.message_chains.specs.Amounts.{sum, rest}
 use Rattle.queue_restarts.specs.declared.whole.Sum.{Sum}
 

@@ -3,7 +3,7 @@ ghost use Rattle.std.specs.Prelude.{◌≡◌, ◌<◌, ◌≤◌, true};
 ghost use Rattle.queue_words.specs.Header.{totals_at};
 ghost use Rattle.queue_streams.specs.Settings.{called};
 ghost use Rattle.queue_streams.specs.Waiting.{room_for};
-ghost use Rattle.queue_streams.specs.declared.answers.Call.TheVariants.{Accepted};
+ghost use Rattle.queue_streams.specs.Call.{Accepted};
 ghost use Rattle.queue_restarts.specs.Reset.{put_back, sum_stream, sum_known, sum_all, whole_stream, whole_item, whole_head_words, reset_in, reset_at, reset_all, sum_of, reset_with, reset_queue};
 ghost use Rattle.queue_restarts.specs.Settled.{reset_done_in, reset_done_at, ResetSteps};
 

@@ -31,7 +31,7 @@ use Rattle.queue_model.proofs.Streams.{at_found, at_new}
 use Rattle.queue_model.proofs.Invariant.Well.{Kept}
 use Rattle.queue_model.proofs.Account.Ledger as ledger
 use Rattle.queue_model.proofs.Account.Ledger.{for_own, for_other}
-use Rattle.queue_streams.specs.declared.answers.Number.TheVariants as number_answer
+use Rattle.queue_streams.specs.Number as number_answer
 use Rattle.queue_questions.specs.Questions.{amount_of_words}
 use Rattle.queue_state.specs.Promise.{number_of}
 use Rattle.queue_state.specs.Promise as promise

@@ -29,8 +29,8 @@ use Rattle.queue_streams.specs.Known.{look_up, new_stream_words}
 use Rattle.queue_streams.specs.Restart.{reopen, set_interleaving_words, alike}
 use Rattle.queue_streams.specs.Settings.{Called, called, called_with, set_priority_words, set_threshold_words}
 use Rattle.queue_streams.specs.Waiting.{tally_stream, tally_known, tally, room_for, passed_over}
-use Rattle.queue_streams.specs.declared.answers.Call.TheVariants as call
-use Rattle.queue_streams.specs.declared.known.Place.TheVariants as place
+use Rattle.queue_streams.specs.Call as call
+use Rattle.queue_streams.specs.Place as place
 use Rattle.queue_streams.specs.declared.waiting.Tally.{Tally}
 use Rattle.stream_scheduler.specs.Words.{waits_in}
 use Rattle.message_chains.specs.Amounts.{rest}

@@ -16,7 +16,7 @@ use Rattle.queue_model.proofs.Invariant.Sixteen.{reachable_options}
 use Rattle.queue_model.proofs.FairTurns.Theorem as theorem
 use Rattle.queue_model.proofs.FairTurns.Seen.{BothOpen, open_on, both_wait}
 use Rattle.queue_streams.specs.Events.{places_in}
-use Rattle.queue_streams.specs.declared.answers.Number.TheVariants as number_answer
+use Rattle.queue_streams.specs.Number as number_answer
 use Rattle.queue_questions.specs.Questions.{priority_of_words, amount_of_words}
 use Rattle.queue_state.specs.Promise.{number_of}
 use Rattle.queue_state.proofs.Singles.{model_options, model_interleaving}

@@ -29,13 +29,13 @@ use Rattle.queue_streams.specs.Known.{look_up, place_of}
 use Rattle.queue_streams.specs.Restart.{reopen, set_interleaving_words, alike}
 use Rattle.queue_streams.specs.Settings.{Called, called, CalledWith, called_with, set_priority_words, priority_in, set_threshold_words, threshold_in, raised}
 use Rattle.queue_streams.specs.Waiting.{room_for}
-use Rattle.queue_streams.specs.declared.answers.Call.{Call}
-use Rattle.queue_streams.specs.declared.answers.Call.TheVariants as call
-use Rattle.queue_streams.specs.declared.answers.Flag.{Flag}
-use Rattle.queue_streams.specs.declared.answers.Flag.TheVariants as flags
-use Rattle.queue_streams.specs.declared.answers.Number.{Number}
-use Rattle.queue_streams.specs.declared.known.Place.{Place}
-use Rattle.queue_streams.specs.declared.known.Place.TheVariants as place
+use Rattle.queue_streams.specs.Call.{Call}
+use Rattle.queue_streams.specs.Call as call
+use Rattle.queue_streams.specs.Flag.{Flag}
+use Rattle.queue_streams.specs.Flag as flags
+use Rattle.queue_streams.specs.Number.{Number}
+use Rattle.queue_streams.specs.Place.{Place}
+use Rattle.queue_streams.specs.Place as place
 use Rattle.message_chains.specs.Amounts.{rest}
 use Rattle.message_chains.specs.Dropping.{scheduled_behind, behind_dropped, dropped_in_state}
 use Rattle.message_chains.specs.Heads.{head_code}

@@ -9,7 +9,7 @@ use Rattle.queue_model.specs.Types as plain
 use Rattle.queue_model.specs.Streams.{new_queue}
 use Rattle.queue_model.specs.Refusals.{new, not_created, create_refusal, creation_or, create}
 use Rattle.queue_model.specs.Demands.{Created, Reachable, created, called}
-use Rattle.queue_streams.specs.declared.answers.Call.TheVariants.{Accepted, Refused}
+use Rattle.queue_streams.specs.Call.{Accepted, Refused}
 use Rattle.linked_adding.specs.Create.{answer_of}
 use Rattle.linked_adding.proofs.Creates.{create_link}
 use Rattle.queue_runs.specs.Calls.{Call, call_of}

@@ -16,7 +16,7 @@ use Rattle.queue_model.specs.Answers.{fragments_in, of_stream}
 use Rattle.queue_model.specs.Run as run
 use Rattle.queue_model.specs.Restart as model
 use Rattle.queue_model.proofs.Restart as theorem
-use Rattle.queue_streams.specs.declared.answers.Call.TheVariants as call
+use Rattle.queue_streams.specs.Call as call
 use Rattle.queue_sending.specs.declared.data.DataToSend.{DataToSend}
 use Rattle.linked_sending.specs.Meaning.{data_of}
 use Rattle.queue_runs.specs.Calls.{Call, add, produce, fill, discard, close, ready_ids, commit, rollback, reset, set_threshold, set_priority, set_interleaving, restore, ask_priority, ask_amount, ask_threshold, ask_total, ask_empty, ask_has_data, ask_streams_ready, ask_ready_count, ask_readiness, ask_room, call_of, Typed, Shown, called}

@@ -5,9 +5,9 @@ use mathlib.Core.List.{List, []}
 use Prim.Native.Nat.{ℕ}
 use Rattle.queue_model.specs.Questions.{Room}
 use Rattle.queue_streams.specs.Settings.{Called, CalledWith}
-use Rattle.queue_streams.specs.declared.answers.Call as answer
-use Rattle.queue_streams.specs.declared.answers.Flag.{Flag}
-use Rattle.queue_streams.specs.declared.answers.Number.{Number}
+use Rattle.queue_streams.specs.Call as answer
+use Rattle.queue_streams.specs.Flag.{Flag}
+use Rattle.queue_streams.specs.Number.{Number}
 use Rattle.queue_messages.specs.Add.{Added}
 use Rattle.queue_messages.specs.declared.message.Message.{Message}
 use Rattle.queue_restarts.specs.Ready.{Readied}

@@ -17,7 +17,7 @@ use Rattle.stream_scheduler.specs.declared.Peeked.TheVariants as peeked
 use Rattle.queue_streams.specs.Events.{event_words}
 use Rattle.queue_streams.specs.Known.{look_up, new_stream_words}
 use Rattle.queue_streams.specs.Restart.{alike}
-use Rattle.queue_streams.specs.declared.known.Place.TheVariants as place
+use Rattle.queue_streams.specs.Place as place
 use Rattle.message_chains.specs.Amounts.{rest}
 use Rattle.queue_messages.specs.Add.{arguments_code, full_code}
 use Rattle.queue_messages.specs.declared.message.Message.{Message}

@@ -5,9 +5,9 @@ use Rattle.queue_model.specs.Questions.{Room}
 use Rattle.queue_model.specs.Run as run
 use Rattle.queue_model.specs.Demands.{MessageTyped, PacketTyped}
 use Rattle.queue_streams.specs.Events.{places_in}
-use Rattle.queue_streams.specs.declared.answers.Call as answer
-use Rattle.queue_streams.specs.declared.answers.Flag.{Flag}
-use Rattle.queue_streams.specs.declared.answers.Number.{Number}
+use Rattle.queue_streams.specs.Call as answer
+use Rattle.queue_streams.specs.Flag.{Flag}
+use Rattle.queue_streams.specs.Number.{Number}
 use Rattle.queue_messages.specs.declared.message.Message.{Message}
 use Rattle.queue_restarts.specs.declared.ready.ReadyStreams.{ReadyStreams}
 use Rattle.queue_sending.specs.declared.data.Produced.{Produced}

@@ -3,12 +3,12 @@ use Rattle.std.specs.Prelude.{ℕ, ◌<◌, ◌^◌, ◌≡◌, Bool, false, Lis
 use Rattle.queue_model.specs.Types as plain
 use Rattle.queue_streams.specs.Settings.{Called}
 use Rattle.queue_words.specs.declared.header.RestartRule.{RestartRule}
-use Rattle.queue_streams.specs.declared.answers.Call as answer
-use Rattle.queue_streams.specs.declared.answers.Call.TheVariants as call
-use Rattle.queue_streams.specs.declared.answers.Flag.{Flag}
-use Rattle.queue_streams.specs.declared.answers.Flag.TheVariants as flag_answer
-use Rattle.queue_streams.specs.declared.answers.Number.{Number}
-use Rattle.queue_streams.specs.declared.answers.Number.TheVariants as number_answer
+use Rattle.queue_streams.specs.Call as answer
+use Rattle.queue_streams.specs.Call as call
+use Rattle.queue_streams.specs.Flag.{Flag}
+use Rattle.queue_streams.specs.Flag as flag_answer
+use Rattle.queue_streams.specs.Number.{Number}
+use Rattle.queue_streams.specs.Number as number_answer
 use Rattle.queue_sending.specs.declared.data.Produced.{Produced}
 use Rattle.queue_sending.specs.declared.data.Produced.TheVariants as produced
 use Rattle.queue_messages.specs.Create.{create}

@@ -6,7 +6,7 @@ use Rattle.queue_model.specs.Waiting.{is_waiting}
 use Rattle.queue_model.specs.FairTurns.{none_expired, times_below, Within, Open}
 use Rattle.queue_words.specs.Header.{options_at, totals_at}
 use Rattle.queue_questions.specs.Questions.{priority_of_words, amount_of_words, empty_of}
-use Rattle.queue_streams.specs.declared.answers.Number.TheVariants as number_answer
+use Rattle.queue_streams.specs.Number as number_answer
 use Rattle.queue_messages.specs.declared.message.Message.{Message}
 use Rattle.queue_runs.specs.Calls.{Call, add, produce, Typed, Answer, Shown}
 use Rattle.queue_runs.specs.Run.{State, step, run, after}

@@ -1,11 +1,11 @@
 -- "nothing changes in the queue or in any lent buffer when a call is refused", on any words at all. Assumes nothing.
 use Rattle.std.specs.Prelude.{ℕ, ◌≡◌, Bool, true, false, List, []}
-use Rattle.queue_streams.specs.declared.answers.Call as answer
-use Rattle.queue_streams.specs.declared.answers.Call.TheVariants as call
-use Rattle.queue_streams.specs.declared.answers.Flag.{Flag}
-use Rattle.queue_streams.specs.declared.answers.Flag.TheVariants as flags
-use Rattle.queue_streams.specs.declared.answers.Number.{Number}
-use Rattle.queue_streams.specs.declared.answers.Number.TheVariants as numbers
+use Rattle.queue_streams.specs.Call as answer
+use Rattle.queue_streams.specs.Call as call
+use Rattle.queue_streams.specs.Flag.{Flag}
+use Rattle.queue_streams.specs.Flag as flags
+use Rattle.queue_streams.specs.Number.{Number}
+use Rattle.queue_streams.specs.Number as numbers
 use Rattle.queue_sending.specs.declared.data.Produced.{Produced}
 use Rattle.queue_sending.specs.declared.data.Produced.TheVariants as produced
 use Rattle.packets.specs.declared.packet.PacketFilled.{PacketFilled}

@@ -3,7 +3,7 @@ use Rattle.std.specs.Prelude.{ℕ, ◌≡◌, true, false, List, [], ◌∷◌, 
 use Rattle.types.specs.Keys.{key_id}
 use Rattle.queue_words.specs.Flags.{pick}
 use Rattle.queue_words.specs.declared.header.RestartRule.TheVariants.{Strict}
-use Rattle.queue_streams.specs.declared.answers.Call.TheVariants as call
+use Rattle.queue_streams.specs.Call as call
 use Rattle.queue_sending.specs.declared.data.DataToSend.{DataToSend}
 use Rattle.queue_runs.specs.Calls.{Call, NotFilling, reset, restore, called, Shown}
 use Rattle.queue_runs.specs.Fragments.{data_in}

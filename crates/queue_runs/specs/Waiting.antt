@@ -3,7 +3,7 @@ use Rattle.std.specs.Prelude.{ℕ, ◌≡◌}
 use Rattle.queue_model.specs.Streams.{stream_at}
 use Rattle.queue_model.specs.Waiting.{is_waiting, WaitsBy}
 use Rattle.queue_questions.specs.Questions.{amount_of_words}
-use Rattle.queue_streams.specs.declared.answers.Number.TheVariants as number_answer
+use Rattle.queue_streams.specs.Number as number_answer
 use Rattle.queue_runs.specs.Run.{State}
 use Rattle.queue_runs.specs.Meaning.{queue_of}
 use Rattle.queue_runs.specs.Creation.{Arguments}

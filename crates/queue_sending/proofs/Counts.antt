@@ -17,8 +17,8 @@ use Rattle.queue_words.specs.declared.items.Item.{Item}
 use Rattle.queue_words.specs.declared.streams.OutgoingStream.{OutgoingStream}
 use Rattle.queue_streams.specs.Events.{place_words, event_words, put_event}
 use Rattle.queue_streams.specs.Settings.{CalledWith, called_with}
-use Rattle.queue_streams.specs.declared.answers.Call.{Call}
-use Rattle.queue_streams.specs.declared.answers.Call.TheVariants as call
+use Rattle.queue_streams.specs.Call.{Call}
+use Rattle.queue_streams.specs.Call as call
 use Rattle.message_chains.specs.Amounts.{rest}
 use Rattle.message_chains.specs.Dropping.{scheduled_behind, end_pending_words, behind_dropped, dropped_in_state}
 use Rattle.message_chains.specs.Heads.{head_code, head_dropped, total_notes, stream_notes, sent_notes, drop_notes}

@@ -13,8 +13,8 @@ use Rattle.queue_words.specs.Items.{item_at}
 use Rattle.queue_words.specs.Streams.{stream_at_words}
 use Rattle.queue_streams.specs.Events.{place_words}
 use Rattle.queue_streams.specs.Settings.{CalledWith, called_with}
-use Rattle.queue_streams.specs.declared.answers.Call.{Call}
-use Rattle.queue_streams.specs.declared.answers.Call.TheVariants as call
+use Rattle.queue_streams.specs.Call.{Call}
+use Rattle.queue_streams.specs.Call as call
 use Rattle.message_chains.specs.Amounts.{rest}
 use Rattle.message_chains.specs.Dropping.{scheduled_behind, end_pending_words, behind_dropped, dropped_in_state}
 use Rattle.message_chains.specs.Heads.{head_code, head_dropped, drop_notes}

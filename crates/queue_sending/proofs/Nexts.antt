@@ -18,8 +18,8 @@ use Rattle.queue_words.specs.declared.streams.OutgoingStream.{OutgoingStream}
 use Rattle.stream_scheduler.specs.Own.{HasRow}
 use Rattle.queue_streams.specs.Events.{place_words, event_words}
 use Rattle.queue_streams.specs.Settings.{called_with}
-use Rattle.queue_streams.specs.declared.answers.Call.{Call}
-use Rattle.queue_streams.specs.declared.answers.Call.TheVariants as call
+use Rattle.queue_streams.specs.Call.{Call}
+use Rattle.queue_streams.specs.Call as call
 use Rattle.undo_log.specs.Log.{header, undone}
 use Rattle.queue_sending.specs.Choice.{look_ahead}
 use Rattle.queue_sending.specs.Data.{ProducedWith, produced_with, refused_with}

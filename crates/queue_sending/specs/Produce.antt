@@ -6,8 +6,8 @@ use Rattle.queue_words.specs.Items.{item_at}
 use Rattle.queue_words.specs.Streams.{stream_at_words}
 use Rattle.queue_streams.specs.Events.{event_words}
 use Rattle.queue_streams.specs.Settings.{CalledWith, called_with}
-use Rattle.queue_streams.specs.declared.answers.Call.{Call}
-use Rattle.queue_streams.specs.declared.answers.Call.TheVariants as call
+use Rattle.queue_streams.specs.Call.{Call}
+use Rattle.queue_streams.specs.Call as call
 use Rattle.message_chains.specs.Dropping.{dropped_in_state}
 use Rattle.queue_sending.specs.Choice.{look_ahead}
 use Rattle.queue_sending.specs.Data.{ProducedWith, produced_with, refused_with}

@@ -31,7 +31,7 @@ use Rattle.stream_scheduler.proofs.Link.{remove_link, set_link}
 use Rattle.queue_streams.specs.Events.{event_words, written}
 use Rattle.queue_streams.specs.Settings.{CalledWith, called_with}
 use Rattle.queue_streams.specs.Waiting.{head_size_words, parameters_for, rescheduled}
-use Rattle.queue_streams.specs.declared.answers.Call.TheVariants.{Accepted}
+use Rattle.queue_streams.specs.Call.{Accepted}
 use Rattle.message_chains.specs.Amounts.{rest}
 use Rattle.message_chains.specs.Dropping.{scheduled_behind, end_pending_words, behind_dropped, dropped_in_state}
 use Rattle.message_chains.specs.Heads.{head_code, head_dropped, drop_notes, without_head}

@@ -18,7 +18,7 @@ use Rattle.queue_model.specs.Types.{Stream}
 use Rattle.queue_model.specs.Streams.{find_stream, stream_key, stream_at, new_stream, too_many}
 use Rattle.queue_model.proofs.Streams.{at_found, at_new}
 use Rattle.queue_streams.specs.Known.{look_up}
-use Rattle.queue_streams.specs.declared.known.Place.TheVariants as place
+use Rattle.queue_streams.specs.Place as place
 use Rattle.queue_state.specs.Model.{row_at, options_of, stream_in, streams_in, model, tab}
 use Rattle.queue_state.specs.Good.{Shape}
 use Rattle.queue_state.proofs.Tabs.{tab_find, tab_none, tab_length}

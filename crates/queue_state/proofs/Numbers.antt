@@ -7,7 +7,7 @@ use Rattle.queue_model.specs.Types.{Answer, refused, done, number, flag, ids, fr
 use Rattle.queue_model.specs.Answers.{answer_number, answer_value, answer_events}
 use Rattle.queue_model.specs.Run as run
 use Rattle.queue_streams.specs.Answers.{call_number, call_events, number_number, number_value}
-use Rattle.queue_streams.specs.declared.answers.Call.{Call}
+use Rattle.queue_streams.specs.Call.{Call}
 use Rattle.queue_state.specs.Promise.{call_of, number_of, shown, Does, Tells}
 
 call_number_lem : (a : Answer) (k : ℕ) → call_number (call_of a k) ≡ answer_number a

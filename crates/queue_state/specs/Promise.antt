@@ -5,10 +5,10 @@ use Rattle.queue_model.specs.Answers.{answer_number, event_count}
 use Rattle.queue_model.specs.Run as run
 use Rattle.queue_streams.specs.Answers.{call_number, call_events}
 use Rattle.queue_streams.specs.Events.{written}
-use Rattle.queue_streams.specs.declared.answers.Call.{Call}
-use Rattle.queue_streams.specs.declared.answers.Call.TheVariants.{Accepted, Refused}
-use Rattle.queue_streams.specs.declared.answers.Number.{Number}
-use Rattle.queue_streams.specs.declared.answers.Number.TheVariants as number_answer
+use Rattle.queue_streams.specs.Call.{Call}
+use Rattle.queue_streams.specs.Call.{Accepted, Refused}
+use Rattle.queue_streams.specs.Number.{Number}
+use Rattle.queue_streams.specs.Number as number_answer
 use Rattle.queue_state.specs.Model.{model}
 use Rattle.queue_state.specs.Good.{Good}
 

@@ -23,7 +23,7 @@ use Rattle.queue_streams.specs.Settings.{called}
 use Rattle.queue_streams.specs.Waiting.{passed_over, tally_stream, tally_known, tally, room_for}
 use Rattle.queue_streams.specs.Restart.{opened, reopened_in, reopened_at, reopened_all, reopen}
 use Rattle.queue_streams.specs.Commit.{quiet_stream, quiet_from, nothing_starts, committed_at, committed_all, CommitPlaced}
-use Rattle.queue_streams.specs.declared.answers.Call.TheVariants.{Accepted}
+use Rattle.queue_streams.specs.Call.{Accepted}
 use Rattle.queue_streams.specs.declared.waiting.Tally.{Tally}
 
 -- ------------------------------------------------------------------ what a quiet stream is

@@ -22,10 +22,10 @@ use Rattle.queue_words.proofs.Finds.{find_hit, find_missed}
 use Rattle.queue_streams.specs.Events.{event_words, put_event}
 use Rattle.queue_streams.specs.Known.{new_stream_words, place_of, look_up, shifted, with_known, inserted}
 use Rattle.queue_streams.specs.Settings.{called, called_with, with_priority_words, with_threshold_words, set_priority_words, raised, threshold_at, set_threshold_words}
-use Rattle.queue_streams.specs.declared.answers.Call.{Call}
-use Rattle.queue_streams.specs.declared.answers.Call.TheVariants.{Accepted, Refused}
-use Rattle.queue_streams.specs.declared.known.Place.{Place}
-use Rattle.queue_streams.specs.declared.known.Place.TheVariants as place
+use Rattle.queue_streams.specs.Call.{Call}
+use Rattle.queue_streams.specs.Call.{Accepted, Refused}
+use Rattle.queue_streams.specs.Place.{Place}
+use Rattle.queue_streams.specs.Place as place
 
 -- the count of loaded totals
 pub count_of : (ws : List ℕ) (t : Totals) → t ≡ totals_at ws → known_count ws ≡ t.known

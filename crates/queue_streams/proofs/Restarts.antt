@@ -19,7 +19,7 @@ use Rattle.queue_streams.specs.Settings.{called}
 use Rattle.queue_streams.specs.Waiting.{rescheduled, room_for}
 use Rattle.queue_streams.specs.Restart.{opened, reopened_in, reopened_at, reopened_all, reopen, switched_at, switched_all, with_interleaving, alike, set_interleaving_words}
 use Rattle.queue_streams.specs.Settled.{reschedule_done, reopen_done_in, reopen_done_at, ReopenSteps, switch_done_at, SwitchSteps}
-use Rattle.queue_streams.specs.declared.answers.Call.TheVariants.{Accepted, Refused}
+use Rattle.queue_streams.specs.Call.{Accepted, Refused}
 
 -- Where there is room, the count is one of a table.
 pub room_fits : (ws : List ℕ) (all r : Bool) (t : Totals) → r ≡ room_for ws all → r ≡ true → t ≡ totals_at ws → t.known ≤ 256

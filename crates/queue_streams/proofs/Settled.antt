@@ -21,7 +21,7 @@ use Rattle.queue_streams.specs.Waiting.{rescheduled, passed_over, tally, room_fo
 use Rattle.queue_streams.specs.Restart.{opened, reopened_in, reopened_at, reopened_all, reopen, with_interleaving, switched_at, switched_all, alike, set_interleaving_words}
 use Rattle.queue_streams.specs.Settings.{called}
 use Rattle.queue_streams.specs.Settled.{reschedule_done, reopen_done_in, reopen_done_at, ReopenSteps, ReopenSettled, switch_done_at, SwitchSteps, chosen, SwitchSettled}
-use Rattle.queue_streams.specs.declared.answers.Call.TheVariants.{Accepted, Refused}
+use Rattle.queue_streams.specs.Call.{Accepted, Refused}
 use Rattle.queue_streams.proofs.Commits.{opened_fits}
 use Rattle.queue_streams.proofs.Walk.{Kept, Done, all_done, kept_start, kept_totals, kept_stream, in_table_lem, none_passed, first_bounded, wait_done, next_kept}
 

@@ -1,12 +1,27 @@
 -- "If an answer is an enum, a definition states this paper's number and values for each case of the enum." The number: 0 where a call is accepted or a
 -- question answered, else the refusal's of document 01. Assumes nothing.
-use Rattle.std.specs.Prelude.{ℕ, Bool, true, false}
-use Rattle.queue_streams.specs.declared.answers.Call.{Call}
-use Rattle.queue_streams.specs.declared.answers.Call.TheVariants as call
-use Rattle.queue_streams.specs.declared.answers.Flag.{Flag}
-use Rattle.queue_streams.specs.declared.answers.Flag.TheVariants as flag
-use Rattle.queue_streams.specs.declared.answers.Number.{Number}
-use Rattle.queue_streams.specs.declared.answers.Number.TheVariants as number
+use Rattle.std.specs.Prelude.{ℕ, Bool, true, false, Result, Ok, Err}
+use Rattle.types.specs.Refusal.{refusal_number}
+use Rattle.types.specs.declared.refusal.Refusal.{Refusal}
+use Rattle.queue_streams.specs.Call.{Call}
+use Rattle.queue_streams.specs.Call as call
+use Rattle.queue_streams.specs.Flag.{Flag}
+use Rattle.queue_streams.specs.Flag as flag
+use Rattle.queue_streams.specs.Number.{Number}
+use Rattle.queue_streams.specs.Number as number
+
+-- What the code answers, in document 01's numbers.
+abbrev pub as_call : Result ℕ Refusal → Call
+as_call (Ok k) = call.Accepted k
+as_call (Err r) = call.Refused (refusal_number r)
+
+abbrev pub as_number : Result ℕ Refusal → Number
+as_number (Ok v) = number.Value v
+as_number (Err r) = number.Refused (refusal_number r)
+
+abbrev pub as_flag : Result Bool Refusal → Flag
+as_flag (Ok b) = flag.Value b
+as_flag (Err r) = flag.Refused (refusal_number r)
 
 abbrev pub call_number : Call → ℕ
 call_number (call.Accepted k) = 0

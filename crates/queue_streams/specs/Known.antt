@@ -1,5 +1,5 @@
 -- Where a stream is, and making one known. Assumes nothing.
-use Rattle.std.specs.Prelude.{ℕ, zero, suc, ◌+◌, ◌-◌, List, ltb}
+use Rattle.std.specs.Prelude.{ℕ, zero, suc, ◌+◌, ◌-◌, List, ltb, Result, Ok, Err}
 use Rattle.queue_words.specs.Flags.{pick}
 use Rattle.queue_words.specs.Find.{find_stream_words}
 use Rattle.queue_words.specs.Header.{totals_at, put_totals}
@@ -11,8 +11,12 @@ use Rattle.queue_words.specs.declared.known.Found.{Found}
 use Rattle.queue_words.specs.declared.known.Found.TheVariants.{At, Gap, Broken}
 use Rattle.queue_words.specs.declared.streams.OutgoingStream.{OutgoingStream}
 use Rattle.queue_words.specs.declared.streams.PauseState.TheVariants.{NotPaused}
-use Rattle.queue_streams.specs.declared.known.Place.{Place}
-use Rattle.queue_streams.specs.declared.known.Place.TheVariants.{Row, New, Refused}
+use Rattle.types.specs.Refusal.{refusal_number}
+use Rattle.types.specs.declared.refusal.Refusal.{Refusal}
+use Rattle.queue_streams.specs.Place.{Place}
+use Rattle.queue_streams.specs.Place.{Row, New, Refused}
+use Rattle.queue_streams.specs.declared.known.Place as seat
+use Rattle.queue_streams.specs.declared.known.Place.TheVariants as seat_is
 
 -- A new stream: open, no messages, the default priority and threshold (Rust: make_stream).
 abbrev pub new_stream_words : Options → OutgoingStream
@@ -27,6 +31,15 @@ new_stream_words o = record {
   first = 1024;
   last = 1024;
 }
+
+-- What the code answers, with the numbers of document 01: a place, or a refusal.
+abbrev pub placed : seat.Place → Place
+placed (seat_is.Row row) = Row row
+placed (seat_is.New position) = New position
+
+abbrev pub as_place : Result seat.Place Refusal → Place
+as_place (Ok p) = placed p
+as_place (Err r) = Refused (refusal_number r)
 
 -- 6: "The call would make a 257th known stream." 16: "or a place kept in the state lies outside its table."
 abbrev pub place_of : List ℕ → Found → Place

@@ -10,7 +10,7 @@ use Rattle.queue_words.specs.declared.streams.OutgoingStream.{OutgoingStream}
 use Rattle.queue_words.specs.declared.streams.PauseState.TheVariants.{NotPaused}
 use Rattle.queue_streams.specs.Settings.{Called, called}
 use Rattle.queue_streams.specs.Waiting.{rescheduled, room_for}
-use Rattle.queue_streams.specs.declared.answers.Call.TheVariants.{Accepted, Refused}
+use Rattle.queue_streams.specs.Call.{Accepted, Refused}
 
 -- "For every resetting stream, commit sets the three counters to 0 and opens, and rollback opens".
 abbrev pub opened : Bool → OutgoingStream → OutgoingStream

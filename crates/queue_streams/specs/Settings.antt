@@ -6,10 +6,10 @@ use Rattle.queue_words.specs.Streams.{stream_at_words, put_stream_words}
 use Rattle.queue_words.specs.declared.streams.OutgoingStream.{OutgoingStream}
 use Rattle.queue_streams.specs.Events.{event_words, put_event}
 use Rattle.queue_streams.specs.Known.{new_stream_words, look_up, inserted}
-use Rattle.queue_streams.specs.declared.answers.Call.{Call}
-use Rattle.queue_streams.specs.declared.answers.Call.TheVariants.{Accepted, Refused}
-use Rattle.queue_streams.specs.declared.known.Place.{Place}
-use Rattle.queue_streams.specs.declared.known.Place.TheVariants as place
+use Rattle.queue_streams.specs.Call.{Call}
+use Rattle.queue_streams.specs.Call.{Accepted, Refused}
+use Rattle.queue_streams.specs.Place.{Place}
+use Rattle.queue_streams.specs.Place as place
 
 -- What a call leaves: its answer and the words; with a lent list of events, that too.
 pub record Called : Type 0 where

@@ -1,14 +1,14 @@
 // The known streams: where a stream is or would be, and making one known.
 ghost use Rattle.std.specs.Prelude.{◌≡◌, ◌-◌, ◌<◌, ◌≤◌};
 ghost use Rattle.queue_words.specs.Known.{known_count};
-ghost use Rattle.queue_streams.specs.Known.{new_stream_words, look_up, shifted, inserted};
+ghost use Rattle.queue_streams.specs.Known.{new_stream_words, as_place, look_up, shifted, inserted};
 
 use queue_words::QUEUE_WORDS;
 use queue_words::header::{Options, load_totals, store_totals};
 use queue_words::known::{Found, Known, find_stream, load_known, store_known};
 use queue_words::limits::{LAST_STREAM, NO_MESSAGE};
 use queue_words::streams::{OutgoingStream, PauseState, store_stream};
-use types::{Mid, Ssn, StreamId};
+use types::{Mid, Refusal, Ssn, StreamId};
 
 // A new stream: open, no messages, the default priority and threshold.
 pub fn new_stream(o: Options) -> OutgoingStream
@@ -27,29 +27,28 @@ pub fn new_stream(o: Options) -> OutgoingStream
     }
 }
 
-// Where the stream of an id is: in a row, or not known and then the position in the order of ids at which it would be; refused
-// where it would be the 257th, or a place is outside its table.
+// Where the stream of an id is: in a row, or not known and then the position in the order of ids at which it would be.
 #[derive(Clone, Copy)]
 pub enum Place {
     Row(usize),
     New(usize),
-    Refused(u8),
 }
 
-pub fn look_up(queue: &[u64; QUEUE_WORDS], id: u16) -> Place
-    ensures { result ≡ look_up queue.now id }
+// Refused where it would be the 257th, or a place is outside its table.
+pub fn look_up(queue: &[u64; QUEUE_WORDS], id: u16) -> Result<Place, Refusal>
+    ensures { as_place result ≡ look_up queue.now id }
 {
     let found = find_stream(queue, id);
     match found {
-        Found::At(_, row) => Place::Row(row),
+        Found::At(_, row) => Ok(Place::Row(row)),
         Found::Gap(position) => {
             let t = load_totals(queue);
             if t.known > LAST_STREAM {
-                return Place::Refused(6);
+                return Err(Refusal::StreamsFull);
             }
-            Place::New(position)
+            Ok(Place::New(position))
         }
-        Found::Broken => Place::Refused(16),
+        Found::Broken => Err(Refusal::WordsBroken),
     }
 }
 

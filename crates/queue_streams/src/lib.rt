@@ -2,7 +2,6 @@
 // that no queue has get the answer 16, and nothing is changed.
 #![tactic(auto)]
 
-pub mod answers;
 mod commit;
 pub mod events;
 pub mod known;
@@ -11,7 +10,6 @@ pub mod restart;
 pub mod settings;
 pub mod waiting;
 
-pub use answers::{Call, Flag, Number};
 pub use events::{EVENT_PLACES, EVENT_WORDS, PLACE_WORDS, put_event};
 pub use known::{Place, insert_stream, look_up, new_stream};
 pub use restart::{commit_reset_streams, enable_message_interleaving, rollback_reset_streams};

@@ -1,12 +1,12 @@
 // Commit, rollback and switching interleaving: what lets many streams wait anew. The rows are settled before the first write.
 ghost use Rattle.std.specs.Prelude.{true, false, ◌≡◌, ◌<◌, ◌≤◌};
+ghost use Rattle.queue_streams.specs.Answers.{as_call};
 ghost use Rattle.queue_streams.specs.Settings.{called};
 ghost use Rattle.queue_streams.specs.Restart.{opened, reopened_in, reopened_at, reopened_all, reopen, switched_at, switched_all, alike, set_interleaving_words};
 ghost use Rattle.queue_streams.specs.Settled.{reopen_done_in, reopen_done_at, ReopenSteps, switch_done_at, SwitchSteps};
 ghost use Rattle.queue_streams.specs.Waiting.{room_for};
-ghost use Rattle.queue_streams.specs.declared.answers.Call.TheVariants.{Accepted};
+ghost use Rattle.queue_streams.specs.Call.{Accepted};
 
-use crate::answers::Call;
 use crate::commit::{commit_all, nothing_starts};
 use crate::waiting::{reschedule, room_for};
 use queue_words::header::{load_totals, store_totals};
@@ -14,7 +14,7 @@ use queue_words::known::{Known, load_known};
 use queue_words::limits::NO_MESSAGE;
 use queue_words::streams::{OutgoingStream, PauseState, load_stream, store_stream, with_pause};
 use queue_words::{QUEUE_WORDS, whole};
-use types::{Mid, Ssn};
+use types::{Mid, Refusal, Ssn};
 
 pub(crate) fn open_stream(zeroed: bool, s: OutgoingStream) -> OutgoingStream
     ensures { result ≡ opened zeroed s }
@@ -90,34 +90,34 @@ pub fn reopen_own(queue: &mut [u64; QUEUE_WORDS], zeroed: bool)
     reopen_all(queue, zeroed, t.interleaving, t.known as usize);
 }
 
-fn reopen_streams(queue: &mut [u64; QUEUE_WORDS], zeroed: bool) -> Call
-    ensures { called result queue.new ≡ reopen zeroed queue.old }
+fn reopen_streams(queue: &mut [u64; QUEUE_WORDS], zeroed: bool) -> Result<usize, Refusal>
+    ensures { called (as_call result) queue.new ≡ reopen zeroed queue.old }
 {
     let room = room_for(&*queue, false);
     if room {
         reopen_own(queue, zeroed);
-        return Call::Accepted(0);
+        return Ok(0);
     }
-    Call::Refused(16)
+    Err(Refusal::WordsBroken)
 }
 
 // "commit sets the three counters to 0 and opens".
-pub fn commit_reset_streams(queue: &mut [u64; QUEUE_WORDS]) -> Call
-    ensures { called result queue.new ≡ reopen true queue.old }
+pub fn commit_reset_streams(queue: &mut [u64; QUEUE_WORDS]) -> Result<usize, Refusal>
+    ensures { called (as_call result) queue.new ≡ reopen true queue.old }
 {
     whole(&*queue);
     let quiet = nothing_starts(&*queue);
     if quiet {
         let t = load_totals(&*queue);
         commit_all(queue, t.known as usize);
-        return Call::Accepted(0);
+        return Ok(0);
     }
     reopen_streams(queue, true)
 }
 
 // "rollback opens".
-pub fn rollback_reset_streams(queue: &mut [u64; QUEUE_WORDS]) -> Call
-    ensures { called result queue.new ≡ reopen false queue.old }
+pub fn rollback_reset_streams(queue: &mut [u64; QUEUE_WORDS]) -> Result<usize, Refusal>
+    ensures { called (as_call result) queue.new ≡ reopen false queue.old }
 {
     reopen_streams(queue, false)
 }
@@ -168,18 +168,18 @@ pub fn switch_own(queue: &mut [u64; QUEUE_WORDS], enabled: bool)
     switch_all(queue, enabled, n);
 }
 
-pub fn enable_message_interleaving(queue: &mut [u64; QUEUE_WORDS], enabled: bool) -> Call
-    ensures { called result queue.new ≡ set_interleaving_words enabled queue.old }
+pub fn enable_message_interleaving(queue: &mut [u64; QUEUE_WORDS], enabled: bool) -> Result<usize, Refusal>
+    ensures { called (as_call result) queue.new ≡ set_interleaving_words enabled queue.old }
 {
     let t = load_totals(&*queue);
     let same = same_choice(enabled, t.interleaving);
     if same {
-        return Call::Accepted(0);
+        return Ok(0);
     }
     let room = room_for(&*queue, true);
     if room {
         switch_own(queue, enabled);
-        return Call::Accepted(0);
+        return Ok(0);
     }
-    Call::Refused(16)
+    Err(Refusal::WordsBroken)
 }

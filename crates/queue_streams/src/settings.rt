@@ -3,17 +3,18 @@ ghost use Rattle.std.specs.Prelude.{◌≡◌, ◌<◌, ◌≤◌, length};
 ghost use Rattle.queue_words.specs.Header.{options_at};
 ghost use Rattle.queue_words.specs.Known.{known_count};
 ghost use Rattle.queue_words.specs.Streams.{stream_at_words, put_stream_words};
+ghost use Rattle.queue_streams.specs.Answers.{as_call};
 ghost use Rattle.queue_streams.specs.Events.{event_words};
 ghost use Rattle.queue_streams.specs.Settings.{called, called_with, with_priority_words, with_threshold_words, set_priority_words, set_threshold_words, raised, threshold_at};
 ghost use Rattle.queue_streams.specs.Known.{new_stream_words, inserted};
-ghost use Rattle.queue_streams.specs.declared.answers.Call.TheVariants.{Accepted};
+ghost use Rattle.queue_streams.specs.Call.{Accepted};
 
-use crate::answers::Call;
 use crate::events::{EVENT_WORDS, put_event};
 use crate::known::{Place, insert_stream, look_up, new_stream};
 use queue_words::QUEUE_WORDS;
 use queue_words::header::load_options;
 use queue_words::streams::{load_stream, store_stream};
+use types::Refusal;
 
 // A known stream's priority. "a priority set in between waits for that": the scheduler stays as it is.
 pub fn set_priority_in(queue: &mut [u64; QUEUE_WORDS], priority: u16, row: usize)
@@ -36,21 +37,15 @@ pub fn set_priority_of_new(queue: &mut [u64; QUEUE_WORDS], id: u16, priority: u1
     insert_stream(queue, position, id, s);
 }
 
-pub fn set_priority(queue: &mut [u64; QUEUE_WORDS], id: u16, priority: u16) -> Call
-    ensures { called result queue.new ≡ set_priority_words queue.old id priority }
+pub fn set_priority(queue: &mut [u64; QUEUE_WORDS], id: u16, priority: u16) -> Result<usize, Refusal>
+    ensures { called (as_call result) queue.new ≡ set_priority_words queue.old id priority }
 {
-    let place = look_up(&*queue, id);
+    let place = look_up(&*queue, id)?;
     match place {
-        Place::Row(row) => {
-            set_priority_in(queue, priority, row);
-            Call::Accepted(0)
-        }
-        Place::New(position) => {
-            set_priority_of_new(queue, id, priority, position);
-            Call::Accepted(0)
-        }
-        Place::Refused(n) => Call::Refused(n),
+        Place::Row(row) => set_priority_in(queue, priority, row),
+        Place::New(position) => set_priority_of_new(queue, id, priority, position),
     }
+    Ok(0)
 }
 
 // "also when a threshold below the amount is raised to or past it".
@@ -103,22 +98,18 @@ pub fn set_buffered_amount_low_threshold(
     events: &mut [u64],
     id: u16,
     threshold: u64,
-) -> Call
-    ensures { called_with result queue.new events.new ≡ set_threshold_words queue.old events.old id threshold }
+) -> Result<usize, Refusal>
+    ensures { called_with (as_call result) queue.new events.new ≡ set_threshold_words queue.old events.old id threshold }
 {
     if events.len() < EVENT_WORDS {
-        return Call::Refused(3);
+        return Err(Refusal::EventListShort);
     }
-    let place = look_up(&*queue, id);
+    let place = look_up(&*queue, id)?;
     match place {
-        Place::Row(row) => {
-            let k = set_threshold_in(queue, events, id, threshold, row);
-            Call::Accepted(k)
-        }
+        Place::Row(row) => Ok(set_threshold_in(queue, events, id, threshold, row)),
         Place::New(position) => {
             set_threshold_of_new(queue, id, threshold, position);
-            Call::Accepted(0)
+            Ok(0)
         }
-        Place::Refused(n) => Call::Refused(n),
     }
 }

@@ -12,10 +12,10 @@ use Rattle.queue_words.specs.Flags.{pick}
 use Rattle.std.specs.Prelude.{if◌then◌else◌}
 use Rattle.queue_streams.specs.Answers.{call_number, number_number}
 use Rattle.queue_streams.specs.Restart.{reopen}
-use Rattle.queue_streams.specs.declared.answers.Call.{Call}
-use Rattle.queue_streams.specs.declared.answers.Call.TheVariants as call
-use Rattle.queue_streams.specs.declared.answers.Number.{Number}
-use Rattle.queue_streams.specs.declared.answers.Number.TheVariants as number
+use Rattle.queue_streams.specs.Call.{Call}
+use Rattle.queue_streams.specs.Call as call
+use Rattle.queue_streams.specs.Number.{Number}
+use Rattle.queue_streams.specs.Number as number
 use Rattle.queue_restarts.specs.Ready.{ready_count}
 use Rattle.queue_restarts.specs.Reset.{reset_queue}
 use Rattle.queue_runs.specs.Calls as calls

@@ -1,6 +1,6 @@
 -- Refused calls of the handler change nothing and give listed numbers alone, whatever the words, the handler and the bytes. Assumes nothing.
 use Rattle.std.specs.Prelude.{ℕ, ◌≡◌, true, List, [], ◌∷◌}
-use Rattle.queue_streams.specs.declared.answers.Call.TheVariants as call
+use Rattle.queue_streams.specs.Call as call
 use Rattle.queue_runs.specs.Numbers.{among}
 use Rattle.stream_reset_handler.specs.declared.making.RequestAnswer.TheVariants as making
 use Rattle.stream_reset_handler.specs.declared.receiving.ResponseAnswer.TheVariants as receiving

@@ -5,8 +5,8 @@ use Prim.Native.Nat.{ℕ, ◌≤◌, ◌<◌}
 use native.Mathlib.Omega.{arith}
 use Rattle.queue_words.specs.declared.items.Item.{Item}
 use Rattle.queue_streams.specs.Known.{look_up}
-use Rattle.queue_streams.specs.declared.known.Place.{Place}
-use Rattle.queue_streams.specs.declared.known.Place.TheVariants as place
+use Rattle.queue_streams.specs.Place.{Place}
+use Rattle.queue_streams.specs.Place as place
 use Rattle.queue_streams.proofs.Exits.{look_row, look_new}
 use Rattle.queue_messages.specs.Add.{made_known}
 use Rattle.restoring.specs.declared.message_records.Home.{Home}

@@ -18,8 +18,8 @@ use Rattle.payload_store.specs.Putting.{put_payload}
 use Rattle.message_chains.specs.Amounts.{sum}
 use Rattle.queue_streams.specs.Known.{new_stream_words, look_up, inserted}
 use Rattle.queue_streams.specs.Waiting.{rescheduled}
-use Rattle.queue_streams.specs.declared.known.Place.{Place}
-use Rattle.queue_streams.specs.declared.known.Place.TheVariants as place
+use Rattle.queue_streams.specs.Place.{Place}
+use Rattle.queue_streams.specs.Place as place
 use Rattle.queue_messages.specs.Add.{linked_last, made_known}
 use Rattle.handover_records.specs.Records.{message_at}
 use Rattle.handover_records.specs.declared.records.HandoverStreamMessage.{HandoverStreamMessage}

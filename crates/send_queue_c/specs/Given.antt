@@ -1,7 +1,7 @@
 -- What a call gives: the number r, and what is left in each array, by the definition on the words. `out` is the array before the call. Assumes nothing.
 use Rattle.std.specs.Prelude.{ℕ, ◌≡◌, List}
-use Rattle.queue_streams.specs.declared.answers.Flag.{Flag}
-use Rattle.queue_streams.specs.declared.answers.Number.{Number}
+use Rattle.queue_streams.specs.Flag.{Flag}
+use Rattle.queue_streams.specs.Number.{Number}
 use Rattle.priority_plan.specs.declared.plan.PlannedPriorities.{PlannedPriorities}
 use Rattle.queue_restarts.specs.Ready.{Readied}
 use Rattle.chunks.specs.Writing.{Outcome}

@@ -4,12 +4,12 @@ use Rattle.std.specs.Prelude.{ℕ, Bool, true, false, List, set}
 use Rattle.queue_words.specs.Flags.{bit}
 use Rattle.queue_words.specs.declared.header.RestartRule.{RestartRule}
 use Rattle.queue_words.specs.declared.header.RestartRule.TheVariants.{Dcsctp, Strict}
-use Rattle.queue_streams.specs.declared.answers.Call.{Call}
-use Rattle.queue_streams.specs.declared.answers.Call.TheVariants.{Accepted, Refused}
-use Rattle.queue_streams.specs.declared.answers.Flag.{Flag}
-use Rattle.queue_streams.specs.declared.answers.Flag.TheVariants as flag
-use Rattle.queue_streams.specs.declared.answers.Number.{Number}
-use Rattle.queue_streams.specs.declared.answers.Number.TheVariants as number
+use Rattle.queue_streams.specs.Call.{Call}
+use Rattle.queue_streams.specs.Call.{Accepted, Refused}
+use Rattle.queue_streams.specs.Flag.{Flag}
+use Rattle.queue_streams.specs.Flag as flag
+use Rattle.queue_streams.specs.Number.{Number}
+use Rattle.queue_streams.specs.Number as number
 use Rattle.priority_plan.specs.declared.plan.PlannedPriorities.{PlannedPriorities}
 use Rattle.queue_restarts.specs.declared.ready.ReadyStreams.{ReadyStreams}
 pub use Rattle.host_numbers.specs.Numbers.{is_yes, message_of_words, call_out, with_first, shown, produced_out}

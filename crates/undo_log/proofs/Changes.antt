@@ -31,7 +31,7 @@ use Rattle.payload_store.specs.Words.{put_bytes}
 use Rattle.payload_store.specs.Dropping.{drop_code_words, dropped, drop_payload}
 use Rattle.queue_streams.specs.Settings.{called_with}
 use Rattle.queue_streams.specs.Waiting.{head_size_words, parameters_for}
-use Rattle.queue_streams.specs.declared.answers.Call.TheVariants.{Accepted, Refused}
+use Rattle.queue_streams.specs.Call.{Accepted, Refused}
 use Rattle.message_chains.specs.Amounts.{rest}
 use Rattle.message_chains.specs.Dropping.{scheduled_behind, end_pending_words, behind_dropped, dropped_in_state}
 use Rattle.message_chains.specs.Heads.{head_code, released, head_dropped, drop_notes}
