@@ -13,7 +13,6 @@ ghost use Rattle.message_chains.specs.Dropping.{scheduled_behind, end_pending_wo
 
 use crate::amounts::remaining;
 use crate::heads::{drop_head, head_code};
-use queue_streams::answers::Call;
 use queue_streams::waiting::{head_size, parameters_for};
 use queue_words::QUEUE_WORDS;
 use queue_words::active::SchedulingParameters;
@@ -83,18 +82,18 @@ fn drop_behind(
     row: usize,
     s: OutgoingStream,
     m: Item,
-) -> Call
+) -> Result<usize, Refusal>
     requires { (row < 256) × (s.first < 1024) × (drop_code_words queue.old s.first ≡ 0) }
-    ensures { called_with result queue.new events.new ≡ behind_dropped queue.old events.old k id row s m }
+    ensures { called_with (as_call result) queue.new events.new ≡ behind_dropped queue.old events.old k id row s m }
 {
     let scheduled = schedule_behind(queue, id, s, m.next);
     if scheduled {
         let state = s.pause_state;
         let after = end_pending(state);
         let k1 = drop_head(queue, events, k, id, row, s, after, m);
-        return Call::Accepted(k1);
+        return Ok(k1);
     }
-    Call::Refused(16)
+    Err(Refusal::WordsBroken)
 }
 
 // Drops the head m of the stream s, after k events: the events so far, or 16.
@@ -106,9 +105,9 @@ fn drop_in_state(
     row: usize,
     s: OutgoingStream,
     m: Item,
-) -> Call
+) -> Result<usize, Refusal>
     requires { (row < 256) × (s.first < 1024) }
-    ensures { called_with result queue.new events.new ≡ dropped_in_state queue.old events.old k id row s m }
+    ensures { called_with (as_call result) queue.new events.new ≡ dropped_in_state queue.old events.old k id row s m }
 {
     let n = remaining(m);
     let code = head_code(&*queue, s, s.first as usize, m.next, n);
@@ -126,9 +125,9 @@ pub fn drop_first(
     k: usize,
     id: u16,
     row: usize,
-) -> Call
+) -> Result<usize, Refusal>
     requires { (row < 256) × ((stream_at_words queue.old row).first < 1024) }
-    ensures { called_with result queue.new events.new ≡ dropped_in_state queue.old events.old k id row (stream_at_words queue.old row) (item_at queue.old (stream_at_words queue.old row).first) }
+    ensures { called_with (as_call result) queue.new events.new ≡ dropped_in_state queue.old events.old k id row (stream_at_words queue.old row) (item_at queue.old (stream_at_words queue.old row).first) }
 {
     let s = load_stream(&*queue, row);
     let m = load_item(&*queue, s.first as usize);
