@@ -11,7 +11,7 @@ use Rattle.queue_model.proofs.Tests.{Tri, less, same, more, tri}
 use Rattle.queue_words.specs.Active.{active_at}
 use Rattle.queue_words.specs.declared.active.ActiveStreamInfo.{ActiveStreamInfo}
 use Rattle.active_table.specs.declared.Best.{Best}
-use Rattle.active_table.specs.Rows.{seek_from, seek, best_of, better, best_among, best_to}
+use Rattle.active_table.specs.Rows.{seek_from, seek, best_of, better, best_among}
 use Rattle.active_table.specs.Parts.{rows_from}
 
 -- ------------------------------------------------------------------ the row of a stream
@@ -117,62 +117,6 @@ module _ (ws : List ℕ) (start : Best) (from : ℕ) where
 
   pub among_part : (i c : ℕ) (a b : Best) → a ≡ best i → b ≡ best_among (rows_from ws (from + i)) a (from + i) c → b ≡ best (i + c)
   among_part i c a b ea eb = eb ∙ (ap (λ (x : Best). best_among (rows_from ws (from + i)) x (from + i) c) ea ∙ joined i c)
-
--- The same in two walks: the second starts behind i₀ rows.
-module _ (ws : List ℕ) (start : Best) (from i₀ : ℕ) where
-  abbrev behind : ℕ → Best
-  behind i = best_among (rows_from ws (from + i₀)) start (from + i₀) (i - i₀)
-
-  pub behind_none : start ≡ behind i₀
-  behind_none =
-      let z : i₀ - i₀ ≡ 0 = omega arith in
-      among_none ws start (from + i₀) ∙ ap (best_among (rows_from ws (from + i₀)) start (from + i₀)) (sym z)
-
-  pub behind_one : (i : ℕ) (a b : Best) → i₀ ≤ i → a ≡ behind i → b ≡ best_among (rows_from ws (from + i)) a (from + i) 1 → b ≡ behind (i + 1)
-  behind_one i a b l ea eb =
-      let z : from + i₀ + (i - i₀) ≡ from + i = omega arith in
-      let s : i - i₀ + 1 ≡ i + 1 - i₀ = omega arith in
-      among_part ws start (from + i₀) (i - i₀) 1 a b ea (eb ∙ ap (λ (x : ℕ). best_among (rows_from ws x) a x 1) (sym z)) ∙ ap (best_among (rows_from ws (from + i₀)) start (from + i₀)) s
-
-pub among_end : (ws : List ℕ) (start : Best) (from i₀ i n : ℕ) (a b : Best) → a ≡ best_among (rows_from ws from) start from i₀ → b ≡ best_among (rows_from ws (from + i₀)) a (from + i₀) (i - i₀)
-    → i₀ ≤ i → i ≤ n → n ≤ i → b ≡ best_among (rows_from ws from) start from n
-among_end ws start from i₀ i n a b ea eb h l g =
-    let z : i₀ + (i - i₀) ≡ n = omega arith in
-    among_part ws start from i₀ (i - i₀) a b ea eb ∙ ap (best_among (rows_from ws from) start from) z
-
--- The rows from 0 on.
-best_zero : (ws : List ℕ) → best_to ws 0 ≡ best_of (active_at ws 0) 0
-unfolding best_to best_among
-best_zero ws = refl
-
-best_suc : (ws : List ℕ) (k : ℕ) → best_to ws (suc k) ≡ better (best_to ws k) (best_of (active_at ws (suc k)) (suc k))
-unfolding best_to best_among
-best_suc ws k =
-    let s : 1 + k ≡ suc k = omega arith in
-    rw s
-
--- Rows of the queue behind the least of those before.
-among : (ws : List ℕ) (i n : ℕ) → best_among (rows_from ws (i + 1)) (best_to ws i) (i + 1) n ≡ best_to ws (i + n)
-unfolding best_among
-among ws i zero =
-    let z : i + 0 ≡ i = omega arith in
-    rw z
-among ws i (suc n) =
-    let s : i + suc n ≡ suc (i + n) = omega arith in
-    let t : (i + 1) + n ≡ suc (i + n) = omega arith in
-    rw (s, t, among ws i n, best_suc ws (i + n))
-
-pub least_begun : (ws : List ℕ) (b : Best) → b ≡ best_of (active_at ws 0) 0 → b ≡ best_to ws 0
-least_begun ws b e = e ∙ sym (best_zero ws)
-
--- A part of c rows behind row i.
-pub least_part : (ws : List ℕ) (i c : ℕ) (a b : Best) → a ≡ best_to ws i → b ≡ best_among (rows_from ws (i + 1)) a (i + 1) c → b ≡ best_to ws (i + c)
-least_part ws i c a b ea eb = eb ∙ (ap (λ (x : Best). best_among (rows_from ws (i + 1)) x (i + 1) c) ea ∙ among ws i c)
-
-pub least_end : (ws : List ℕ) (i n : ℕ) (b : Best) → b ≡ best_to ws i → i < n → n ≤ i + 1 → b ≡ best_to ws (n - 1)
-least_end ws i n b e l g =
-    let z : n - 1 ≡ i = omega arith in
-    rw (z, e)
 
 -- The better of two by its cases.
 module _ (a : Best) (row : ActiveStreamInfo) (i : ℕ) where

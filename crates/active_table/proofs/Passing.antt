@@ -150,25 +150,11 @@ module _ (rows : ℕ → ActiveStreamInfo) where
   soonest_none = refl
 
   -- one row more finishes earlier than those before, or it does not
-  module _ (n : ℕ) where
-    abbrev next : ℕ
-    next = n + 1
-
-    grown : min (soonest rows n) (finish_of rows n) ≡ soonest rows next
-    unfolding soonest
-    grown =
-        let s : n + 1 ≡ suc n = omega arith in
-        rw s
-
-    pub soonest_row : finish_of rows n < soonest rows n → finish_of rows n ≡ soonest rows next
-    soonest_row l =
-        let m : finish_of rows n ≡ min (soonest rows n) (finish_of rows n) = omega arith in
-        m ∙ grown
-
-    pub soonest_stays : soonest rows n ≤ finish_of rows n → soonest rows n ≡ soonest rows next
-    soonest_stays l =
-        let m : soonest rows n ≡ min (soonest rows n) (finish_of rows n) = omega arith in
-        m ∙ grown
+  pub soonest_next : (n a b : ℕ) → a ≡ soonest rows n → b ≡ min a (finish_of rows n) → b ≡ soonest rows (n + 1)
+  unfolding soonest
+  soonest_next n a b ea eb =
+      let s : n + 1 ≡ suc n = omega arith in
+      rw (s, ← ea) eb
 
   soonest_first : (n k : ℕ) → k < n → soonest rows n ≤ finish_of rows k
   unfolding soonest

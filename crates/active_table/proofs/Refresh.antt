@@ -49,20 +49,12 @@ module _ (ws : List ℕ) (n g : ℕ) (a b : Best) (ea : a ≡ best_over ws n g) 
       let s : g + 1 ≡ suc g = omega arith in
       subst (λ (x : ℕ). b ≡ best_over ws n x) (sym s) (over_one (rw (eb, full_count g n l)))
 
--- The last group, which is not full, and none.
-module _ (n g : ℕ) (l : n < g * 24 + 24) where
-  last_group : g * 24 < n → groups_of n ≡ suc g
-  last_group h = omega arith
-
-  no_group : g * 24 ≤ n → n ≤ g * 24 → groups_of n ≡ g
-  no_group h m = omega arith
-
+-- The last group, which is not full.
 module _ (ws : List ℕ) (n g : ℕ) (a : Best) (ea : a ≡ best_over ws n g) (l : n < g * 24 + 24) where
   pub over_last : (b : Best) → g * 24 < n → b ≡ best_in ws n g a → b ≡ best_over ws n (groups_of n)
-  over_last b h eb = subst (λ (x : ℕ). b ≡ best_over ws n x) (sym (last_group n g l h)) (over_one ws n g a b ea eb)
-
-  pub over_end : g * 24 ≤ n → n ≤ g * 24 → a ≡ best_over ws n (groups_of n)
-  over_end h m = subst (λ (x : ℕ). a ≡ best_over ws n x) (sym (no_group n g l h m)) ea
+  over_last b h eb =
+      let t : groups_of n ≡ suc g = omega arith in
+      subst (λ (x : ℕ). b ≡ best_over ws n x) (sym t) (over_one ws n g a b ea eb)
 
 module _ (ws : List ℕ) (n : ℕ) (b : Best) where
   pub known_one : n ≤ few → b ≡ best_to ws (n - 1) → b ≡ least_known ws n

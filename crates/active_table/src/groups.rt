@@ -54,13 +54,12 @@ fn best_over(queue: &[u64; QUEUE_WORDS], n: usize) -> Best
     ensures { result ≡ best_over queue.now n (groups_of n) }
 {
     let mut best = first_row(queue, 0);
-    let mut g = 0;
-    while g * GROUP + GROUP <= n {
+    let full = n / GROUP;
+    for g in 0..full {
         best = best_in(queue, g * GROUP + GROUP, g, best);
-        g += 1;
     }
-    if g * GROUP < n {
-        return best_in(queue, n, g, best);
+    if full * GROUP < n {
+        return best_in(queue, n, full, best);
     }
     best
 }
@@ -91,21 +90,16 @@ fn stale_group(queue: &[u64; QUEUE_WORDS], n: usize) -> usize
     requires { n ≤ 256 }
     ensures { result ≡ stale_from queue.now n 0 (groups_of n) }
 {
-    let mut g = 0;
-    while g * GROUP + GROUP <= n {
-        let fresh = is_fresh(queue, g * GROUP + GROUP, g);
-        if !fresh {
+    let full = n / GROUP;
+    for g in 0..full {
+        if !is_fresh(queue, g * GROUP + GROUP, g) {
             return g;
         }
-        g += 1;
     }
-    if g * GROUP < n {
-        let fresh = is_fresh(queue, n, g);
-        if fresh {
-            return g + 1;
-        }
+    if full * GROUP < n && is_fresh(queue, n, full) {
+        return full + 1;
     }
-    g
+    full
 }
 
 fn refresh_group(queue: &mut [u64; QUEUE_WORDS], n: usize, g: usize)

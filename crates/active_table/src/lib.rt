@@ -25,15 +25,12 @@ const LARGEST_ID: u16 = 65535;
 pub fn position(table: &[ActiveStreamInfo], stream_id: u16) -> usize
     ensures { result ≡ seek_from (rows_of table.now) stream_id 0 (length table.now) }
 {
-    let mut i: usize = 0;
-    while i < table.len() {
-        let row = table[i];
+    for (i, row) in table.iter().enumerate() {
         if row.stream_id.0 == stream_id {
             return i;
         }
-        i += 1;
     }
-    i
+    table.len()
 }
 
 // A row in the search for the least: its place, finish time and stream.
@@ -76,10 +73,8 @@ pub fn least(table: &[ActiveStreamInfo], from: usize, start: Best) -> Best
     ensures { result ≡ best_among (rows_of table.now) start from (length table.now) }
 {
     let mut best = start;
-    let mut i: usize = 0;
-    while i < table.len() {
-        best = better(best, table[i], from + i);
-        i += 1;
+    for (i, row) in table.iter().enumerate() {
+        best = better(best, *row, from + i);
     }
     best
 }
@@ -88,14 +83,9 @@ pub fn least(table: &[ActiveStreamInfo], from: usize, start: Best) -> Best
 pub fn soonest(table: &[ActiveStreamInfo]) -> u64
     ensures { result ≡ soonest (rows_of table.now) (length table.now) }
 {
-    let mut time: u64 = LATEST;
-    let mut i: usize = 0;
-    while i < table.len() {
-        let row = table[i];
-        if row.virtual_finish_time < time {
-            time = row.virtual_finish_time;
-        }
-        i += 1;
+    let mut time = LATEST;
+    for row in table {
+        time = time.min(row.virtual_finish_time);
     }
     time
 }
@@ -104,13 +94,10 @@ pub fn soonest(table: &[ActiveStreamInfo]) -> u64
 pub fn ids_behind(table: &[ActiveStreamInfo], id: u16) -> bool
     ensures { result ≡ ids_behind_words (rows_of table.now) id 0 (length table.now) }
 {
-    let mut i: usize = 0;
-    while i < table.len() {
-        let row = table[i];
+    for row in table {
         if row.stream_id.0 < id {
             return false;
         }
-        i += 1;
     }
     true
 }
@@ -190,13 +177,10 @@ fn ids_behind_in_four(queue: &[u64; QUEUE_WORDS], from: usize, id: u16) -> bool
     requires { from + 4 ≤ 256 }
     ensures { result ≡ ids_behind_words (rows_from queue.now from) id 0 4 }
 {
-    let mut k = 0;
-    while k < 4 {
-        let behind = ids_behind_in_one(queue, from + k, id);
-        if !behind {
+    for k in 0..4 {
+        if !ids_behind_in_one(queue, from + k, id) {
             return false;
         }
-        k += 1;
     }
     true
 }
@@ -233,20 +217,17 @@ pub fn seek(queue: &[u64; QUEUE_WORDS], stream_id: u16, n: usize) -> usize
     requires { n ≤ 256 }
     ensures { result ≡ seek queue.now stream_id n }
 {
-    let mut i = 0;
-    while i + 4 <= n {
-        let k = position_in_four(queue, i, stream_id);
+    for g in 0..n / 4 {
+        let k = position_in_four(queue, g * 4, stream_id);
         if k < 4 {
-            return i + k;
+            return g * 4 + k;
         }
-        i += 4;
     }
-    while i < n {
+    for i in n / 4 * 4..n {
         let k = position_in_one(queue, i, stream_id);
         if k < 1 {
             return i + k;
         }
-        i += 1;
     }
     n
 }
@@ -270,14 +251,11 @@ fn least_among(queue: &[u64; QUEUE_WORDS], from: usize, n: usize, start: Best) -
     ensures { result ≡ best_among (rows_from queue.now from) start from n }
 {
     let mut best = start;
-    let mut i = 0;
-    while i + 4 <= n {
-        best = least_past(queue, from + i, best);
-        i += 4;
+    for g in 0..n / 4 {
+        best = least_past(queue, from + g * 4, best);
     }
-    while i < n {
+    for i in n / 4 * 4..n {
         best = least_of_one(queue, from + i, best);
-        i += 1;
     }
     best
 }
@@ -287,15 +265,6 @@ fn least_row(queue: &[u64; QUEUE_WORDS], n: usize) -> Best
     requires { (0 < n) × (n ≤ 256) }
     ensures { result ≡ best_to queue.now (n - 1) }
 {
-    let mut best = first_row(queue, 0);
-    let mut i = 0;
-    while i + 5 <= n {
-        best = least_past(queue, i + 1, best);
-        i += 4;
-    }
-    while i + 1 < n {
-        best = least_of_one(queue, i + 1, best);
-        i += 1;
-    }
-    best
+    let first = first_row(queue, 0);
+    least_among(queue, 1, n - 1, first)
 }

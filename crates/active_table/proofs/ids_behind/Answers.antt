@@ -24,10 +24,10 @@ module _ (rows : ℕ → ActiveStreamInfo) (id i n : ℕ) where
       rw s (sym (ids_none rows id i))
 
 pub returns-then-row-id : goal.returns-then-row-id
-returns-then-row-id c = here (rows_of c.args.table.now) c.args.id c.loop-i.i (length c.args.table.now) c.loop-i-test.true c.if-row-id.true ∙ sym c.loop-i.invariant.1
+returns-then-row-id c = here (rows_of c.args.table.now) c.args.id c.loop-row.row-index (length c.args.table.now) c.loop-row-test.true c.if-row-id.true ∙ sym c.loop-row.invariant
 
-pub loop-i-preserved : goal.loop-i-preserved
-loop-i-preserved c = (omega arith, c.loop-i.invariant.1 ∙ behind (rows_of c.args.table.now) c.args.id c.loop-i.i (length c.args.table.now) c.loop-i-test.true c.if-row-id.false)
+pub loop-row-preserved : goal.loop-row-preserved
+loop-row-preserved c = c.loop-row.invariant ∙ behind (rows_of c.args.table.now) c.args.id c.loop-row.row-index (length c.args.table.now) c.loop-row-test.true c.if-row-id.false
 
 pub returns : goal.returns
-returns c = nowhere (rows_of c.args.table.now) c.args.id c.loop-i.i (length c.args.table.now) c.loop-i-test.false ∙ sym c.loop-i.invariant.1
+returns c = nowhere (rows_of c.args.table.now) c.args.id c.loop-row.row-index (length c.args.table.now) c.loop-row-test.false ∙ sym c.loop-row.invariant

@@ -8,7 +8,7 @@ use Rattle.active_table.proofs.least.Goals as goal
 
 pub loop-i-init : goal.loop-i-init
 unfolding best_among
-loop-i-init c = (omega arith, refl)
+loop-i-init c = refl
 
 -- The best of i rows and the next one.
 next : (rows : ℕ → ActiveStreamInfo) (start : Best) (from i : ℕ) (a b : Best) → a ≡ best_among rows start from i → b ≡ better a (best_of (rows i) (from + i)) → b ≡ best_among rows start from (i + 1)
@@ -18,4 +18,4 @@ next rows start from i a b ea eb =
     rw t (eb ∙ ap (λ (x : Best). better x (best_of (rows i) (from + i))) ea)
 
 pub loop-i-preserved : goal.loop-i-preserved
-loop-i-preserved c = (omega arith, next (rows_of c.args.table.now) c.args.start c.args.from c.loop-i.i c.loop-i.best c.better-best.result c.loop-i.invariant.1 c.better-best.ensures)
+loop-i-preserved c = next (rows_of c.args.table.now) c.args.start c.args.from c.loop-i.i c.loop-i.best c.better-best.result c.loop-i.invariant c.better-best.ensures

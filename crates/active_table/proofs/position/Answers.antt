@@ -18,16 +18,17 @@ module _ (rows : ℕ → ActiveStreamInfo) (id i n : ℕ) where
       let t : i + 1 ≡ suc i = omega arith in
       rw (s, t, seek_miss rows id i (n - suc i) e)
 
-  nowhere : n ≤ i → i ≡ seek_from rows id i (n - i)
-  nowhere l =
+  nowhere : i ≤ n → n ≤ i → n ≡ seek_from rows id i (n - i)
+  nowhere l m =
       let s : n - i ≡ 0 = omega arith in
-      rw s (sym (seek_none rows id i))
+      let t : n ≡ i = omega arith in
+      rw s (t ∙ sym (seek_none rows id i))
 
 pub returns-then-row-stream_id : goal.returns-then-row-stream_id
-returns-then-row-stream_id c = here (rows_of c.args.table.now) c.args.stream_id c.loop-i.i (length c.args.table.now) c.loop-i-test.true c.if-row-stream_id.true ∙ sym c.loop-i.invariant.1
+returns-then-row-stream_id c = here (rows_of c.args.table.now) c.args.stream_id c.loop-i.i (length c.args.table.now) c.loop-i-test.true c.if-row-stream_id.true ∙ sym c.loop-i.invariant
 
 pub loop-i-preserved : goal.loop-i-preserved
-loop-i-preserved c = (omega arith, c.loop-i.invariant.1 ∙ behind (rows_of c.args.table.now) c.args.stream_id c.loop-i.i (length c.args.table.now) c.loop-i-test.true c.if-row-stream_id.false)
+loop-i-preserved c = c.loop-i.invariant ∙ behind (rows_of c.args.table.now) c.args.stream_id c.loop-i.i (length c.args.table.now) c.loop-i-test.true c.if-row-stream_id.false
 
 pub returns : goal.returns
-returns c = nowhere (rows_of c.args.table.now) c.args.stream_id c.loop-i.i (length c.args.table.now) c.loop-i-test.false ∙ sym c.loop-i.invariant.1
+returns c = nowhere (rows_of c.args.table.now) c.args.stream_id c.loop-i.i (length c.args.table.now) (omega arith) c.loop-i-test.false ∙ sym c.loop-i.invariant

@@ -1,11 +1,8 @@
--- The earliest finish time of the first i rows.
-use Rattle.std.proofs.Common.{◌≡◌, ◌-◌, ◌≤◌, length}
+-- The earliest finish time of the rows so far.
+use Rattle.std.proofs.Common.{◌≡◌}
 use Rattle.active_table.specs.Passing.{soonest}
 use Rattle.active_table.specs.Parts.{rows_of}
 use Rattle.active_table.proofs.soonest.Given as goal
 
-abbrev pub invariant-loop-i : goal.invariant-loop-i
-invariant-loop-i l = (l.i ≤ length l.table) × (l.time ≡ soonest (rows_of l.table) l.i)
-
-abbrev pub decreases-loop-i : goal.decreases-loop-i
-decreases-loop-i l = length l.table - l.i
+abbrev pub invariant-loop-row : goal.invariant-loop-row
+invariant-loop-row l = l.time ≡ soonest (rows_of l.table) l.row-index
