@@ -3,9 +3,8 @@
 use mathlib.Core.Path.{◌≡◌, refl, sym, ap, ◌∙◌}
 use mathlib.Core.Logic.{inl, inr, ⊎_elim}
 use mathlib.Core.List.{List}
-use Prim.Native.Nat.{ℕ, zero, suc, ◌+◌, ◌*◌, ◌/◌, ◌≤◌, ◌<◌}
+use Prim.Native.Nat.{ℕ, zero, suc, ◌+◌, ◌-◌, ◌*◌, ◌/◌, ◌≤◌, ◌<◌}
 use native.Mathlib.Omega.{arith}
-use native.Mathlib.Numerals.{add-one}
 use borrow.Author.Tests.{lt-ltb, le-ltb, le-leb, lt-leb}
 use lib.ListN.{length, get_or, set, replicate, length-set, length-replicate, get_or-replicate}
 use lib.Seq.{get_or-set_same, get_or-set_other}
@@ -75,9 +74,12 @@ least_join ws cur a (suc n) h =
     ∙ choose_inside ws cur (least ws cur a) (least_in ws cur a n) (a + n) (omega arith))
 
 -- one turn of least_in
-pub in_on : (ws : List ℕ) (cur g a i b c : ℕ) → a ≡ g * 32 → b ≡ least_in ws cur (g * 32) i → c ≡ choose ws cur b (a + i) → c ≡ least_in ws cur (g * 32) (i + 1)
+pub in_on : (ws : List ℕ) (cur a i b c : ℕ) → a ≤ i → b ≡ least_in ws cur a (i - a) → c ≡ choose ws cur b i → c ≡ least_in ws cur a (i + 1 - a)
 unfolding least_in
-in_on ws cur g a i b c ea eb ec = ec ∙ rw (add-one, ea, eb)
+in_on ws cur a i b c l eb ec =
+    let s : i + 1 - a ≡ suc (i - a) = omega arith in
+    let z : a + (i - a) ≡ i = omega arith in
+    ec ∙ rw (s, z, eb)
 
 -- a group's least row is one of the group
 abbrev Within : ℕ → ℕ → ℕ → Type 0

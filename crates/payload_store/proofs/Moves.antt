@@ -2,17 +2,15 @@
 use mathlib.Core.Path.{◌≡◌, refl, sym, ap, ◌∙◌}
 use mathlib.Core.Logic.{◌⊎◌, inl, inr, ⊎_elim}
 use mathlib.Core.List.{List}
-use Prim.Native.Nat.{ℕ, zero, suc, ◌+◌, ◌≤◌, ◌<◌}
+use Prim.Native.Nat.{ℕ, zero, suc, ◌+◌, ◌-◌, ◌≤◌, ◌<◌}
 use native.Mathlib.Omega.{arith}
 use native.Mathlib.Numerals.{add-one}
 use lib.ListN.{length, get_or, set, take, drop, length-set, length-drop}
-use lib.Seq.{get_or-set_same, get_or-set_other, get_or-take, get_or-drop, ext_get_or, length-take-le}
+use lib.Seq.{paste, get_or-set_same, get_or-set_other, get_or-take, get_or-drop, ext_get_or, length-take-le}
+use Rattle.std.specs.List.{copy_within}
+use Rattle.std.proofs.lemmas.List.Edits.{paste_none, paste_more}
 use Rattle.payload_store.specs.Moving.{moved}
 use Rattle.payload_store.proofs.Cases.{by_index}
-
-pub move_step : (st₀ st : List ℕ) (from to k : ℕ) → st ≡ moved st₀ from to k → set st (to + k) (get_or st (from + k) 0) ≡ moved st₀ from to (k + 1)
-unfolding moved
-move_step st₀ st from to k e = rw (add-one, e)
 
 module _ (st : List ℕ) (from to : ℕ) where
   pub moved_length : (k : ℕ) → length (moved st from to k) ≡ length st
@@ -36,6 +34,20 @@ module _ (st : List ℕ) (from to : ℕ) where
       ∙ (moved_other k (from + k) (inr (omega arith)) ∙ ap (λ m. get_or st (from + m) 0) (sym e))))
       (λ ne. get_or-set_other (moved st from to k) (to + k) (to + j) _ 0 (λ e. ne (omega arith))
       ∙ moved_at k j h (omega arith) (omega arith))
+
+-- a copy within the store leaves the same
+pasted : (st : List ℕ) (from to k : ℕ) → to ≤ from → from + k ≤ length st → paste st to (drop from st) k ≡ moved st from to k
+unfolding moved
+pasted st from to zero h l = sym (paste_none st to (drop from st))
+pasted st from to (suc k) h l =
+    let b : get_or (moved st from to k) (from + k) 0 ≡ get_or (drop from st) k 0 = moved_other st from to k (from + k) (inr (omega arith)) ∙ sym (get_or-drop from st k 0) in
+    let p : set (paste st to (drop from st) k) (to + k) (get_or (drop from st) k 0) ≡ paste st to (drop from st) (k + 1) = paste_more st to (drop from st) k 0 (omega arith) (simp length-drop (omega arith)) in
+    rw (b, ← pasted st from to k h (omega arith)) (sym (rw add-one at p))
+
+pub moved_within : (st : List ℕ) (from to n : ℕ) → to ≤ from → from + n ≤ length st → copy_within st from (from + n) to ≡ moved st from to n
+moved_within st from to n h l =
+    let z : from + n - from ≡ n = omega arith in
+    rw z (pasted st from to n h l)
 
 -- two parts of stores are equal by their bytes
 pub part_same : (st st' : List ℕ) (p p' n : ℕ) → p + n ≤ length st → p' + n ≤ length st'

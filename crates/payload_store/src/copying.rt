@@ -19,10 +19,9 @@ pub fn copy(src: &[u8], dst: &mut [u8])
     ensures { dst.new ≡ src.now ++ drop (length src.now) dst.old }
 {
     let n = src.len();
-    let mut i = 0;
-    while n - i > BLOCK {
-        copy_some(src, dst, i, BLOCK);
-        i += BLOCK;
+    for block in 0..n / BLOCK {
+        copy_some(src, dst, block * BLOCK, BLOCK);
     }
-    copy_some(src, dst, i, n - i);
+    let at = n / BLOCK * BLOCK;
+    copy_some(src, dst, at, n - at);
 }

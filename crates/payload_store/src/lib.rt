@@ -66,11 +66,7 @@ pub fn move_down(store: &mut [u8], from: usize, to: usize, n: usize)
     requires { (from + n ≤ length store.old) × (to ≤ from) }
     ensures { store.new ≡ moved store.old from to n }
 {
-    let mut k = 0;
-    while k < n {
-        store[to + k] = store[from + k];
-        k += 1;
-    }
+    store.copy_within(from..from + n, to);
 }
 
 // Moves the payloads together, towards 0, in the order of their places; by what is kept of the groups of rows, at first nothing.
@@ -82,8 +78,7 @@ fn move_all(queue: &mut [u64; QUEUE_WORDS], store: &mut [u8], kept: &mut [u64]) 
     whole(queue);
     let len = store.len();
     let mut cursor = 0u64;
-    let mut k = 0;
-    while k < len {
+    for _ in 0..len {
         let r = next_row(&*queue, cursor, kept);
         if r >= MESSAGE_ROWS {
             return cursor;
@@ -98,7 +93,6 @@ fn move_all(queue: &mut [u64; QUEUE_WORDS], store: &mut [u8], kept: &mut [u64]) 
         store_place(queue, r, cursor);
         kept[r / GROUP] = UNKNOWN;
         cursor += n;
-        k += 1;
     }
     cursor
 }
@@ -159,13 +153,11 @@ fn all_fit(queue: &[u64; QUEUE_WORDS], len: u64, used: u64) -> bool
         ok: true,
         left: used,
     };
-    let mut i = 0;
-    while i < MESSAGE_ROWS {
+    for i in 0..MESSAGE_ROWS {
         if t.left == 0 {
             return t.ok;
         }
         t = row_fits(queue, len, i, t);
-        i += 1;
     }
     if t.ok {
         return t.left == 0;

@@ -22,10 +22,8 @@ fn least_in(queue: &[u64; QUEUE_WORDS], cursor: u64, g: usize) -> usize
 {
     let first = g * GROUP;
     let mut best = MESSAGE_ROWS;
-    let mut i = 0;
-    while i < GROUP {
-        best = choose_row(queue, cursor, best, first + i);
-        i += 1;
+    for i in first..first + GROUP {
+        best = choose_row(queue, cursor, best, i);
     }
     best
 }
@@ -72,12 +70,10 @@ pub fn next_row(queue: &[u64; QUEUE_WORDS], cursor: u64, kept: &mut [u64]) -> us
     ensures { (result ≡ least queue.now cursor 1024) × Exact queue.now cursor 32 kept.new }
 {
     let mut best = MESSAGE_ROWS;
-    let mut g = 0;
-    while g < GROUPS {
+    for g in 0..GROUPS {
         let b = renewed(queue, cursor, g, kept[g] as usize);
         kept[g] = b as u64;
         best = better(queue, best, b);
-        g += 1;
     }
     best
 }

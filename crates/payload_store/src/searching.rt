@@ -80,15 +80,13 @@ fn reach_all(queue: &[u64; QUEUE_WORDS], used: u64, reach: &mut [u64])
     ensures { reach.new ≡ reach_to queue.now used 1024 }
 {
     let mut left = used;
-    let mut i = 0;
-    while i < MESSAGE_ROWS {
+    for i in 0..MESSAGE_ROWS {
         if left == 0 {
             return;
         }
         let size = load_length(queue, i);
         reach_row(queue, reach, i, size);
         left = less(left, size);
-        i += 1;
     }
 }
 
@@ -171,10 +169,8 @@ fn longest(reach: &[u64], n: usize) -> Run
         high: 0,
         start: 0,
     };
-    let mut k = 0;
-    while k < n {
+    for k in 0..n {
         r = run_on(r, reach[k] as usize, k);
-        k += 1;
     }
     r
 }

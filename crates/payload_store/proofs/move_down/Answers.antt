@@ -1,16 +1,7 @@
--- `payload_store::move_down` meets its contract: after k turns the store is `moved` by k bytes. Assumes nothing.
-use mathlib.Core.Path.{refl}
-use native.Mathlib.Omega.{arith}
-use lib.ListN.{length-set}
-use Rattle.payload_store.specs.Moving.{moved}
-use Rattle.payload_store.proofs.Moves.{move_step}
+-- A copy within the store is `moved` by all n bytes.
+use Rattle.std.proofs.Common.{◌∙◌}
+use Rattle.payload_store.proofs.Moves.{moved_within}
 use Rattle.payload_store.proofs.move_down.Goals as goal
 
-pub loop-k-init : goal.loop-k-init
-unfolding moved
-loop-k-init c = (omega arith, refl, refl)
-
-pub loop-k-preserved : goal.loop-k-preserved
-loop-k-preserved c =
-    let v = c.loop-k.invariant in
-    (omega arith, simp length-set v.1, move_step _ _ _ _ _ v.2)
+pub returns : goal.returns
+returns c = c.copy_within.ensures.after ∙ moved_within _ _ _ _ c.requires.1 c.requires.0

@@ -1,15 +1,16 @@
--- `payload_store::copying::copy` meets its contract: the first i bytes are copied, and the last block ends it. Assumes nothing.
-use Prim.Native.Nat.{◌≤◌, ◌+◌}
-use native.Mathlib.Omega.{arith}
-use lib.ListN.{length}
+-- One block more, and the rest.
+use Rattle.std.proofs.Common.{◌≡◌, ◌+◌, ◌*◌, ◌/◌, ◌≤◌, length, arith}
 use Rattle.payload_store.proofs.Blocks.{block_on, block_last}
-use Rattle.std.proofs.Common.{rules}
 use Rattle.payload_store.proofs.copying.copy.Goals as goal
 
-pub loop-i-preserved : goal.loop-i-preserved
-loop-i-preserved c =
-    let r : c.loop-i.i + 262144 ≤ length c.args.src.now = omega arith in
-    (r, search rules, block_on _ _ _ _ _ _ r c.loop-i.invariant.2 c.copy_some.ensures)
+pub loop-block-preserved : goal.loop-block-preserved
+loop-block-preserved c =
+    let t : (c.loop-block.block + 1) * 262144 ≡ c.loop-block.block * 262144 + 262144 = omega arith in
+    let r : c.loop-block.block * 262144 + 262144 ≤ length c.args.src.now = omega arith in
+    rw t (block_on _ _ _ _ _ _ r c.loop-block.invariant c.copy_some.ensures)
 
 pub returns : goal.returns
-returns c = block_last _ _ _ _ _ c.loop-i.invariant.0 c.loop-i.invariant.2 c.copy_some-2.ensures
+returns c =
+    let t : c.loop-block.block ≡ length c.args.src.now / 262144 = omega arith in
+    let r : length c.args.src.now / 262144 * 262144 ≤ length c.args.src.now = omega arith in
+    block_last _ _ _ _ _ r (rw t at c.loop-block.invariant) c.copy_some-2.ensures

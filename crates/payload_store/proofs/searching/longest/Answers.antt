@@ -1,18 +1,16 @@
--- `payload_store::searching::longest` meets its contract: after k turns the runs are those of the first k pieces. Assumes nothing.
-use mathlib.Core.Path.{refl, ◌∙◌}
-use native.Mathlib.Omega.{arith}
-use native.Mathlib.Numerals.{add-one}
+-- One piece more.
+use Rattle.std.proofs.Common.{refl, ◌∙◌, add-one, arith}
 use Rattle.payload_store.specs.Searching.{run_to}
 use Rattle.payload_store.proofs.Found.{run_before}
 use Rattle.payload_store.proofs.searching.longest.Goals as goal
 
 pub loop-k-init : goal.loop-k-init
 unfolding run_to
-loop-k-init c = (omega arith, refl)
+loop-k-init c = refl
 
 pub run_on-r-requires : goal.run_on-r-requires
-run_on-r-requires c = let b = run_before _ _ _ c.loop-k.invariant.1 in (omega arith, b.0, b.1)
+run_on-r-requires c = let b = run_before _ _ _ c.loop-k.invariant in (omega arith, b.0, b.1)
 
 pub loop-k-preserved : goal.loop-k-preserved
 unfolding run_to
-loop-k-preserved c = (omega arith, c.run_on-r.ensures ∙ rw (add-one, c.loop-k.invariant.1))
+loop-k-preserved c = c.run_on-r.ensures ∙ rw (add-one, c.loop-k.invariant)
