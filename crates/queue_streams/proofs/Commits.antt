@@ -3,7 +3,6 @@ use mathlib.Core.Path.{◌≡◌, refl, sym, ap, ◌∙◌, subst}
 use mathlib.Core.Bool.{Bool, true, false, not}
 use mathlib.Core.List.{List}
 use Prim.Native.Nat.{ℕ, zero, suc, ◌+◌, ◌-◌, ◌≤◌, ◌<◌}
-use native.Mathlib.Nat.{sub-zero}
 use native.Mathlib.Omega.{arith}
 use native.Mathlib.Numerals.{add-one}
 use lib.Dec.{ltb, leb, eqb}
@@ -67,9 +66,6 @@ module _ (ws : List ℕ) (n : ℕ) where
       by false e true f g (less k) ih = ih g k
       by false e true f g (same k) ih = subst Passed k (leb-false _ _ e, f)
       by false e true f g (more k) ih = absurd (omega arith)
-
-  pub quiet_start : quiet_from ws n 0 n ≡ quiet_from ws n 0 (n - 0)
-  quiet_start = rw sub-zero
 
   module _ (i : ℕ) (inv : quiet_from ws n 0 n ≡ quiet_from ws n i (n - i)) where
     module _ (h : i < n) (k : Known) (ek : k ≡ known_at ws i) where

@@ -90,18 +90,14 @@ shift_start ws n =
     let z : n - n ≡ 0 = omega arith in
     rw z
 
-pub shift_next : (ws : List ℕ) (n i : ℕ) (l m : List ℕ) (k : Known) → 0 < i → i ≤ n → l ≡ shifted ws n (n - i) → k ≡ known_at l (i - 1) → m ≡ put_known l i k
+pub shift_next : (ws : List ℕ) (n i : ℕ) (l m : List ℕ) (k : Known) → 0 < i → i ≤ n → l ≡ shifted ws n (n - i) → k ≡ known_at l (i - 1) → m ≡ put_known l (i - 1 + 1) k
     → m ≡ shifted ws n (n - (i - 1))
 unfolding shifted
 shift_next ws n i l m k h g el ek em =
     let s : n - (i - 1) ≡ suc (n - i) = omega arith in
     let a : n - (n - i) ≡ i = omega arith in
-    rw (s, a, em, ek, el)
-
-pub shift_end : (ws : List ℕ) (n position i : ℕ) (l : List ℕ) → l ≡ shifted ws n (n - i) → position ≤ i → i ≤ position → l ≡ shifted ws n (n - position)
-shift_end ws n position i l e h g =
-    let z : position ≡ i = omega arith in
-    rw (z, e)
+    let b : i - 1 + 1 ≡ i = omega arith in
+    rw (s, a, em, b, ek, el)
 
 -- a stream may be made known: in the loaded count
 pub count_room : (ws : List ℕ) (t : Totals) (position : ℕ) → t ≡ totals_at ws → (position ≤ known_count ws) × (known_count ws < 256)

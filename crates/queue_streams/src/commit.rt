@@ -26,17 +26,14 @@ fn all_quiet(queue: &[u64; QUEUE_WORDS], n: usize) -> bool
     requires { n ≤ 256 }
     ensures { result ≡ quiet_from queue.now n 0 n }
 {
-    let mut i = 0;
-    while i < n {
+    for i in 0..n {
         let k = load_known(queue, i);
         if k.place >= (n as u64) {
             return false;
         }
         let s = load_stream(queue, i);
         let quiet = is_quiet(s);
-        if quiet {
-            i += 1;
-        } else {
+        if !quiet {
             return false;
         }
     }
@@ -77,10 +74,8 @@ pub(crate) fn commit_all(queue: &mut [u64; QUEUE_WORDS], n: usize)
     requires { (n ≤ 256) × CommitPlaced queue.old n }
     ensures { queue.new ≡ committed_all queue.old n }
 {
-    let mut i = 0;
-    while i < n {
+    for i in 0..n {
         let k = load_known(&*queue, i);
         commit_at(queue, k.place);
-        i += 1;
     }
 }

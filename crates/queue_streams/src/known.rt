@@ -57,11 +57,9 @@ fn make_room(queue: &mut [u64; QUEUE_WORDS], position: usize, n: usize)
     requires { (position ≤ n) × (n < 256) }
     ensures { queue.new ≡ shifted queue.old n (n - position) }
 {
-    let mut i = n;
-    while position < i {
-        let k = load_known(&*queue, i - 1);
-        store_known(queue, i, k);
-        i -= 1;
+    for i in (position..n).rev() {
+        let k = load_known(&*queue, i);
+        store_known(queue, i + 1, k);
     }
 }
 

@@ -72,11 +72,9 @@ fn reopen_all(queue: &mut [u64; QUEUE_WORDS], zeroed: bool, interleaving: bool, 
     requires { (n ≤ 256) × ReopenSteps zeroed interleaving queue.old n }
     ensures { queue.new ≡ reopened_all zeroed interleaving queue.old n }
 {
-    let mut i = 0;
-    while i < n {
+    for i in 0..n {
         let k = load_known(&*queue, i);
         reopen_at(queue, zeroed, interleaving, k);
-        i += 1;
     }
 }
 
@@ -134,11 +132,9 @@ fn switch_all(queue: &mut [u64; QUEUE_WORDS], interleaving: bool, n: usize)
     requires { (n ≤ 256) × SwitchSteps interleaving queue.old n }
     ensures { queue.new ≡ switched_all interleaving queue.old n }
 {
-    let mut i = 0;
-    while i < n {
+    for i in 0..n {
         let k = load_known(&*queue, i);
         switch_at(queue, interleaving, k);
-        i += 1;
     }
 }
 

@@ -146,11 +146,9 @@ fn tally_all(queue: &[u64; QUEUE_WORDS], all: bool, active: u64, n: usize) -> Ta
         fits: true,
         rows: active,
     };
-    let mut i = 0;
-    while i < n {
+    for i in 0..n {
         let k = load_known(queue, i);
         t = tally_known(queue, all, k, t);
-        i += 1;
     }
     t
 }

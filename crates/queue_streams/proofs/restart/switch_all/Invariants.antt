@@ -1,12 +1,8 @@
 -- `queue_streams::restart::switch_all` meets its contract: the first i streams are done. Assumes nothing.
 use mathlib.Core.Path.{◌≡◌}
-use Prim.Native.Nat.{◌-◌, ◌≤◌}
 use Rattle.queue_streams.specs.Restart.{switched_all}
 use Rattle.queue_streams.proofs.restart.switch_all.Given as goal
 
 -- `queue_streams::restart::switch_all` meets its contract: the first i streams are done. Assumes nothing.
 abbrev pub invariant-loop-i : goal.invariant-loop-i
-invariant-loop-i l = (l.i ≤ l.n) × (l.queue ≡ switched_all l.interleaving l.initial.queue l.i)
-
-abbrev pub decreases-loop-i : goal.decreases-loop-i
-decreases-loop-i l = l.n - l.i
+invariant-loop-i l = l.queue ≡ switched_all l.interleaving l.initial.queue l.i
