@@ -38,10 +38,8 @@ fn copy_row(to: &mut [u64], at: usize, from: &[u64], start: usize, n: usize)
     requires { (at + n ≤ length to.old) × (start + n ≤ length from.now) }
     ensures { to.new ≡ put_row to.old at (row from.now start n) }
 {
-    let mut i = 0;
-    while i < n {
+    for i in 0..n {
         to[at + i] = from[start + i];
-        i += 1;
     }
 }
 
@@ -127,9 +125,7 @@ pub fn undo(queue: &mut [u64; QUEUE_WORDS], log: &[u64], d: usize)
     requires { d * 20 ≤ length log.now }
     ensures { queue.new ≡ undone log.now d queue.old }
 {
-    let mut i = d;
-    while i > 0 {
-        i -= 1;
+    for i in (0..d).rev() {
         undo_drop(queue, log, i);
     }
 }

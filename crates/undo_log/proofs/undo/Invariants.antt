@@ -1,12 +1,8 @@
 -- `undo_log::undo` meets its contract: what undoing the rest leaves is what undoing all leaves. Assumes nothing.
 use mathlib.Core.Path.{◌≡◌}
-use Prim.Native.Nat.{◌≤◌}
 use Rattle.undo_log.specs.Log.{undone}
 use Rattle.undo_log.proofs.undo.Given as goal
 
 -- `undo_log::undo` meets its contract: what undoing the rest leaves is what undoing all leaves. Assumes nothing.
 abbrev pub invariant-loop-i : goal.invariant-loop-i
-invariant-loop-i l = (l.i ≤ l.d) × (undone l.log l.i l.queue ≡ undone l.log l.d l.initial.queue)
-
-abbrev pub decreases-loop-i : goal.decreases-loop-i
-decreases-loop-i l = l.i
+invariant-loop-i l = undone l.log l.i l.queue ≡ undone l.log l.d l.initial.queue
