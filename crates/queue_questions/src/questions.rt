@@ -96,8 +96,7 @@ fn ready_among(queue: &[u64; QUEUE_WORDS], n: usize) -> Flag
     requires { n ≤ 256 }
     ensures { result ≡ ready_among queue.now 0 n }
 {
-    let mut i = 0;
-    while i < n {
+    for i in 0..n {
         let k = load_known(queue, i);
         if k.place > LAST_STREAM {
             return Flag::Refused(16);
@@ -108,7 +107,6 @@ fn ready_among(queue: &[u64; QUEUE_WORDS], n: usize) -> Flag
         if paused {
             return Flag::Value(true);
         }
-        i += 1;
     }
     Flag::Value(false)
 }
