@@ -36,9 +36,6 @@ freed_next ws us vs ys xs i e f h g =
     ∙ ap (λ (y : List ℕ). put_next y i (i + 1)) (h ∙ ap (λ (v : List ℕ). put_place v i 0) (f ∙ ap (λ (u : List ℕ). put_length u i 0) e))
     ∙ ap (λ (n : ℕ). freed ws n) (sym (add-one i))
 
-pub freed_all : (ws us : List ℕ) (i : ℕ) → us ≡ freed ws i → i ≤ 1024 → 1024 ≤ i → us ≡ freed ws 1024
-freed_all ws us i e h l = let z : i ≡ 1024 = omega arith in rw e (ap (λ n. freed ws n) z)
-
 -- a stream that is found has a row of the table
 pub found_row : (ws : List ℕ) (id : ℕ) (f : Found) (p r : ℕ) → f ≡ find_stream_words ws id → f ≡ At p r → r < 256
 found_row ws id f p r e g = (find_hit ws id p r (sym e ∙ g)).place_fits

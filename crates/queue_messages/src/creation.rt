@@ -36,12 +36,10 @@ fn create_code(payload_limit: u64, store_length: u64) -> u8
 pub fn free_all(queue: &mut [u64; QUEUE_WORDS])
     ensures { queue.new ≡ freed queue.old 1024 }
 {
-    let mut i = 0;
-    while i < MESSAGE_ROWS {
+    for i in 0..MESSAGE_ROWS {
         store_length(queue, i, 0);
         store_place(queue, i, 0);
         store_next(queue, i, (i + 1) as u64);
-        i += 1;
     }
 }
 
