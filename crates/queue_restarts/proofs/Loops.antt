@@ -23,7 +23,6 @@ use Rattle.queue_streams.specs.Call.{Accepted, Refused}
 use Rattle.queue_streams.specs.Number as number
 use Rattle.queue_restarts.specs.Ready.{places_fit, all_places_fit, paused_at, one_more, collected, refused_ready, collected_or16, marked, marked_all, readied, ready, count_of, ready_count}
 use Rattle.queue_restarts.specs.Reset.{put_back, sum_stream, sum_known, sum_all, reset_at, reset_all}
-use Rattle.queue_restarts.specs.Settled.{reset_done_at, ResetSteps}
 use Rattle.queue_restarts.specs.declared.ready.ReadyStreams.{ReadyStreams}
 use Rattle.queue_restarts.specs.declared.whole.Sum.{Sum}
 
@@ -191,11 +190,6 @@ module _ (ws : List ℕ) (total : ℕ) where
   unfolding sum_all
   sum_next i k t r et ek er = er ∙ ap₂ (λ (x : Known) (y : Sum). sum_known ws x.place y) ek et ∙ sym (rw add-one)
 
-  pub sum_end : (n i : ℕ) (t : Sum) → t ≡ sum_all ws total i → i ≤ n → n ≤ i → t ≡ sum_all ws total n
-  sum_end n i t e l g =
-      let q : i ≡ n = omega arith in
-      e ∙ ap (sum_all ws total) q
-
 -- ---- without a test
 
 -- A known stream summed up without fault: its place is in its table, and the total rises by what it puts back.
@@ -257,11 +251,6 @@ pub total_start : (ws : List ℕ) (total : ℕ) → total ≡ (sum_all ws total 
 unfolding sum_all
 total_start ws total = refl
 
-pub total_end : (ws : List ℕ) (total n i sum : ℕ) → sum ≡ (sum_all ws total i).total → i ≤ n → n ≤ i → sum ≡ (sum_all ws total n).total
-total_end ws total n i sum e l g =
-    let q : i ≡ n = omega arith in
-    e ∙ ap (λ (x : ℕ). (sum_all ws total x).total) q
-
 -- ---- the writing
 
 module _ (strict il : Bool) (ws : List ℕ) where
@@ -272,11 +261,3 @@ module _ (strict il : Bool) (ws : List ℕ) where
   pub reset_next : (i : ℕ) (us l : List ℕ) (k : Known) → us ≡ reset_all strict il ws i → k ≡ known_at us i → l ≡ reset_at strict us il k.id.0 k.place → l ≡ reset_all strict il ws (i + 1)
   unfolding reset_all
   reset_next i us l k eu ek el = el ∙ ap (λ (x : Known). reset_at strict us il x.id.0 x.place) ek ∙ ap (λ (x : List ℕ). reset_at strict x il (known_at x i).id.0 (known_at x i).place) eu ∙ sym (rw add-one)
-
-  pub reset_each : (n i : ℕ) (us : List ℕ) (k : Known) → ResetSteps strict il ws n → i < n → us ≡ reset_all strict il ws i → k ≡ known_at us i → reset_done_at strict us il k ≡ true
-  reset_each n i us k d h eu ek = ap (reset_done_at strict us il) ek ∙ subst (λ (x : List ℕ). reset_done_at strict x il (known_at x i) ≡ true) (sym eu) (d i h)
-
-  pub reset_end : (n i : ℕ) (us : List ℕ) → us ≡ reset_all strict il ws i → i ≤ n → n ≤ i → us ≡ reset_all strict il ws n
-  reset_end n i us e l g =
-      let q : i ≡ n = omega arith in
-      e ∙ ap (reset_all strict il ws) q

@@ -47,8 +47,7 @@ fn collect(queue: &[u64; QUEUE_WORDS], n: usize) -> ReadyStreams
 {
     let mut ids = [0u16; STREAM_ROWS];
     let mut count = 0;
-    let mut i = 0;
-    while i < n {
+    for i in 0..n {
         let k = load_known(queue, i);
         if k.place > LAST_STREAM {
             return refused_ready();
@@ -58,7 +57,6 @@ fn collect(queue: &[u64; QUEUE_WORDS], n: usize) -> ReadyStreams
             ids[count] = k.id.0;
             count += 1;
         }
-        i += 1;
     }
     ReadyStreams {
         answer: Call::Accepted(0),
@@ -86,11 +84,9 @@ fn mark_all(queue: &mut [u64; QUEUE_WORDS], n: usize)
     requires { n ≤ 256 }
     ensures { queue.new ≡ marked_all queue.old n }
 {
-    let mut i = 0;
-    while i < n {
+    for i in 0..n {
         let k = load_known(&*queue, i);
         mark(queue, k.place);
-        i += 1;
     }
 }
 

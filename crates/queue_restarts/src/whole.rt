@@ -76,11 +76,9 @@ fn sum_all(queue: &[u64; QUEUE_WORDS], total: u64, n: usize) -> Sum
         fits: true,
         total: total,
     };
-    let mut i = 0;
-    while i < n {
+    for i in 0..n {
         let k = load_known(queue, i);
         t = sum_known(queue, k.place, t);
-        i += 1;
     }
     t
 }
@@ -91,13 +89,11 @@ fn total_own(queue: &[u64; QUEUE_WORDS], total: u64, n: usize) -> u64
     ensures { result ≡ (sum_all queue.now total n).total }
 {
     let mut sum = total;
-    let mut i = 0;
-    while i < n {
+    for i in 0..n {
         let k = load_known(queue, i);
         let s = load_stream(queue, k.place as usize);
         let back = put_back(queue, s.first);
         sum += back;
-        i += 1;
     }
     sum
 }
@@ -175,11 +171,9 @@ fn reset_all(queue: &mut [u64; QUEUE_WORDS], strict: bool, interleaving: bool, n
     requires { (n ≤ 256) × ResetSteps strict interleaving queue.old n }
     ensures { queue.new ≡ reset_all strict interleaving queue.old n }
 {
-    let mut i = 0;
-    while i < n {
+    for i in 0..n {
         let k = load_known(&*queue, i);
         reset_at(queue, strict, interleaving, k);
-        i += 1;
     }
 }
 

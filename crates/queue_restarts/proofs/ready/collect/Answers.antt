@@ -6,22 +6,21 @@ use Rattle.queue_restarts.proofs.ready.collect.Goals as goal
 use Rattle.queue_restarts.proofs.ready.collect.Goals.{else-paused, then-paused}
 
 pub loop-i-init : goal.loop-i-init
-loop-i-init c = (omega arith, omega arith, collected_start _, fit_start _ _)
+loop-i-init c = (omega arith, collected_start _, fit_start _ _)
 
 pub returns-then-k-gt-LAST_STREAM : goal.returns-then-k-gt-LAST_STREAM
 returns-then-k-gt-LAST_STREAM c =
-    c.refused_ready.ensures ∙ or16_not _ _ (fit_not _ _ _ c.loop-i.invariant.3 c.loop-i-test.true _ c.load_known-k.ensures (omega (arith, c.if-k-gt-LAST_STREAM.true)))
+    c.refused_ready.ensures ∙ or16_not _ _ (fit_not _ _ _ c.loop-i.invariant.2 c.loop-i-test.true _ c.load_known-k.ensures (omega (arith, c.if-k-gt-LAST_STREAM.true)))
 
 pub loop-i-preserved : goal.loop-i-preserved
 loop-i-preserved c =
     let inv = c.loop-i.invariant in (
-      omega arith,
-      elim c.if-paused.branch [ then-paused w ↦ omega (arith, w.count-is, inv.1) | else-paused w ↦ omega (arith, w.count-is, inv.1) ],
-      elim c.if-paused.branch [ then-paused w ↦ ap₂ gathered w.count-is w.ids-is ∙ collected_more _ _ _ _ inv.2 _ c.load_known-k.ensures _ c.paused_at-paused.ensures w.if-paused.true | else-paused w ↦ ap₂ gathered w.count-is w.ids-is ∙ collected_same _ _ _ _ inv.2 _ c.load_known-k.ensures _ c.paused_at-paused.ensures w.if-paused.false ],
-      fit_next _ _ _ inv.3 c.loop-i-test.true _ c.load_known-k.ensures (omega (arith, c.if-k-gt-LAST_STREAM.false)),
+      elim c.if-paused.branch [ then-paused w ↦ omega (arith, w.count-is, inv.0) | else-paused w ↦ omega (arith, w.count-is, inv.0) ],
+      elim c.if-paused.branch [ then-paused w ↦ ap₂ gathered w.count-is w.ids-is ∙ collected_more _ _ _ _ inv.1 _ c.load_known-k.ensures _ c.paused_at-paused.ensures w.if-paused.true | else-paused w ↦ ap₂ gathered w.count-is w.ids-is ∙ collected_same _ _ _ _ inv.1 _ c.load_known-k.ensures _ c.paused_at-paused.ensures w.if-paused.false ],
+      fit_next _ _ _ inv.2 c.loop-i-test.true _ c.load_known-k.ensures (omega (arith, c.if-k-gt-LAST_STREAM.false)),
     )
 
 pub returns : goal.returns
 returns c =
     let inv = c.loop-i.invariant in
-    or16_end _ _ _ (fit_end _ _ _ inv.3 c.loop-i-test.false) (collected_end _ _ _ _ inv.2 inv.0 c.loop-i-test.false)
+    or16_end _ _ _ (fit_end _ _ _ inv.2 c.loop-i-test.false) (collected_end _ _ _ _ inv.1 (omega arith) c.loop-i-test.false)

@@ -7,7 +7,4 @@ use Rattle.queue_restarts.proofs.ready.collect.Given as goal
 
 -- `queue_restarts::ready::collect` meets its contract: the ids of the paused ones among the first i streams, at most i, and what is asked is whether the places from position i on fit. Assumes nothing.
 abbrev pub invariant-loop-i : goal.invariant-loop-i
-invariant-loop-i l = (l.i ≤ l.n) × (l.count ≤ l.i) × (gathered l.count l.ids ≡ collected l.queue l.i) × (places_fit l.queue 0 l.n ≡ places_fit l.queue l.i (l.n - l.i))
-
-abbrev pub decreases-loop-i : goal.decreases-loop-i
-decreases-loop-i l = l.n - l.i
+invariant-loop-i l = (l.count ≤ l.i) × (gathered l.count l.ids ≡ collected l.queue l.i) × (places_fit l.queue 0 l.n ≡ places_fit l.queue l.i (l.n - l.i))

@@ -1,13 +1,9 @@
 -- `queue_restarts::whole::reset_all` meets its contract: the first i streams are done. Assumes nothing.
-use native.Mathlib.Omega.{arith}
 use Rattle.queue_restarts.proofs.Loops.{reset_start, reset_next}
 use Rattle.queue_restarts.proofs.whole.reset_all.Goals as goal
 
 pub loop-i-init : goal.loop-i-init
-loop-i-init c = (omega arith, reset_start _ _ _)
+loop-i-init c = reset_start _ _ _
 
 pub loop-i-preserved : goal.loop-i-preserved
-loop-i-preserved c = (
-  omega arith,
-  reset_next _ _ _ _ _ _ _ c.loop-i.invariant.1 c.load_known-k.ensures c.reset_at.ensures,
-)
+loop-i-preserved c = reset_next _ _ _ _ _ _ _ c.loop-i.invariant c.load_known-k.ensures c.reset_at.ensures
