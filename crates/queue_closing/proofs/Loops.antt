@@ -2,7 +2,6 @@
 use mathlib.Core.Path.{◌≡◌, sym, subst, ◌∙◌}
 use mathlib.Core.List.{List}
 use Prim.Native.Nat.{ℕ, suc, ◌+◌, ◌-◌, ◌≤◌, ◌<◌}
-use native.Mathlib.Nat.{sub-zero}
 use native.Mathlib.Omega.{arith}
 use borrow.Author.Tests.{lt-ltb, le-ltb}
 use Rattle.queue_words.specs.Items.{item_at}
@@ -15,9 +14,6 @@ use Rattle.queue_closing.specs.declared.close.Walk.{Walk}
 
 -- The test: what it finds from the start on is what it finds from here on.
 module _ (ws : List ℕ) (start : Walk) (n : ℕ) where
-  pub walk_start : walk ws start n ≡ walk ws start (n - 0)
-  walk_start = rw sub-zero
-
   module _ (i : ℕ) (w : Walk) (inv : walk ws start n ≡ walk ws w (n - i)) where
     pub walk_out : i < n → 1023 < w.place → w ≡ walk ws start n
     unfolding walk
@@ -39,9 +35,6 @@ module _ (ws : List ℕ) (start : Walk) (n : ℕ) where
 
 -- The dropping: what it leaves from the start on is what it leaves from here on.
 module _ (id threshold : ℕ) (start : Swept) (n : ℕ) where
-  pub sweep_start : sweep id threshold start n ≡ sweep id threshold start (n - 0)
-  sweep_start = rw sub-zero
-
   module _ (i : ℕ) (w : Sweep) (us fs : List ℕ) (inv : sweep id threshold start n ≡ sweep id threshold (swept w us fs) (n - i)) where
     pub sweep_out : i < n → 1023 < w.place → swept w us fs ≡ sweep id threshold start n
     unfolding sweep
@@ -63,9 +56,6 @@ module _ (id threshold : ℕ) (start : Swept) (n : ℕ) where
         sym (inv ∙ rw s)
 
 -- The messages may go: from here on as from the start.
-pub goes_start : (ws : List ℕ) (place n : ℕ) → Goes ws place n → Goes ws place (n - 0)
-goes_start ws place n g = rw sub-zero g
-
 module _ (us : List ℕ) (place n i : ℕ) (g : Goes us place (n - i)) (h : i < n) (l : place ≤ 1023) where
   here : Goes us place (suc (n - (i + 1)))
   here = let s : n - i ≡ suc (n - (i + 1)) = omega arith in subst (Goes us place) s g

@@ -88,14 +88,12 @@ fn walk_chain(queue: &[u64; QUEUE_WORDS], start: Walk) -> Walk
     ensures { result ≡ walk queue.now start 1024 }
 {
     let mut w = start;
-    let mut i: usize = 0;
-    while i < MESSAGE_ROWS {
+    for _step in 0..MESSAGE_ROWS {
         if w.place > LAST_MESSAGE {
             return w;
         }
         let m = load_item(queue, w.place as usize);
         w = walk_item(w, m);
-        i += 1;
     }
     w
 }
@@ -186,13 +184,11 @@ fn sweep_chain(
     ensures { swept result queue.new events.new ≡ sweep id threshold (swept start queue.old events.old) 1024 }
 {
     let mut w = start;
-    let mut i: usize = 0;
-    while i < MESSAGE_ROWS {
+    for _step in 0..MESSAGE_ROWS {
         if w.place > LAST_MESSAGE {
             return w;
         }
         w = sweep_item(queue, events, id, threshold, w.place as usize, w);
-        i += 1;
     }
     w
 }
