@@ -41,11 +41,7 @@ fn copy_words(to: &mut [u64], from: &[u64], n: usize)
     requires { (n ≤ length from.now) × (n ≤ length to.old) }
     ensures { to.new ≡ copied to.old from.now n }
 {
-    let mut i = 0;
-    while i < n {
-        to[i] = from[i];
-        i += 1;
-    }
+    to[..n].copy_from_slice(&from[..n]);
 }
 
 // Passes over expired heads after k events, however many. The words and the events' places are saved before, and put back where the
