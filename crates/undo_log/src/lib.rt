@@ -38,9 +38,7 @@ fn copy_row(to: &mut [u64], at: usize, from: &[u64], start: usize, n: usize)
     requires { (at + n ≤ length to.old) × (start + n ≤ length from.now) }
     ensures { to.new ≡ put_row to.old at (row from.now start n) }
 {
-    for i in 0..n {
-        to[at + i] = from[start + i];
-    }
+    to[at..at + n].copy_from_slice(&from[start..start + n]);
 }
 
 fn keep_block(log: &mut [u64], at: usize, queue: &[u64; QUEUE_WORDS], from: usize, n: usize)
