@@ -1,6 +1,5 @@
 -- `receiver_words::creation::clear_buckets` meets its contract: after i turns the first i rows are filled. Assumes nothing.
 use mathlib.Core.Path.{◌≡◌}
-use Prim.Native.Nat.{◌≤◌, ◌-◌}
 use Rattle.receiver_words.specs.Tables.{Buckets}
 use Rattle.receiver_words.specs.Creation.{fill_to}
 use Rattle.receiver_words.proofs.creation.clear_buckets.Given as goal
