@@ -4,10 +4,9 @@ use mathlib.Core.Bool.{Bool, true, false, ◌&&◌}
 use mathlib.Core.List.{List, [], ◌∷◌}
 use Prim.Native.Nat.{ℕ, suc, ◌+◌, ◌-◌, ◌≤◌, ◌<◌}
 use native.Mathlib.Omega.{arith}
-use borrow.Author.Tests.{le-leb, lt-leb, eq-eqb, ne_eqb}
+use borrow.Author.Tests.{le-leb, lt-leb}
 use lib.Dec.{leb, eqb}
-use lib.ListN.{length, get_or, drop, drop_of_length-le}
-use lib.Seq.{drop-cons}
+use lib.Pointwise.{pointwise}
 use Rattle.receiver_model.specs.Lists.{same_list}
 use Rattle.payload_store.specs.Moving.{Pack}
 use Rattle.receiver_words.specs.Ages.{older, newer}
@@ -83,43 +82,9 @@ pack_end s p n r h inv =
 
 -- ------------------------------------------------------------------ same_bytes
 
-pub same_long : (a b : List ℕ) → same_list a b ≡ true → length a ≡ length b
+pub pairs_same : (a b : List ℕ) → pointwise eqb a b ≡ same_list a b
 unfolding same_list
-same_long [] [] e = refl
-same_long [] (y ∷ ys) e = absurd (let z : ◌≡◌ {A = ℕ} 0 1 = cc in omega arith)
-same_long (x ∷ xs) [] e = absurd (let z : ◌≡◌ {A = ℕ} 0 1 = cc in omega arith)
-same_long (x ∷ xs) (y ∷ ys) e = go (eqb x y) e (same_long xs ys)
-  where
-    go : (t : Bool) → (t && same_list xs ys) ≡ true → (same_list xs ys ≡ true → length xs ≡ length ys) → suc (length xs) ≡ suc (length ys)
-    go true f ih = ap suc (ih f)
-    go false f ih = absurd (let z : ◌≡◌ {A = ℕ} 0 1 = cc in omega arith)
-
-pub same_short : (a b : List ℕ) → (length a ≡ length b → ⊥) → false ≡ same_list a b
-same_short a b ne = go (same_list a b) refl
-  where
-    go : (t : Bool) → same_list a b ≡ t → false ≡ same_list a b
-    go true e = absurd (ne (same_long a b e))
-    go false e = sym e
-
-module _ (a b : List ℕ) (i : ℕ) (r : Bool) (l : length a ≡ length b) (inv : same_list (drop i a) (drop i b) ≡ r) where
-  pub same_unlike : i < length a → (get_or a i 0 ≡ get_or b i 0 → ⊥) → false ≡ r
-  unfolding same_list
-  same_unlike h ne =
-      let w : same_list (drop i a) (drop i b) ≡ false = rw (drop-cons a i 0 h, drop-cons b i 0 (omega arith), ne_eqb _ _ ne) in
-      sym w ∙ inv
-
-  pub same_next : i < length a → get_or a i 0 ≡ get_or b i 0 → same_list (drop (i + 1) a) (drop (i + 1) b) ≡ r
-  unfolding same_list
-  same_next h e =
-      let k : i + 1 ≡ suc i = omega arith in
-      let w : same_list (drop i a) (drop i b) ≡ same_list (drop (suc i) a) (drop (suc i) b) = rw (drop-cons a i 0 h, drop-cons b i 0 (omega arith), eq-eqb _ _ e) in
-      rw k (sym w ∙ inv)
-
-  pub same_end : i ≤ length a → length a ≤ i → true ≡ r
-  unfolding same_list
-  same_end h g =
-      let w : same_list (drop i a) (drop i b) ≡ true = rw (drop_all a i g, drop_all b i (omega arith)) in
-      sym w ∙ inv
-    where
-      drop_all : (xs : List ℕ) (j : ℕ) → length xs ≤ j → drop j xs ≡ []
-      drop_all xs j q = drop_of_length-le xs q
+pairs_same [] [] = refl
+pairs_same [] (y ∷ ys) = refl
+pairs_same (x ∷ xs) [] = refl
+pairs_same (x ∷ xs) (y ∷ ys) = ap (λ t. eqb x y && t) (pairs_same xs ys)

@@ -41,8 +41,7 @@ fn find_start(receiver: &[u64; RECEIVER_WORDS], goal: u64, newest: u64, end: u64
     let mut row = NO_ROW;
     let mut high = end;
     let mut sum = 0u64;
-    let mut n: usize = 0;
-    while n < TURNS {
+    for _ in 0..TURNS {
         if p >= 4096 {
             return Start {
                 found: sum <= goal,
@@ -76,7 +75,6 @@ fn find_start(receiver: &[u64; RECEIVER_WORDS], goal: u64, newest: u64, end: u64
         high = place;
         sum += size;
         p = load_link(receiver, p as usize, OLDER);
-        n += 1;
     }
     Start {
         found: false,
@@ -135,15 +133,13 @@ fn move_rows(receiver: &mut [u64; RECEIVER_WORDS], store: &mut [u8], first: u64,
 {
     let mut p = first;
     let mut cursor = to;
-    let mut n: usize = 0;
-    while n < 4096 {
+    for _ in 0..4096usize {
         if p >= 4096 {
             return cursor;
         }
         let newer = load_link(&*receiver, p as usize, NEWER);
         cursor = move_row(receiver, store, cursor, p as usize);
         p = newer;
-        n += 1;
     }
     cursor
 }

@@ -4,9 +4,6 @@ use Prim.Native.Nat.{◌+◌, ◌≤◌, ◌-◌}
 use Rattle.receiver_store.specs.Packing.{start_from}
 use Rattle.receiver_store.proofs.packing.find_start.Given as goal
 
-abbrev pub invariant-loop-n : goal.invariant-loop-n
-invariant-loop-n l =
-    (l.n ≤ 4097) × (l.high + l.sum ≤ l.end) × (start_from (4097 - l.n) l.receiver l.goal l.p l.row l.high l.sum ≡ start_from 4097 l.receiver l.goal l.newest 4096 l.end 0)
-
-abbrev pub decreases-loop-n : goal.decreases-loop-n
-decreases-loop-n l = 4097 - l.n
+abbrev pub invariant-loop : goal.invariant-loop
+invariant-loop l =
+    (l.high + l.sum ≤ l.end) × (start_from (4097 - l.counter) l.receiver l.goal l.p l.row l.high l.sum ≡ start_from 4097 l.receiver l.goal l.newest 4096 l.end 0)
