@@ -27,8 +27,7 @@ fn promote(receiver: &mut [u64; RECEIVER_WORDS], interleaved: bool, stream: u16,
     ensures { turned receiver.new result ≡ promote 4096 receiver.old interleaved stream next }
 {
     let mut number = next;
-    let mut n: usize = 0;
-    while n < 4096 {
+    for _ in 0..4096usize {
         let key = number_key(interleaved, stream, number);
         let i = find_row(&*receiver, BY_NUMBER, key);
         if i >= 4096 {
@@ -36,7 +35,6 @@ fn promote(receiver: &mut [u64; RECEIVER_WORDS], interleaved: bool, stream: u16,
         }
         take_message(receiver, key, i);
         number = next_turn(interleaved, number);
-        n += 1;
     }
     number
 }

@@ -77,8 +77,7 @@ fn reaches_last(receiver: &[u64; RECEIVER_WORDS], interleaved: bool, row: usize)
     ensures { result ≡ reaches_last 4096 receiver.now interleaved row }
 {
     let mut i = row;
-    let mut n: usize = 0;
-    while n < 4096 {
+    for _ in 0..4096usize {
         let f = load_fragment(receiver, i);
         if f.last {
             return true;
@@ -88,7 +87,6 @@ fn reaches_last(receiver: &[u64; RECEIVER_WORDS], interleaved: bool, row: usize)
             return false;
         }
         i = j;
-        n += 1;
     }
     false
 }
@@ -99,8 +97,7 @@ fn first_row(receiver: &[u64; RECEIVER_WORDS], interleaved: bool, row: usize) ->
     ensures { result ≡ first_row 4096 receiver.now interleaved row }
 {
     let mut i = row;
-    let mut n: usize = 0;
-    while n < 4096 {
+    for _ in 0..4096usize {
         let f = load_fragment(receiver, i);
         let first = begins(interleaved, f);
         if first {
@@ -111,7 +108,6 @@ fn first_row(receiver: &[u64; RECEIVER_WORDS], interleaved: bool, row: usize) ->
             return 4096;
         }
         i = j;
-        n += 1;
     }
     4096
 }
@@ -171,8 +167,7 @@ pub fn mark_whole(receiver: &mut [u64; RECEIVER_WORDS], interleaved: bool, row: 
     ensures { receiver.new ≡ mark_whole 4096 receiver.old interleaved row }
 {
     let mut i = row;
-    let mut n: usize = 0;
-    while n < 4096 {
+    for _ in 0..4096usize {
         store_link(receiver, i, WHOLE, 1);
         let f = load_fragment(&*receiver, i);
         if f.last {
@@ -183,6 +178,5 @@ pub fn mark_whole(receiver: &mut [u64; RECEIVER_WORDS], interleaved: bool, row: 
             return;
         }
         i = j;
-        n += 1;
     }
 }

@@ -1,11 +1,8 @@
 -- `receiver_messages::readiness::promote` meets its contract: what is left to promote from here is what was to promote. Assumes nothing.
 use mathlib.Core.Path.{◌≡◌}
-use Prim.Native.Nat.{◌≤◌, ◌-◌}
+use Prim.Native.Nat.{◌-◌}
 use Rattle.receiver_messages.specs.Readiness.{promote}
 use Rattle.receiver_messages.proofs.readiness.promote.Given as goal
 
-abbrev pub invariant-loop-n : goal.invariant-loop-n
-invariant-loop-n l = (l.n ≤ 4096) × (promote (4096 - l.n) l.receiver l.interleaved l.stream l.number ≡ promote 4096 l.initial.receiver l.interleaved l.stream l.next)
-
-abbrev pub decreases-loop-n : goal.decreases-loop-n
-decreases-loop-n l = 4096 - l.n
+abbrev pub invariant-loop : goal.invariant-loop
+invariant-loop l = promote (4096 - l.counter) l.receiver l.interleaved l.stream l.number ≡ promote 4096 l.initial.receiver l.interleaved l.stream l.next
