@@ -31,8 +31,7 @@ pub fn measure_message(
 {
     let mut i = row;
     let mut left = used;
-    let mut n: usize = 0;
-    while n < 4096 {
+    for _ in 0..4096usize {
         let place = load_link(receiver, i, PLACE);
         let size = load_link(receiver, i, LENGTH);
         let out = misplaced(0, len, place, size);
@@ -64,7 +63,6 @@ pub fn measure_message(
             };
         }
         i = j;
-        n += 1;
     }
     Measure {
         ok: false,
@@ -123,8 +121,7 @@ pub fn hand_out(
 {
     let mut i = row;
     let mut at: usize = 0;
-    let mut n: usize = 0;
-    while n < 4096 {
+    for _ in 0..4096usize {
         let f = load_fragment(&*receiver, i);
         let j = part_after(&*receiver, interleaved, i);
         let size = load_link(&*receiver, i, LENGTH);
@@ -141,6 +138,5 @@ pub fn hand_out(
         }
         at += size as usize;
         i = j;
-        n += 1;
     }
 }

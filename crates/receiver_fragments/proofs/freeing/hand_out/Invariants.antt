@@ -5,8 +5,5 @@ use lib.ListN.{length}
 use Rattle.receiver_fragments.specs.Freeing.{hand_out}
 use Rattle.receiver_fragments.proofs.freeing.hand_out.Given as goal
 
-abbrev pub invariant-loop-n : goal.invariant-loop-n
-invariant-loop-n l = (l.n ≤ 4096) × ((l.i < 4096) × ((l.at ≤ l.n * 2000000) × ((length l.buffer ≡ length l.initial.buffer) × (hand_out (4096 - l.n) l.receiver l.store l.buffer l.interleaved l.i l.at ≡ hand_out 4096 l.initial.receiver l.store l.initial.buffer l.interleaved l.row 0))))
-
-abbrev pub decreases-loop-n : goal.decreases-loop-n
-decreases-loop-n l = 4096 - l.n
+abbrev pub invariant-loop : goal.invariant-loop
+invariant-loop l = (l.i < 4096) × ((l.at ≤ l.counter * 2000000) × ((length l.buffer ≡ length l.initial.buffer) × (hand_out (4096 - l.counter) l.receiver l.store l.buffer l.interleaved l.i l.at ≡ hand_out 4096 l.initial.receiver l.store l.initial.buffer l.interleaved l.row 0)))

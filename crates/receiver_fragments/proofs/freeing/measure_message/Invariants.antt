@@ -4,8 +4,5 @@ use Prim.Native.Nat.{◌≤◌, ◌<◌, ◌-◌}
 use Rattle.receiver_fragments.specs.Freeing.{measured}
 use Rattle.receiver_fragments.proofs.freeing.measure_message.Given as goal
 
-abbrev pub invariant-loop-n : goal.invariant-loop-n
-invariant-loop-n l = (l.n ≤ 4096) × ((l.i < 4096) × ((l.left ≤ l.used) × (measured (4096 - l.n) l.receiver l.interleaved l.i l.len l.left ≡ measured 4096 l.receiver l.interleaved l.row l.len l.used)))
-
-abbrev pub decreases-loop-n : goal.decreases-loop-n
-decreases-loop-n l = 4096 - l.n
+abbrev pub invariant-loop : goal.invariant-loop
+invariant-loop l = (l.i < 4096) × ((l.left ≤ l.used) × (measured (4096 - l.counter) l.receiver l.interleaved l.i l.len l.left ≡ measured 4096 l.receiver l.interleaved l.row l.len l.used))
