@@ -41,10 +41,8 @@ fn write_ids(output: &mut [u8], ids: &[u16; 256], count: usize)
     requires { (count ≤ 256) × (count ≤ length ids.now) × (20 + 2 * count ≤ length output.old) }
     ensures { output.new ≡ wrote output.old 20 (id_bytes (take count ids.now)) }
 {
-    let mut i = 0;
-    while i < count {
+    for i in 0..count {
         put_u16(output, CHUNK_HEADER + 2 * i, ids[i]);
-        i += 1;
     }
 }
 
