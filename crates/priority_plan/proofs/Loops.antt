@@ -6,13 +6,16 @@ use Prim.Native.Nat.{ℕ, zero, suc, ◌+◌, ◌-◌, ◌/◌, ◌≤◌, ◌<�
 use native.Mathlib.Nat.{div-le_self}
 use native.Mathlib.Numerals.{add-one}
 use native.Mathlib.Omega.{arith}
-use lib.Dec.{eqb, ltb}
-use lib.ListN.{length, get_or, drop, set, replicate, replicate-append-replicate, drop_of_length-le}
-use lib.Seq.{drop-cons}
+use lib.Dec.{T, eqb, ltb, eqb→eq}
+use lib.ListN.{length, get_or, take, drop, set, replicate, replicate-append-replicate, drop_of_length-le}
+use lib.Seq.{drop-cons, take-length}
+use Rattle.std.proofs.lemmas.List.{length-drop}
 use Rattle.std.specs.Prelude.{if◌then◌else◌}
+use Rattle.std.specs.List.{list_any}
+use Rattle.std.proofs.lemmas.Bool.{false≢true}
 use Rattle.queue_model.specs.Logic.{outside, any, is_nil}
 use Rattle.queue_model.specs.Refusals.{limit_wrong, ◌when◌, first_refusal, max_payload}
-use Rattle.queue_model.proofs.Tests.{ltb_true, ltb_false, eqb_true, eqb_false}
+use Rattle.queue_model.proofs.Tests.{ltb_true, ltb_false, eqb_true, eqb_false, holds}
 use Rattle.queue_model.proofs.Checks.{or_left, or_right, not_less}
 use Rattle.priority_plan.specs.declared.plan.PlannedPriorities.{PlannedPriorities}
 use Rattle.queue_streams.specs.Call.{Accepted}
@@ -27,14 +30,6 @@ use Rattle.priority_plan.proofs.Answer.{good_list}
 
 pub rest_at : (xs : List ℕ) (i : ℕ) → i < length xs → drop i xs ≡ get_or xs i 0 ∷ drop (i + 1) xs
 rest_at xs i h = rw (add-one, drop-cons xs i 0)
-
-pub any_at : (t : ℕ → Bool) (xs : List ℕ) (i : ℕ) → i < length xs → any t (drop i xs) ≡ (t (get_or xs i 0) || any t (drop (i + 1) xs))
-unfolding any
-any_at t xs i h = ap (any t) (rest_at xs i h)
-
-pub any_end : (t : ℕ → Bool) (xs : List ℕ) (i : ℕ) → length xs ≤ i → any t (drop i xs) ≡ false
-unfolding any
-any_end t xs i h = ap (any t) (drop_of_length-le xs h)
 
 pub or_true : (x y : Bool) → y ≡ true → (x || y) ≡ true
 or_true true y e = refl
@@ -52,16 +47,29 @@ none_at t [] i e h = absurd (omega arith)
 none_at t (x ∷ xs) zero e h = or_left (t x) (any t xs) e
 none_at t (x ∷ xs) (suc i) e h = none_at t xs i (or_right (t x) (any t xs) e) (omega arith)
 
--- A search that goes on, one that has found, and one that is past the end.
-module _ (whole : Bool) (t : ℕ → Bool) (xs : List ℕ) (i : ℕ) (inv : whole ≡ any t (drop i xs)) where
-  pub seek_found : i < length xs → t (get_or xs i 0) ≡ true → true ≡ whole
-  seek_found h e = sym (inv ∙ any_at t xs i h ∙ ap (λ (b : Bool). b || any t (drop (i + 1) xs)) e)
+-- ---- the library's tests on a list
 
-  pub seek_next : i < length xs → t (get_or xs i 0) ≡ false → whole ≡ any t (drop (i + 1) xs)
-  seek_next h e = inv ∙ any_at t xs i h ∙ ap (λ (b : Bool). b || any t (drop (i + 1) xs)) e
+pub some_is : (t : ℕ → Bool) (xs : List ℕ) → list_any t xs ≡ any t xs
+unfolding any
+some_is t [] = refl
+some_is t (x ∷ xs) = ap (λ (b : Bool). t x || b) (some_is t xs)
 
-  pub seek_end : length xs ≤ i → false ≡ whole
-  seek_end h = sym (inv ∙ any_end t xs i h)
+eqb_swap : (m n : ℕ) → eqb m n ≡ eqb n m
+eqb_swap m n = go (eqb m n) refl
+  where
+    go : (b : Bool) → eqb m n ≡ b → b ≡ eqb n m
+    go true e = let z : T (eqb m n) = holds (eqb m n) e in sym (eqb_true (sym (eqb→eq m n z)))
+    go false e = sym (eqb_false (λ z. false≢true (sym e ∙ eqb_true (sym z))))
+
+contains_is : (n : ℕ) (xs : List ℕ) → list_any (λ x. eqb x n) xs ≡ any (eqb n) xs
+unfolding any
+contains_is n [] = refl
+contains_is n (x ∷ xs) = ap₂ ◌||◌ (eqb_swap x n) (contains_is n xs)
+
+pub rest_has : (n k : ℕ) (xs : List ℕ) (r : Bool) → r ≡ list_any (λ x. eqb x n) (take (length xs - k) (drop k xs)) → r ≡ any (eqb n) (drop k xs)
+rest_has n k xs r e =
+    let z : take (length xs - k) (drop k xs) ≡ drop k xs = ap (λ (j : ℕ). take j (drop k xs)) (sym (length-drop k xs)) ∙ take-length (drop k xs) in
+    e ∙ ap (list_any (λ x. eqb x n)) z ∙ contains_is n (drop k xs)
 
 -- ---- an id named twice
 
@@ -82,15 +90,6 @@ module _ (xs : List ℕ) (i : ℕ) (inv : named_twice xs ≡ named_twice (drop i
   twice_end h = sym (inv ∙ ap named_twice (drop_of_length-le xs h))
 
 -- ---- a size outside
-
-pub outside_low : (n : ℕ) → n < 1 → outside 1 max_payload n ≡ true
-outside_low n h = ap (λ (b : Bool). b || ltb max_payload n) (ltb_true h)
-
-pub outside_high : (n : ℕ) → max_payload < n → outside 1 max_payload n ≡ true
-outside_high n h = or_true (ltb n 1) (ltb max_payload n) (ltb_true h)
-
-pub not_outside : (n : ℕ) → 1 ≤ n → n ≤ max_payload → outside 1 max_payload n ≡ false
-not_outside n h k = ap₂ ◌||◌ (ltb_false h) (ltb_false k)
 
 pub sizes_are : (xs : List ℕ) → size_outside xs ≡ any (outside 1 max_payload) xs
 unfolding size_outside

@@ -12,28 +12,18 @@ fn named_later(ids: &[u16], at: usize) -> bool
     requires { at < length ids.now }
     ensures { result ≡ named_later ids.now at }
 {
-    let id = ids[at];
-    let mut i = at + 1;
-    while i < ids.len() {
-        if id == ids[i] {
-            return true;
-        }
-        i += 1;
-    }
-    false
+    ids[at + 1..].contains(&ids[at])
 }
 
 // "names one twice".
 fn named_twice(ids: &[u16]) -> bool
     ensures { result ≡ named_twice ids.now }
 {
-    let mut i = 0;
-    while i < ids.len() {
+    for i in 0..ids.len() {
         let again = named_later(ids, i);
         if again {
             return true;
         }
-        i += 1;
     }
     false
 }
@@ -42,18 +32,7 @@ fn named_twice(ids: &[u16]) -> bool
 fn size_outside(sizes: &[u64]) -> bool
     ensures { result ≡ size_outside sizes.now }
 {
-    let mut i = 0;
-    while i < sizes.len() {
-        let size = sizes[i];
-        if size < 1 {
-            return true;
-        }
-        if MAX_PAYLOAD < size {
-            return true;
-        }
-        i += 1;
-    }
-    false
+    sizes.iter().any(|size| *size < 1 || MAX_PAYLOAD < *size)
 }
 
 // "28 when the list is empty, has more than 32 ids or names one twice, or a size is outside 1 to 262,144, or ids and sizes differ in count".

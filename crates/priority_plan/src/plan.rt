@@ -43,9 +43,7 @@ fn least_plan(limit: u64, ids: &[u16], sizes: &[u64]) -> PlannedPriorities
     // Behind the last stream stands none: its bound is above every finish time, and no id is below 0.
     let mut finish: u64 = NO_BOUND;
     let mut next: u16 = 0;
-    let mut i = ids.len();
-    while 0 < i {
-        let at = i - 1;
+    for at in (0..ids.len()).rev() {
         let id = ids[at];
         let size = sizes[at];
         let bound = bound_before(id, next, finish);
@@ -56,7 +54,6 @@ fn least_plan(limit: u64, ids: &[u16], sizes: &[u64]) -> PlannedPriorities
         values[at] = priority as u16;
         finish = finish_time(limit, size, priority);
         next = id;
-        i = at;
     }
     PlannedPriorities {
         answer: Call::Accepted(0),
