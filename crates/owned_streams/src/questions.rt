@@ -71,8 +71,7 @@ fn any_paused(queue: &[u64; QUEUE_WORDS], n: usize) -> bool
     requires { RowsFit queue.now n × (n ≤ 256) }
     ensures { flag.Value result ≡ ready_among queue.now 0 n }
 {
-    let mut i = 0;
-    while i < n {
+    for i in 0..n {
         let k = load_known(queue, i);
         let s = load_stream(queue, k.place as usize);
         let state = s.pause_state;
@@ -80,7 +79,6 @@ fn any_paused(queue: &[u64; QUEUE_WORDS], n: usize) -> bool
         if paused {
             return true;
         }
-        i += 1;
     }
     false
 }
@@ -99,8 +97,7 @@ fn count_paused(queue: &[u64; QUEUE_WORDS], n: usize) -> usize
     ensures { result ≡ (collected queue.now n).count }
 {
     let mut count = 0;
-    let mut i = 0;
-    while i < n {
+    for i in 0..n {
         let k = load_known(queue, i);
         let s = load_stream(queue, k.place as usize);
         let state = s.pause_state;
@@ -108,7 +105,6 @@ fn count_paused(queue: &[u64; QUEUE_WORDS], n: usize) -> usize
         if paused {
             count += 1;
         }
-        i += 1;
     }
     count
 }

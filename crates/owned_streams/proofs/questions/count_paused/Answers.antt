@@ -6,7 +6,7 @@ use Rattle.owned_streams.proofs.questions.count_paused.Goals as goal
 use Rattle.owned_streams.proofs.questions.count_paused.Goals.{else-paused, then-paused}
 
 pub loop-i-init : goal.loop-i-init
-loop-i-init c = (omega arith, none_counted _, omega arith)
+loop-i-init c = (none_counted _, omega arith)
 
 pub loop-i-preserved : goal.loop-i-preserved
-loop-i-preserved c = (omega arith, elim c.if-paused.branch [ then-paused w ↦ w.count-is ∙ counted_on _ _ _ _ _ _ c.loop-i.invariant.1 c.load_known-k.ensures (row_of _ _ _ _ c.requires.0 c.loop-i-test.true c.load_known-k.ensures) c.load_stream-s.ensures c.is_paused-paused.ensures w.if-paused.true | else-paused w ↦ w.count-is ∙ counted_off _ _ _ _ _ _ c.loop-i.invariant.1 c.load_known-k.ensures (row_of _ _ _ _ c.requires.0 c.loop-i-test.true c.load_known-k.ensures) c.load_stream-s.ensures c.is_paused-paused.ensures w.if-paused.false ], elim c.if-paused.branch [ then-paused w ↦ omega (arith, w.count-is, c.loop-i.invariant.2) | else-paused w ↦ omega (arith, w.count-is, c.loop-i.invariant.2) ])
+loop-i-preserved c = (elim c.if-paused.branch [ then-paused w ↦ w.count-is ∙ counted_on _ _ _ _ _ _ c.loop-i.invariant.0 c.load_known-k.ensures (row_of _ _ _ _ c.requires.0 c.loop-i-test.true c.load_known-k.ensures) c.load_stream-s.ensures c.is_paused-paused.ensures w.if-paused.true | else-paused w ↦ w.count-is ∙ counted_off _ _ _ _ _ _ c.loop-i.invariant.0 c.load_known-k.ensures (row_of _ _ _ _ c.requires.0 c.loop-i-test.true c.load_known-k.ensures) c.load_stream-s.ensures c.is_paused-paused.ensures w.if-paused.false ], elim c.if-paused.branch [ then-paused w ↦ omega (arith, w.count-is, c.loop-i.invariant.1) | else-paused w ↦ omega (arith, w.count-is, c.loop-i.invariant.1) ])
