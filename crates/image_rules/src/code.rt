@@ -22,12 +22,10 @@ fn payload_bytes(image: &[u8], start: usize, size: usize, n: usize) -> u64
 {
     let mut at: usize = start;
     let mut sum: u64 = 0;
-    let mut i: usize = 0;
-    while i < n {
+    for i in 0..n {
         let m = read_message(image, at);
         sum += m.length as u64;
         at = at + 44 + m.length as usize;
-        i += 1;
     }
     sum
 }
@@ -44,15 +42,13 @@ fn move_on(image: &[u8], records: usize, from: usize, id: u16) -> usize
     requires { (14 * records ≤ length image.now) × (from ≤ records) }
     ensures { result ≡ moved_on_words image.now records from id }
 {
-    let mut k: usize = from;
-    while k < records {
+    for k in from..records {
         let s = read_stream(image, 14 * k);
         if s.id >= id {
             return k;
         }
-        k += 1;
     }
-    k
+    records
 }
 
 fn is_named(image: &[u8], records: usize, k: usize, id: u16) -> bool
@@ -97,8 +93,7 @@ fn new_streams(image: &[u8], records: usize, start: usize, size: usize, n: usize
     let mut at: usize = start;
     let mut least: u64 = 0;
     let mut sum: u64 = 0;
-    let mut i: usize = 0;
-    while i < n {
+    for i in 0..n {
         let m = read_message(image, at);
         let length = m.length as usize;
         let id = m.id;
@@ -107,7 +102,6 @@ fn new_streams(image: &[u8], records: usize, start: usize, size: usize, n: usize
         sum += one.more;
         least = id as u64 + 1;
         at = at + 44 + length;
-        i += 1;
     }
     sum
 }

@@ -48,11 +48,9 @@ pub fn streams_right(image: &[u8], d: u16, n: usize) -> bool
     requires { 14 * n ≤ length image.now }
     ensures { result ≡ streams_right_words image.now d 0 0 n }
 {
-    let mut at: usize = 0;
     let mut least: u64 = 0;
-    let mut i: usize = 0;
-    while i < n {
-        let s = read_stream(image, at);
+    for i in 0..n {
+        let s = read_stream(image, 14 * i);
         let plain = is_plain(s, d);
         if plain {
             return false;
@@ -61,8 +59,6 @@ pub fn streams_right(image: &[u8], d: u16, n: usize) -> bool
             return false;
         }
         least = s.id as u64 + 1;
-        at += 14;
-        i += 1;
     }
     true
 }
@@ -179,8 +175,7 @@ pub fn messages_right(image: &[u8], start: usize, size: usize, n: usize, strict:
     let mut at: usize = start;
     let mut left: usize = size;
     let mut least: u64 = 0;
-    let mut i: usize = 0;
-    while i < n {
+    for i in 0..n {
         if left < 44 {
             return false;
         }
@@ -198,7 +193,6 @@ pub fn messages_right(image: &[u8], start: usize, size: usize, n: usize, strict:
             at = at + 44 + length;
             left = left - 44 - length;
             least = id + 1;
-            i += 1;
         } else {
             return false;
         }

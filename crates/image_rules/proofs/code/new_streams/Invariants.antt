@@ -9,8 +9,5 @@ use Rattle.image_rules.proofs.code.new_streams.Given as goal
 
 abbrev pub invariant-loop-i : goal.invariant-loop-i
 invariant-loop-i l =
-    (l.i ≤ l.n) × (l.sum ≤ l.i) × (new_streams l.image l.records l.start 0 l.n ≡ l.sum + new_streams l.image l.records l.at l.least (l.n - l.i)) × (l.place ≤ l.records) × Past l.image l.least l.place
+    (l.sum ≤ l.i) × (new_streams l.image l.records l.start 0 l.n ≡ l.sum + new_streams l.image l.records l.at l.least (l.n - l.i)) × (l.place ≤ l.records) × Past l.image l.least l.place
     × LiesFrom l.image (length l.image) l.at l.least (l.n - l.i)
-
-abbrev pub decreases-loop-i : goal.decreases-loop-i
-decreases-loop-i l = l.n - l.i

@@ -6,18 +6,17 @@ use Rattle.std.proofs.Common.{rules}
 use Rattle.image_rules.proofs.code.payload_bytes.Goals as goal
 
 pub loop-i-init : goal.loop-i-init
-loop-i-init c = (omega arith, omega arith, bytes_start _ _ _, lies_start _ _ _ _ _ (c.requires.0) (c.requires.2))
+loop-i-init c = (omega arith, bytes_start _ _ _, lies_start _ _ _ _ _ (c.requires.0) (c.requires.2))
 
 pub read_message-m-requires : goal.read_message-m-requires
-read_message-m-requires c = lies_whole _ _ _ _ _ c.loop-i.invariant.3 c.loop-i-test.true
+read_message-m-requires c = lies_whole _ _ _ _ _ c.loop-i.invariant.2 c.loop-i-test.true
 
 pub loop-i-preserved : goal.loop-i-preserved
 loop-i-preserved c = (
-  omega arith,
-  (let l : c.read_message-m.result.length < 4294967296 = search rules in omega (arith, l, c.loop-i.invariant.1)),
-  bytes_next _ _ _ _ _ _ c.loop-i.invariant.2 c.loop-i-test.true _ c.read_message-m.ensures,
-  lies_on _ _ _ _ _ c.loop-i.invariant.3 c.loop-i-test.true _ c.read_message-m.ensures,
+  (let l : c.read_message-m.result.length < 4294967296 = search rules in omega (arith, l, c.loop-i.invariant.0)),
+  bytes_next _ _ _ _ _ _ c.loop-i.invariant.1 c.loop-i-test.true _ c.read_message-m.ensures,
+  lies_on _ _ _ _ _ c.loop-i.invariant.2 c.loop-i-test.true _ c.read_message-m.ensures,
 )
 
 pub returns : goal.returns
-returns c = bytes_end _ _ _ _ _ _ c.loop-i.invariant.2 c.loop-i-test.false
+returns c = bytes_end _ _ _ _ _ _ c.loop-i.invariant.1 c.loop-i-test.false

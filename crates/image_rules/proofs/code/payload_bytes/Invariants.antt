@@ -8,7 +8,4 @@ use Rattle.image_rules.proofs.code.payload_bytes.Given as goal
 
 abbrev pub invariant-loop-i : goal.invariant-loop-i
 invariant-loop-i l =
-    (l.i ≤ l.n) × (l.sum ≤ l.i * 4294967295) × (payload_bytes_words l.image l.start l.n ≡ l.sum + payload_bytes_words l.image l.at (l.n - l.i)) × Lies l.image (length l.image) l.at (l.n - l.i)
-
-abbrev pub decreases-loop-i : goal.decreases-loop-i
-decreases-loop-i l = l.n - l.i
+    (l.sum ≤ l.i * 4294967295) × (payload_bytes_words l.image l.start l.n ≡ l.sum + payload_bytes_words l.image l.at (l.n - l.i)) × Lies l.image (length l.image) l.at (l.n - l.i)

@@ -8,7 +8,4 @@ use Rattle.image_rules.proofs.rules.messages_right.Given as goal
 
 abbrev pub invariant-loop-i : goal.invariant-loop-i
 invariant-loop-i l =
-    (l.i ≤ l.n) × (l.at + l.left ≤ length l.image) × (messages_kept l.strict l.image l.start l.size 0 l.n ≡ messages_kept l.strict l.image l.at l.left l.least (l.n - l.i))
-
-abbrev pub decreases-loop-i : goal.decreases-loop-i
-decreases-loop-i l = l.n - l.i
+    (l.at + l.left ≤ length l.image) × (messages_kept l.strict l.image l.start l.size 0 l.n ≡ messages_kept l.strict l.image l.at l.left l.least (l.n - l.i))
