@@ -272,10 +272,8 @@ pub fn restore_messages(
     ensures { restored queue.new store.new result ≡ messages_restored queue.old store.old start image.now time n }
 {
     let mut at = start;
-    let mut i = 0;
-    while i < n {
+    for i in 0..n {
         at = restore_message(queue, store, image, time, at);
-        i += 1;
     }
     at
 }

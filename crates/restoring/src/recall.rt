@@ -33,14 +33,12 @@ fn first_half_sent(queue: &[u64; QUEUE_WORDS], n: usize) -> Remembered
     requires { n ≤ 256 }
     ensures { result ≡ first_half_sent_words queue.now 0 n }
 {
-    let mut i = 0;
-    while i < n {
+    for i in 0..n {
         let k = load_known(queue, i);
         let half = is_half_sent(queue, k);
         if half {
             return Remembered::Stream(StreamId(k.id.0));
         }
-        i += 1;
     }
     Remembered::NoStream
 }

@@ -91,9 +91,7 @@ pub fn restore_streams(queue: &mut [u64; QUEUE_WORDS], image: &[u8], n: usize)
     requires { n ≤ 65535 }
     ensures { queue.new ≡ streams_restored queue.old image.now n }
 {
-    let mut i = 0;
-    while i < n {
+    for i in 0..n {
         restore_stream(queue, image, i * 14);
-        i += 1;
     }
 }

@@ -27,10 +27,8 @@ pub fn wait_all(queue: &mut [u64; QUEUE_WORDS], interleaving: bool, n: usize)
     requires { n ≤ 256 }
     ensures { queue.new ≡ waits_all interleaving queue.old n }
 {
-    let mut i = 0;
-    while i < n {
+    for i in 0..n {
         let k = load_known(&*queue, i);
         wait_at(queue, interleaving, k);
-        i += 1;
     }
 }

@@ -1,11 +1,7 @@
 -- `restoring::waits::wait_all` meets its contract: the first i streams are done. Assumes nothing.
 use mathlib.Core.Path.{◌≡◌}
-use Prim.Native.Nat.{◌-◌, ◌≤◌}
 use Rattle.restoring.specs.Messages.{waits_all}
 use Rattle.restoring.proofs.waits.wait_all.Given as goal
 
 abbrev pub invariant-loop-i : goal.invariant-loop-i
-invariant-loop-i l = (l.i ≤ l.n) × (l.queue ≡ waits_all l.interleaving l.initial.queue l.i)
-
-abbrev pub decreases-loop-i : goal.decreases-loop-i
-decreases-loop-i l = l.n - l.i
+invariant-loop-i l = l.queue ≡ waits_all l.interleaving l.initial.queue l.i
