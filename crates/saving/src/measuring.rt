@@ -96,14 +96,12 @@ fn tally_chain(queue: &[u64; QUEUE_WORDS], len: u64, start: Tally) -> Tally
     ensures { result ≡ tally_chain queue.now len start 1025 }
 {
     let mut t = start;
-    let mut i: usize = 0;
-    while i < CHAIN_STEPS {
+    for i in 0..CHAIN_STEPS {
         if t.place > LAST_MESSAGE {
             return t;
         }
         let m = load_item(queue, t.place as usize);
         t = tally_item(t, m, len);
-        i += 1;
     }
     t
 }
@@ -147,10 +145,8 @@ fn tally_streams(queue: &[u64; QUEUE_WORDS], len: u64, known: usize) -> Tally
         messages: 0,
         bytes: 0,
     };
-    let mut i: usize = 0;
-    while i < known {
+    for i in 0..known {
         t = tally_stream(queue, len, i, t);
-        i += 1;
     }
     t
 }

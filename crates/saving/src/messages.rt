@@ -126,8 +126,7 @@ fn put_chain(
 {
     let mut place = first;
     let mut pos = at;
-    let mut i: usize = 0;
-    while i < CHAIN_STEPS {
+    for i in 0..CHAIN_STEPS {
         if place > LAST_MESSAGE {
             return pos;
         }
@@ -135,7 +134,6 @@ fn put_chain(
         put_item(queue, store, buffer, pos, id, time, place as usize);
         pos = pos + (44 + m.length as usize);
         place = m.next;
-        i += 1;
     }
     pos
 }
@@ -170,10 +168,8 @@ pub fn put_messages(
     ensures { (buffer.new ≡ wrote buffer.old at (messages_from queue.now store.now time 0 known)) × (result ≡ at + length (messages_from queue.now store.now time 0 known)) }
 {
     let mut pos = at;
-    let mut i: usize = 0;
-    while i < known {
+    for i in 0..known {
         pos = put_queue(queue, store, buffer, pos, time, i);
-        i += 1;
     }
     pos
 }

@@ -43,10 +43,8 @@ pub fn put_streams(queue: &[u64; QUEUE_WORDS], buffer: &mut [u8], at: usize, kno
     ensures { (buffer.new ≡ wrote buffer.old at (streams_from queue.now 0 known)) × (result ≡ at + length (streams_from queue.now 0 known)) }
 {
     let mut pos = at;
-    let mut i: usize = 0;
-    while i < known {
+    for i in 0..known {
         pos = put_known(queue, buffer, pos, i);
-        i += 1;
     }
     pos
 }

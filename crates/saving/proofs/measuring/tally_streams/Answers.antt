@@ -9,7 +9,7 @@ use Rattle.saving.specs.declared.measuring.Tally.{Tally}
 use Rattle.saving.proofs.measuring.tally_streams.Goals as goal
 
 pub loop-i-preserved : goal.loop-i-preserved
-loop-i-preserved c = (omega (arith, c.loop-i-test.true), subst⁻¹ (λ (z : Tally). z.streams ≤ c.loop-i.i + 1) c.tally_stream-t.ensures (omega (arith, stream_streams c.args.queue.now c.args.len c.loop-i.i c.loop-i.t, c.loop-i.invariant.1)), subst⁻¹ (λ (z : Tally). Small z) c.tally_stream-t.ensures (small_stream _ _ _ _ c.loop-i.invariant.2), from_next _ _ _ c.args.known _ _ c.loop-i.invariant.3 _ c.loop-i-test.true c.tally_stream-t.ensures)
+loop-i-preserved c = (subst⁻¹ (λ (z : Tally). z.streams ≤ c.loop-i.i + 1) c.tally_stream-t.ensures (omega (arith, stream_streams c.args.queue.now c.args.len c.loop-i.i c.loop-i.t, c.loop-i.invariant.0)), subst⁻¹ (λ (z : Tally). Small z) c.tally_stream-t.ensures (small_stream _ _ _ _ c.loop-i.invariant.1), from_next _ _ _ c.args.known _ _ c.loop-i.invariant.2 _ c.loop-i-test.true c.tally_stream-t.ensures)
 
 pub returns : goal.returns
-returns c = from_end _ _ _ c.args.known _ _ c.loop-i.invariant.3 c.loop-i-test.false
+returns c = from_end _ _ _ c.args.known _ _ c.loop-i.invariant.2 c.loop-i-test.false

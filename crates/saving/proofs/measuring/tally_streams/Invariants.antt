@@ -5,7 +5,4 @@ use Rattle.saving.specs.Measure.{tally_start, tally_from, Small}
 use Rattle.saving.proofs.measuring.tally_streams.Given as goal
 
 abbrev pub invariant-loop-i : goal.invariant-loop-i
-invariant-loop-i l = (l.i ≤ l.known) × (l.t.streams ≤ l.i) × Small l.t × (tally_from l.queue l.len tally_start 0 l.known ≡ tally_from l.queue l.len l.t l.i (l.known - l.i))
-
-abbrev pub decreases-loop-i : goal.decreases-loop-i
-decreases-loop-i l = l.known - l.i
+invariant-loop-i l = (l.t.streams ≤ l.i) × Small l.t × (tally_from l.queue l.len tally_start 0 l.known ≡ tally_from l.queue l.len l.t l.i (l.known - l.i))

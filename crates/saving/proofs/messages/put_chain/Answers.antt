@@ -6,19 +6,19 @@ use Rattle.saving.proofs.Loops.{going_out, going_end, going_item, going_room, go
 use Rattle.saving.proofs.messages.put_chain.Goals as goal
 
 pub returns-then-place-gt-LAST_MESSAGE : goal.returns-then-place-gt-LAST_MESSAGE
-returns-then-place-gt-LAST_MESSAGE c = going_out _ _ _ _ _ _ _ _ _ _ 1025 _ c.loop-i.invariant.1 c.if-place-gt-LAST_MESSAGE.true
+returns-then-place-gt-LAST_MESSAGE c = going_out _ _ _ _ _ _ _ _ _ _ 1025 _ c.loop-i.invariant c.if-place-gt-LAST_MESSAGE.true
 
 pub put_item-requires : goal.put_item-requires
-put_item-requires c = (omega (arith, c.if-place-gt-LAST_MESSAGE.false), going_item _ _ _ _ _ _ _ _ _ _ 1025 _ c.loop-i.invariant.1 c.loop-i-test.true c.if-place-gt-LAST_MESSAGE.false, going_room _ _ _ _ _ _ _ _ _ _ 1025 _ c.loop-i.invariant.1 c.loop-i-test.true c.if-place-gt-LAST_MESSAGE.false)
+put_item-requires c = (omega (arith, c.if-place-gt-LAST_MESSAGE.false), going_item _ _ _ _ _ _ _ _ _ _ 1025 _ c.loop-i.invariant c.loop-i-test.true c.if-place-gt-LAST_MESSAGE.false, going_room _ _ _ _ _ _ _ _ _ _ 1025 _ c.loop-i.invariant c.loop-i-test.true c.if-place-gt-LAST_MESSAGE.false)
 
 pub overflow_add-pos : goal.overflow_add-pos
-overflow_add-pos c = omega (arith, (going_item _ _ _ _ _ _ _ _ _ _ 1025 _ c.loop-i.invariant.1 c.loop-i-test.true c.if-place-gt-LAST_MESSAGE.false).small, ap (λ (z : Item). z.length) c.load_item-m.ensures)
+overflow_add-pos c = omega (arith, (going_item _ _ _ _ _ _ _ _ _ _ 1025 _ c.loop-i.invariant c.loop-i-test.true c.if-place-gt-LAST_MESSAGE.false).small, ap (λ (z : Item). z.length) c.load_item-m.ensures)
 
 pub overflow_add-pos-in-loop-i : goal.overflow_add-pos-in-loop-i
-overflow_add-pos-in-loop-i c = omega (arith, going_room _ _ _ _ _ _ _ _ _ _ 1025 _ c.loop-i.invariant.1 c.loop-i-test.true c.if-place-gt-LAST_MESSAGE.false, ap (λ (z : Item). z.length) c.load_item-m.ensures)
+overflow_add-pos-in-loop-i c = omega (arith, going_room _ _ _ _ _ _ _ _ _ _ 1025 _ c.loop-i.invariant c.loop-i-test.true c.if-place-gt-LAST_MESSAGE.false, ap (λ (z : Item). z.length) c.load_item-m.ensures)
 
 pub loop-i-preserved : goal.loop-i-preserved
-loop-i-preserved c = (omega (arith, c.loop-i-test.true), going_next _ _ _ _ _ _ _ _ _ _ 1025 _ c.loop-i.invariant.1 c.loop-i-test.true c.if-place-gt-LAST_MESSAGE.false _ _ c.load_item-m.ensures c.put_item.ensures)
+loop-i-preserved c = going_next _ _ _ _ _ _ _ _ _ _ 1025 _ c.loop-i.invariant c.loop-i-test.true c.if-place-gt-LAST_MESSAGE.false _ _ c.load_item-m.ensures c.put_item.ensures
 
 pub returns : goal.returns
-returns c = going_end _ _ _ _ _ _ _ _ _ _ 1025 _ c.loop-i.invariant.1 c.loop-i-test.false
+returns c = going_end _ _ _ _ _ _ _ _ _ _ 1025 _ c.loop-i.invariant c.loop-i-test.false
