@@ -9,11 +9,7 @@ pub fn copy_first(to: &mut [u16], from: &[u16], count: usize)
     requires { (count ≤ length to.old) × (count ≤ length from.now) }
     ensures { to.new ≡ with_first to.old count from.now }
 {
-    let mut i = 0;
-    while i < count {
-        to[i] = from[i];
-        i += 1;
-    }
+    to[..count].copy_from_slice(&from[..count]);
 }
 
 // Does nothing at run time; gives a proof that there are 256 places.
