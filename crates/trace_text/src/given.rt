@@ -61,8 +61,7 @@ fn put_digits(
         return NO_PART;
     }
     let mut n = at;
-    let mut i = from;
-    while i < to {
+    for i in (from..to).step_by(2) {
         if to - i < 2 {
             return NO_PART;
         }
@@ -70,7 +69,6 @@ fn put_digits(
         if n == NO_PART {
             return NO_PART;
         }
-        i += 2;
     }
     n
 }

@@ -19,13 +19,11 @@ fn put_hex(output: &mut Answers, b: u8) {
 
 // A space and the bytes, if any.
 fn put_bytes(bytes: &[u8], output: &mut Answers) {
-    let mut i = 0;
-    while i < bytes.len() {
-        if i == 0 {
-            put_byte(output, b' ');
-        }
-        put_hex(output, bytes[i]);
-        i += 1;
+    if bytes.len() > 0 {
+        put_byte(output, b' ');
+    }
+    for &b in bytes {
+        put_hex(output, b);
     }
 }
 

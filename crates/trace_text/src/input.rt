@@ -54,8 +54,7 @@ pub fn read_line(
     state: &mut [u64; STATE],
     line: &mut [u8; LINE_BYTES],
 ) -> io::Result<usize> {
-    let mut i = 0;
-    while i < LINE_BYTES {
+    for i in 0..LINE_BYTES {
         let b = next_byte(stdin, input, state)?;
         if b == 10 {
             return Ok(i);
@@ -64,7 +63,6 @@ pub fn read_line(
             return Ok(ended(i));
         }
         line[i] = low8(b);
-        i += 1;
     }
     Ok(BAD_LINE)
 }

@@ -37,10 +37,8 @@ impl Answers {
 
 // The places of the bytes, whether one waits there or not.
 fn take_bytes(output: &[u64; WORDS], bytes: &mut [u8; ROOM]) {
-    let mut i = 0;
-    while i < ROOM {
+    for i in 0..ROOM {
         bytes[i] = low8(output[TEXT + i]);
-        i += 1;
     }
 }
 
@@ -90,10 +88,8 @@ pub fn put_byte(output: &mut Answers, b: u8) {
 }
 
 pub fn put_text(output: &mut Answers, text: &[u8]) {
-    let mut i = 0;
-    while i < text.len() {
-        put_byte(output, text[i]);
-        i += 1;
+    for &b in text {
+        put_byte(output, b);
     }
 }
 

@@ -34,33 +34,29 @@ fn number(line: &[u8; LINE_BYTES], from: usize, to: usize) -> Digits {
         return Digits::Bad;
     }
     let mut value = 0;
-    let mut i = from;
-    while i < to {
+    for i in from..to {
         let next = append(value, line[i]);
         match next {
             Digits::Value(v) => value = v,
             Digits::Bad => return Digits::Bad,
         }
-        i += 1;
     }
     Digits::Value(value)
 }
 
-// Where a byte first stands from a place on; else the end.
+// Where a byte first stands from a place on; else the end, or the place if that is past the end.
 pub fn find(line: &[u8; LINE_BYTES], from: usize, end: usize, byte: u8) -> usize
     ensures { from ≤ result }
 {
     if end > LINE_BYTES {
         return from;
     }
-    let mut i = from;
-    while i < end {
+    for i in from..end {
         if line[i] == byte {
             return i;
         }
-        i += 1;
     }
-    i
+    from.max(end)
 }
 
 // A word of at least one byte, and with no leading zero.

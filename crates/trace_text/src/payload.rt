@@ -20,11 +20,9 @@ pub fn fill(payload: &mut [u8], seed: u64)
     ensures { payload.new ≡ bytes_from (seed % 2147483648) (length payload.old) }
 {
     let mut x = seed % 2147483648;
-    let mut i = 0;
-    while i < payload.len() {
+    for i in 0..payload.len() {
         x = next(x);
         payload[i] = byte_of(x);
-        i += 1;
     }
 }
 
@@ -40,10 +38,8 @@ pub fn sum(bytes: &[u8]) -> u64
     ensures { result ≡ sum_from 17 bytes.now }
 {
     let mut s = 17;
-    let mut i = 0;
-    while i < bytes.len() {
-        s = add_byte(s, bytes[i]);
-        i += 1;
+    for &b in bytes {
+        s = add_byte(s, b);
     }
     s
 }

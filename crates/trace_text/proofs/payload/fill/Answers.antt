@@ -5,7 +5,7 @@ use Rattle.trace_text.proofs.payload.fill.Goals as goal
 
 pub loop-i-preserved : goal.loop-i-preserved
 loop-i-preserved c =
-    (search rules, search rules, search rules, fill_next c.loop-i.payload _ _ _ _ _ _ c.loop-i-test.true c.loop-i.invariant.1 c.next-x.ensures.0 c.byte_of.ensures c.loop-i.invariant.3)
+    (search rules, fill_next c.loop-i.payload _ _ _ _ _ _ (search rules) (search rules) c.next-x.ensures.0 c.byte_of.ensures c.loop-i.invariant.1)
 
 pub returns : goal.returns
-returns c = fill_end c.loop-i.payload _ _ _ _ c.loop-i-test.false c.loop-i.invariant.1 c.loop-i.invariant.3
+returns c = fill_end c.loop-i.payload _ _ _ _ (search rules) (search rules) c.loop-i.invariant.1

@@ -3,9 +3,8 @@ use Rattle.trace_text.proofs.Payloads.{sum_next, sum_end}
 use Rattle.std.proofs.Common.{rules}
 use Rattle.trace_text.proofs.payload.sum.Goals as goal
 
-pub loop-i-preserved : goal.loop-i-preserved
-loop-i-preserved c =
-    (search rules, search rules, sum_next c.args.bytes.now _ _ _ _ c.loop-i-test.true c.add_byte-s.ensures.0 c.loop-i.invariant.2)
+pub loop-b-preserved : goal.loop-b-preserved
+loop-b-preserved c = (search rules, sum_next c.args.bytes.now _ _ _ _ c.loop-b-test.true c.add_byte-s.ensures.0 c.loop-b.invariant.1)
 
 pub returns : goal.returns
-returns c = sum_end c.args.bytes.now _ _ _ c.loop-i-test.false c.loop-i.invariant.0 c.loop-i.invariant.2
+returns c = sum_end c.args.bytes.now _ _ _ c.loop-b-test.false c.loop-b.auto.b-index-end c.loop-b.invariant.1
