@@ -149,8 +149,7 @@ fn put_change(rt: &impl Print, refusal: u64, same: u64) -> io::Result<()> {
 }
 
 fn put_answers(rt: &impl Print, state: &[u64; STATE]) -> io::Result<()> {
-    let mut i = 1;
-    while i < 17 {
+    for i in 1..17 {
         let n = state[ANSWERS + i];
         if n > 0 {
             put(rt, b", ")?;
@@ -158,7 +157,6 @@ fn put_answers(rt: &impl Print, state: &[u64; STATE]) -> io::Result<()> {
             put(rt, b": ")?;
             put_number(rt, n)?;
         }
-        i += 1;
     }
     Ok(())
 }
@@ -175,9 +173,5 @@ fn put_totals(rt: &impl Print, label: &[u8], state: &[u64; STATE]) -> io::Result
 
 pub fn clear_totals(state: &mut [u64; STATE]) {
     state[CALLS] = 0;
-    let mut i = 0;
-    while i < 17 {
-        state[ANSWERS + i] = 0;
-        i += 1;
-    }
+    state[ANSWERS..ANSWERS + 17].fill(0);
 }

@@ -36,25 +36,21 @@ fn take_byte(state: &mut [u64; STATE], key: usize, b: u8) -> usize {
 // Takes the numbers, and answers where the label begins.
 pub fn parse(line: &[u8], state: &mut [u64; STATE]) -> usize {
     let mut key = 0;
-    let mut i = 1;
-    while i < line.len() {
+    for i in 1..line.len() {
         if line[i] == b';' {
             return i + 1;
         }
         key = take_byte(state, key, line[i]);
-        i += 1;
     }
-    i
+    line.len().max(1)
 }
 
-// Where the line from a place on ends.
+// Where the line from a place on ends; the place itself if that is past the script.
 pub fn line_end(script: &[u8], from: usize) -> usize {
-    let mut i = from;
-    while i < script.len() {
+    for i in from..script.len() {
         if script[i] == b'\n' {
             return i;
         }
-        i += 1;
     }
-    i
+    from.max(script.len())
 }

@@ -106,10 +106,8 @@ fn place(state: &mut [u64; STATE]) -> usize
 
 // All words random. Three times of four the store's length is right, without which most calls are refused at once.
 fn fill_all(queue: &mut [u64; QUEUE_WORDS], state: &mut [u64; STATE]) {
-    let mut i = 0;
-    while i < QUEUE_WORDS {
-        queue[i] = word(state);
-        i += 1;
+    for w in queue.iter_mut() {
+        *w = word(state);
     }
     let k = draw(state, 4);
     if k > 0 {
@@ -120,14 +118,9 @@ fn fill_all(queue: &mut [u64; QUEUE_WORDS], state: &mut [u64; STATE]) {
 // Replaces up to 16 words.
 fn replace(queue: &mut [u64; QUEUE_WORDS], state: &mut [u64; STATE]) {
     let n = state[REPLACED];
-    let mut k: u64 = 0;
-    while k < 16 {
-        if k >= n {
-            return;
-        }
+    for _ in 0..n.min(16) {
         let at = place(state);
         queue[at] = word(state);
-        k += 1;
     }
 }
 

@@ -16,61 +16,24 @@ pub fn mark_fragment(fragment: &mut [u8; FRAGMENT]) {
     *fragment = [BYTE_MARK; FRAGMENT];
 }
 
-fn events_marked(events: &[u64; EVENT_BUFFER], from: usize) -> bool {
+// Whether each item from a place on is the mark. It goes through all of them, so that it can take many at a time.
+fn all_marked<T: Copy + PartialEq>(items: &[T], from: usize, mark: T) -> bool {
     let mut strays: u8 = 0;
-    let mut i = from;
-    while i < EVENT_BUFFER {
-        if events[i] != EVENT_MARK {
+    for i in from..items.len() {
+        if items[i] != mark {
             strays = 1;
         }
-        i += 1;
-    }
-    strays == 0
-}
-
-fn fragment_marked(fragment: &[u8; FRAGMENT], from: usize) -> bool {
-    let mut strays: u8 = 0;
-    let mut i = from;
-    while i < FRAGMENT {
-        if fragment[i] != BYTE_MARK {
-            strays = 1;
-        }
-        i += 1;
-    }
-    strays == 0
-}
-
-fn words_same(queue: &[u64; QUEUE_WORDS], kept: &[u64; QUEUE_WORDS]) -> bool {
-    let mut strays: u8 = 0;
-    let mut i = 0;
-    while i < QUEUE_WORDS {
-        if queue[i] != kept[i] {
-            strays = 1;
-        }
-        i += 1;
     }
     strays == 0
 }
 
 // The lent bytes of the store, and their copy.
 fn store_same(store: &[u8; STORE]) -> bool {
-    let mut strays: u8 = 0;
-    let mut i = 0;
-    while i < HALF {
-        if store[i] != store[HALF + i] {
-            strays = 1;
-        }
-        i += 1;
-    }
-    strays == 0
+    store[..HALF] == store[HALF..]
 }
 
 fn keep_store(store: &mut [u8; STORE]) {
-    let mut i = 0;
-    while i < HALF {
-        store[HALF + i] = store[i];
-        i += 1;
-    }
+    store.copy_within(..HALF, HALF);
 }
 
 // The event list after n events. The marks are put back.
@@ -78,7 +41,7 @@ fn settle_events(events: &mut [u64; EVENT_BUFFER], n: u64) -> bool {
     if n > EVENT_PLACES as u64 {
         return false;
     }
-    let marked = events_marked(&*events, n as usize * PLACE_WORDS);
+    let marked = all_marked(&*events, n as usize * PLACE_WORDS, EVENT_MARK);
     let whole = both(marked, n == 0);
     if whole {
         return true;
@@ -91,7 +54,7 @@ fn settle_fragment(fragment: &mut [u8; FRAGMENT], n: u64) -> bool {
     if n > 262144 {
         return false;
     }
-    let marked = fragment_marked(&*fragment, n as usize);
+    let marked = all_marked(&*fragment, n as usize, BYTE_MARK);
     let whole = both(marked, n == 0);
     if whole {
         return true;
@@ -103,8 +66,7 @@ fn settle_fragment(fragment: &mut [u8; FRAGMENT], n: u64) -> bool {
 // The words: kept where the call was accepted, else compared. A change is told once: what is there then is kept.
 fn settle_words(queue: &[u64; QUEUE_WORDS], kept: &mut [u64; QUEUE_WORDS], refusal: u64) -> bool {
     if refusal > 0 {
-        let same = words_same(queue, &*kept);
-        if same {
+        if *queue == *kept {
             return true;
         }
     }
