@@ -6,6 +6,7 @@ ghost use Rattle.queue_words.specs.Items.{item_at};
 ghost use Rattle.queue_words.specs.Streams.{stream_at_words};
 ghost use Rattle.payload_store.specs.Dropping.{drop_code_words};
 ghost use Rattle.stream_scheduler.specs.Words.{outcome};
+ghost use Rattle.queue_streams.specs.Answers.{as_call};
 ghost use Rattle.queue_streams.specs.Settings.{called_with};
 ghost use Rattle.queue_streams.specs.Waiting.{parameters_for};
 ghost use Rattle.queue_streams.specs.Call.{Accepted};
@@ -21,6 +22,7 @@ use queue_words::items::{Item, load_item};
 use queue_words::streams::{OutgoingStream, PauseState, load_stream};
 use stream_scheduler::own::{remove_own, set_own};
 use stream_scheduler::{remove_stream, set_bytes_remaining};
+use types::Refusal;
 
 // How a stream of this priority waits.
 fn parameters_in(queue: &[u64; QUEUE_WORDS], priority: u16) -> SchedulingParameters
@@ -110,10 +112,7 @@ fn drop_in_state(
     ensures { called_with (as_call result) queue.new events.new ≡ dropped_in_state queue.old events.old k id row s m }
 {
     let n = remaining(m);
-    let code = head_code(&*queue, s, s.first as usize, m.next, n);
-    if code > 0 {
-        return Call::Refused(code);
-    }
+    head_code(&*queue, s, s.first as usize, m.next, n)?;
     drop_behind(queue, events, k, id, row, s, m)
 }
 

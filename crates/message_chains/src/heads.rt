@@ -1,5 +1,6 @@
 // The head of a stream: its first message.
 ghost use Rattle.std.specs.Prelude.{◌≡◌, ◌<◌};
+ghost use Rattle.types.specs.Refusal.{broken_number};
 ghost use Rattle.payload_store.specs.Dropping.{drop_code_words};
 ghost use Rattle.message_chains.specs.Notes.{notes};
 ghost use Rattle.message_chains.specs.Amounts.{rest};
@@ -13,29 +14,30 @@ use queue_words::header::{load_options, load_totals, store_totals};
 use queue_words::items::{Item, store_next};
 use queue_words::limits::NO_MESSAGE;
 use queue_words::streams::{OutgoingStream, PauseState, store_stream, with_pause};
+use types::refusal::Broken;
 
-// May n bytes go with the message in this place, the head of a stream: 0, else 16. Reads only.
+// May n bytes go with the message in this place, the head of a stream. Reads only.
 pub fn head_code(
     queue: &[u64; QUEUE_WORDS],
     s: OutgoingStream,
     place: usize,
     next: u64,
     n: u64,
-) -> u8
-    ensures { result ≡ head_code queue.now s place next n }
+) -> Result<(), Broken>
+    ensures { broken_number result ≡ head_code queue.now s place next n }
 {
     let t = load_totals(queue);
     if n > t.total {
-        return 16;
+        return Err(Broken);
     }
     if n > s.buffered_amount {
-        return 16;
+        return Err(Broken);
     }
     if t.waiting == 0 {
-        return 16;
+        return Err(Broken);
     }
     if next > NO_MESSAGE {
-        return 16;
+        return Err(Broken);
     }
     drop_code(queue, place)
 }

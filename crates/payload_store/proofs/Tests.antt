@@ -15,7 +15,12 @@ use Rattle.queue_words.specs.Items.{put_place}
 use Rattle.payload_store.specs.declared.Tally.{Tally}
 use Rattle.payload_store.specs.Words.{used_of, gaps_of, place_of, size_of}
 use Rattle.payload_store.specs.Moving.{together, Pack, pack, turn, turn_at, turns, least, moved}
-use Rattle.payload_store.specs.Putting.{tally, row_fits_words, fits_to, all_fit, put_code, put_elsewhere, put_payload, placed, outcome, Outcome}
+use Rattle.std.specs.Prelude.{Ok}
+use Rattle.payload_store.specs.declared.NoRoom.{NoRoom}
+use Rattle.payload_store.specs.declared.NoRoom.TheVariants.{StoreFull, Broken}
+use Rattle.payload_store.specs.declared.Room.{Room}
+use Rattle.payload_store.specs.declared.Room.TheVariants.{KnownGap, Elsewhere}
+use Rattle.payload_store.specs.Putting.{put_number, no_room_number, tally, row_fits_words, fits_to, all_fit, put_code, put_elsewhere, put_payload, placed, outcome, Outcome}
 use Rattle.payload_store.specs.Gaps.{gaps, room, gaps_wrong, gap_for}
 use Rattle.payload_store.specs.Searching.{lies, found}
 use Rattle.payload_store.specs.Good.{sum_to}
@@ -284,3 +289,12 @@ module _ (ws st bs : List ℕ) (i code : ℕ) (ec : code ≡ put_code ws (length
 
 pub ok_before : (ws : List ℕ) (len i n code : ℕ) → code ≡ put_code ws len i n → code ≡ 1 → PutOk ws len i n
 ok_before ws len i n code ec e = (put_one ws len i n (sym ec ∙ e)).0
+
+-- Where a payload has room its number is 0 or 1; where it has none it is above.
+pub room_may : (a : Room) {n : ℕ} → put_number (Ok a) ≡ n → n ≤ 1
+room_may KnownGap e = omega (arith, e)
+room_may Elsewhere e = omega (arith, e)
+
+pub room_above : (e : NoRoom) → 1 < no_room_number e
+room_above StoreFull = omega arith
+room_above Broken = omega arith

@@ -1,7 +1,11 @@
 -- Putting a payload: its test, and what it leaves, for any words and any store. Assumes nothing.
-use Rattle.std.specs.Prelude.{Bool, true, false, List, ◌++◌, ℕ, zero, suc, ◌+◌, ◌-◌, ltb, leb, eqb, length, take, drop}
+use Rattle.std.specs.Prelude.{Bool, true, false, List, ◌++◌, ℕ, zero, suc, ◌+◌, ◌-◌, ltb, leb, eqb, length, take, drop, Result, Ok, Err}
 use Rattle.queue_words.specs.Flags.{pick}
 use Rattle.queue_words.specs.Items.{put_place, put_length}
+use Rattle.payload_store.specs.declared.NoRoom.{NoRoom}
+use Rattle.payload_store.specs.declared.NoRoom.TheVariants.{StoreFull, Broken}
+use Rattle.payload_store.specs.declared.Room.{Room}
+use Rattle.payload_store.specs.declared.Room.TheVariants.{KnownGap, Elsewhere}
 use Rattle.payload_store.specs.declared.Tally.{Tally}
 use Rattle.queue_words.specs.declared.header.Gaps.{Gaps}
 use Rattle.payload_store.specs.Words.{used_of, gaps_of, place_of, size_of, put_bytes}
@@ -30,6 +34,21 @@ fits_to ws len used (suc n) = row_fits_words ws len n (fits_to ws len used n)
 -- the rows judged fit, and nothing is left
 unfoldable pub all_fit : List ℕ → ℕ → ℕ → Bool
 all_fit ws len used = pick (fits_to ws len used 1024).ok (eqb (fits_to ws len used 1024).left 0) false
+
+-- Where a payload has room or why it has none, in numbers: 0 in a known gap, 1 elsewhere, else the refusal's of document 01.
+abbrev pub no_room_number : NoRoom → ℕ
+no_room_number StoreFull = 8
+no_room_number Broken = 16
+
+abbrev pub put_number : Result Room NoRoom → ℕ
+put_number (Ok KnownGap) = 0
+put_number (Ok Elsewhere) = 1
+put_number (Err e) = no_room_number e
+
+-- the same once it is put: 0 for done
+abbrev pub room_number : {A : Type 0} → Result A NoRoom → ℕ
+room_number (Ok a) = 0
+room_number (Err e) = no_room_number e
 
 -- 8: "The payload is longer than the free bytes", and "free bytes count together, however scattered": judged by the used bytes, not by the gaps.
 -- may a payload of n bytes be put into row i of a store of len bytes: 0 into a known gap, 1 elsewhere, 8 no room, 16 damaged

@@ -13,9 +13,10 @@ mod nearest;
 mod searching;
 
 ghost use Rattle.std.specs.Prelude.{◌≡◌, ◌++◌, ◌+◌, ◌<◌, ◌≤◌, length, take, drop};
+ghost use Rattle.types.specs.Refusal.{broken_number};
 ghost use Rattle.payload_store.specs.Words.{used_of, put_bytes};
 ghost use Rattle.payload_store.specs.Moving.{choose, moved, pack, together, Hints};
-ghost use Rattle.payload_store.specs.Putting.{row_fits_words, all_fit, put_code, outcome, written, placed, put_elsewhere, put_payload};
+ghost use Rattle.payload_store.specs.Putting.{row_fits_words, all_fit, put_number, room_number, put_code, outcome, written, placed, put_elsewhere, put_payload};
 ghost use Rattle.payload_store.specs.Reading.{read_code, read_part};
 ghost use Rattle.payload_store.specs.Dropping.{drop_code_words, drop_payload};
 
@@ -27,6 +28,7 @@ use queue_words::items::{load_length, load_place, store_length, store_place};
 use queue_words::limits::MESSAGE_ROWS;
 use queue_words::{QUEUE_WORDS, whole};
 use searching::{find_gaps, lies};
+use types::refusal::Broken;
 
 // The used bytes and the gaps.
 fn store_bytes(queue: &mut [u64; QUEUE_WORDS], used: u64, gaps: Gaps)
@@ -165,37 +167,51 @@ fn all_fit(queue: &[u64; QUEUE_WORDS], len: u64, used: u64) -> bool
     false
 }
 
-// May a payload of n bytes be put into row i: 0 into a known gap, 1 elsewhere, 8 no room, 16 damaged. Reads only.
-pub fn put_code(queue: &[u64; QUEUE_WORDS], len: u64, i: usize, n: u64) -> u8
-    ensures { result ≡ put_code queue.now len i n }
+// Where a payload has room: in a gap that is known, or elsewhere.
+#[derive(Clone, Copy, Debug, PartialEq, Eq)]
+pub enum Room {
+    KnownGap,
+    Elsewhere,
+}
+
+// Why it has none: refusal 8, or 16.
+#[derive(Clone, Copy, Debug, PartialEq, Eq)]
+pub enum NoRoom {
+    StoreFull,
+    Broken,
+}
+
+// May a payload of n bytes be put into row i, and where. Reads only.
+pub fn put_code(queue: &[u64; QUEUE_WORDS], len: u64, i: usize, n: u64) -> Result<Room, NoRoom>
+    ensures { put_number result ≡ put_code queue.now len i n }
 {
     if i >= MESSAGE_ROWS {
-        return 16;
+        return Err(NoRoom::Broken);
     }
     let size = load_length(queue, i);
     if size > 0 {
-        return 16;
+        return Err(NoRoom::Broken);
     }
     let t = load_totals(queue);
     if t.used > len {
-        return 16;
+        return Err(NoRoom::Broken);
     }
     if n > len - t.used {
-        return 8;
+        return Err(NoRoom::StoreFull);
     }
     let wrong = gaps_wrong(t.gaps, len);
     if wrong {
-        return 16;
+        return Err(NoRoom::Broken);
     }
     let g = gap_for(t.gaps, n);
     if n <= g.limit - g.end {
-        return 0;
+        return Ok(Room::KnownGap);
     }
     let fit = all_fit(queue, len, t.used);
     if fit {
-        return 1;
+        return Ok(Room::Elsewhere);
     }
-    16
+    Err(NoRoom::Broken)
 }
 
 // src as the store's bytes from `at` on.
@@ -279,16 +295,18 @@ pub fn put_own(queue: &mut [u64; QUEUE_WORDS], store: &mut [u8], i: usize, paylo
     put_elsewhere(queue, store, i, payload);
 }
 
-// Puts a payload into row i, which has none. 0: done. 8: no room. 16: damaged, or no such row. Refused: nothing is changed.
-pub fn put_payload(queue: &mut [u64; QUEUE_WORDS], store: &mut [u8], i: usize, payload: &[u8]) -> u8
-    ensures { outcome result queue.new store.new ≡ put_payload queue.old store.old i payload.now }
+// Puts a payload into row i, which has none. Refused: nothing is changed.
+pub fn put_payload(
+    queue: &mut [u64; QUEUE_WORDS],
+    store: &mut [u8],
+    i: usize,
+    payload: &[u8],
+) -> Result<(), NoRoom>
+    ensures { outcome (room_number result) queue.new store.new ≡ put_payload queue.old store.old i payload.now }
 {
-    let code = put_code(queue, store.len() as u64, i, payload.len() as u64);
-    if code > 1 {
-        return code;
-    }
+    put_code(queue, store.len() as u64, i, payload.len() as u64)?;
     put_own(queue, store, i, payload);
-    0
+    Ok(())
 }
 
 // The n bytes of the store from `at` on, at dst's start.
@@ -300,31 +318,38 @@ fn read_part(dst: &mut [u8], store: &[u8], at: usize, n: usize)
     copy(&store[at..end], dst);
 }
 
-// May n bytes from off on of row i's payload be copied to room bytes: 0, else 16. Reads only.
-pub fn read_code(queue: &[u64; QUEUE_WORDS], len: u64, i: usize, off: u64, n: u64, room: u64) -> u8
-    ensures { result ≡ read_code queue.now len i off n room }
+// May n bytes from off on of row i's payload be copied to room bytes. Reads only.
+pub fn read_code(
+    queue: &[u64; QUEUE_WORDS],
+    len: u64,
+    i: usize,
+    off: u64,
+    n: u64,
+    room: u64,
+) -> Result<(), Broken>
+    ensures { broken_number result ≡ read_code queue.now len i off n room }
 {
     if i >= MESSAGE_ROWS {
-        return 16;
+        return Err(Broken);
     }
     let size = load_length(queue, i);
     if size > len {
-        return 16;
+        return Err(Broken);
     }
     let place = load_place(queue, i);
     if place > len - size {
-        return 16;
+        return Err(Broken);
     }
     if off > size {
-        return 16;
+        return Err(Broken);
     }
     if n > size - off {
-        return 16;
+        return Err(Broken);
     }
     if n > room {
-        return 16;
+        return Err(Broken);
     }
-    0
+    Ok(())
 }
 
 // n bytes from off on of row i's payload go to dst's start, where the test says that they may: nothing is tested again.
@@ -344,22 +369,22 @@ pub fn read_own(
     read_part(dst, store, at as usize, n as usize);
 }
 
-// May row i's payload be dropped: 0, else 16. Reads only.
-pub fn drop_code(queue: &[u64; QUEUE_WORDS], i: usize) -> u8
-    ensures { result ≡ drop_code_words queue.now i }
+// May row i's payload be dropped. Reads only.
+pub fn drop_code(queue: &[u64; QUEUE_WORDS], i: usize) -> Result<(), Broken>
+    ensures { broken_number result ≡ drop_code_words queue.now i }
 {
     if i >= MESSAGE_ROWS {
-        return 16;
+        return Err(Broken);
     }
     let size = load_length(queue, i);
     if size == 0 {
-        return 16;
+        return Err(Broken);
     }
     let t = load_totals(queue);
     if size > t.used {
-        return 16;
+        return Err(Broken);
     }
-    0
+    Ok(())
 }
 
 // Row i has no payload then. Its test has passed.
