@@ -63,8 +63,7 @@ fn take_paused(queue: &mut [u64; QUEUE_WORDS], n: usize) -> ReadyIds
 {
     let mut ids = [0u16; STREAM_ROWS];
     let mut count = 0;
-    let mut i = 0;
-    while i < n {
+    for i in 0..n {
         let k = load_known(&*queue, i);
         let s = load_stream(&*queue, k.place as usize);
         let state = s.pause_state;
@@ -74,7 +73,6 @@ fn take_paused(queue: &mut [u64; QUEUE_WORDS], n: usize) -> ReadyIds
             ids[count] = k.id.0;
             count += 1;
         }
-        i += 1;
     }
     ReadyIds {
         count: count,

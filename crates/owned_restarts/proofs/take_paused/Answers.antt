@@ -7,22 +7,21 @@ use Rattle.owned_restarts.proofs.take_paused.Goals as goal
 use Rattle.owned_restarts.proofs.take_paused.Goals.{else-paused, then-paused}
 
 pub loop-i-init : goal.loop-i-init
-loop-i-init c = (omega arith, omega arith, collected_start _, marked_start _)
+loop-i-init c = (omega arith, collected_start _, marked_start _)
 
 pub load_stream-s-requires : goal.load_stream-s-requires
-load_stream-s-requires c = place_fits _ _ c.requires _ c.loop-i-test.true _ c.loop-i.invariant.3 _ c.load_known-k.ensures
+load_stream-s-requires c = place_fits _ _ c.requires _ c.loop-i-test.true _ c.loop-i.invariant.2 _ c.load_known-k.ensures
 
 pub store_resetting-requires : goal.store_resetting-requires
-store_resetting-requires c = place_fits _ _ c.requires _ c.loop-i-test.true _ c.loop-i.invariant.3 _ c.load_known-k.ensures
+store_resetting-requires c = place_fits _ _ c.requires _ c.loop-i-test.true _ c.loop-i.invariant.2 _ c.load_known-k.ensures
 
 pub loop-i-preserved : goal.loop-i-preserved
 loop-i-preserved c =
     let inv = c.loop-i.invariant in
     let h = c.loop-i-test.true in
-    let k = known_is _ _ c.requires _ h _ inv.3 _ c.load_known-k.ensures in
-    let p = paused_is _ _ c.requires _ h _ inv.3 _ c.load_known-k.ensures _ c.load_stream-s.ensures _ c.is_paused-paused.ensures in (
-      omega (arith, h),
-      elim c.if-paused.branch [ then-paused w ↦ omega (arith, w.count-is, inv.1) | else-paused w ↦ omega (arith, w.count-is, inv.1) ],
-      elim c.if-paused.branch [ then-paused w ↦ ap₂ gathered w.count-is w.ids-is ∙ collected_more _ _ _ _ inv.2 _ k _ p w.if-paused.true | else-paused w ↦ ap₂ gathered w.count-is w.ids-is ∙ collected_same _ _ _ _ inv.2 _ k _ p w.if-paused.false ],
-      elim c.if-paused.branch [ then-paused w ↦ w.queue-is ∙ marked_on _ _ c.requires _ h _ inv.3 _ c.load_known-k.ensures _ c.load_stream-s.ensures _ c.is_paused-paused.ensures _ w.if-paused.true w.store_resetting.ensures | else-paused w ↦ w.queue-is ∙ marked_off _ _ c.requires _ h _ inv.3 _ c.load_known-k.ensures _ c.load_stream-s.ensures _ c.is_paused-paused.ensures w.if-paused.false ],
+    let k = known_is _ _ c.requires _ h _ inv.2 _ c.load_known-k.ensures in
+    let p = paused_is _ _ c.requires _ h _ inv.2 _ c.load_known-k.ensures _ c.load_stream-s.ensures _ c.is_paused-paused.ensures in (
+      elim c.if-paused.branch [ then-paused w ↦ omega (arith, w.count-is, inv.0) | else-paused w ↦ omega (arith, w.count-is, inv.0) ],
+      elim c.if-paused.branch [ then-paused w ↦ ap₂ gathered w.count-is w.ids-is ∙ collected_more _ _ _ _ inv.1 _ k _ p w.if-paused.true | else-paused w ↦ ap₂ gathered w.count-is w.ids-is ∙ collected_same _ _ _ _ inv.1 _ k _ p w.if-paused.false ],
+      elim c.if-paused.branch [ then-paused w ↦ w.queue-is ∙ marked_on _ _ c.requires _ h _ inv.2 _ c.load_known-k.ensures _ c.load_stream-s.ensures _ c.is_paused-paused.ensures _ w.if-paused.true w.store_resetting.ensures | else-paused w ↦ w.queue-is ∙ marked_off _ _ c.requires _ h _ inv.2 _ c.load_known-k.ensures _ c.load_stream-s.ensures _ c.is_paused-paused.ensures w.if-paused.false ],
     )
