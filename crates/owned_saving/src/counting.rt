@@ -18,15 +18,13 @@ fn count_records(queue: &[u64; QUEUE_WORDS], n: usize) -> u64
 {
     let o = load_options(queue);
     let mut count: u64 = 0;
-    let mut i: usize = 0;
-    while i < n {
+    for i in 0..n {
         let k = load_known(queue, i);
         let s = load_stream(queue, k.place as usize);
         let plain = is_plain(s, o.default_priority);
         if !plain {
             count += 1;
         }
-        i += 1;
     }
     count
 }

@@ -8,7 +8,7 @@ use Rattle.owned_saving.proofs.counting.count_records.Goals as goal
 use Rattle.owned_saving.proofs.counting.count_records.Goals.{else-not-plain, then-not-plain}
 
 pub loop-i-init : goal.loop-i-init
-loop-i-init c = (omega arith, none_counted _, omega arith)
+loop-i-init c = (none_counted _, omega arith)
 
 pub loop-i-preserved : goal.loop-i-preserved
-loop-i-preserved c = (omega arith, elim c.if-not-plain.branch [ then-not-plain w ↦ w.count-is ∙ with_record _ _ _ _ _ _ _ c.loop-i.invariant.1 c.load_known-k.ensures c.load_stream-s.ensures c.load_options-o.ensures c.is_plain-plain.ensures (ap not w.if-not-plain.true) | else-not-plain w ↦ w.count-is ∙ without _ _ _ _ _ _ _ c.loop-i.invariant.1 c.load_known-k.ensures c.load_stream-s.ensures c.load_options-o.ensures c.is_plain-plain.ensures (ap not w.if-not-plain.false) ], elim c.if-not-plain.branch [ then-not-plain w ↦ omega (arith, w.count-is, c.loop-i.invariant.2) | else-not-plain w ↦ omega (arith, w.count-is, c.loop-i.invariant.2) ])
+loop-i-preserved c = (elim c.if-not-plain.branch [ then-not-plain w ↦ w.count-is ∙ with_record _ _ _ _ _ _ _ c.loop-i.invariant.0 c.load_known-k.ensures c.load_stream-s.ensures c.load_options-o.ensures c.is_plain-plain.ensures (ap not w.if-not-plain.true) | else-not-plain w ↦ w.count-is ∙ without _ _ _ _ _ _ _ c.loop-i.invariant.0 c.load_known-k.ensures c.load_stream-s.ensures c.load_options-o.ensures c.is_plain-plain.ensures (ap not w.if-not-plain.false) ], elim c.if-not-plain.branch [ then-not-plain w ↦ omega (arith, w.count-is, c.loop-i.invariant.1) | else-not-plain w ↦ omega (arith, w.count-is, c.loop-i.invariant.1) ])
