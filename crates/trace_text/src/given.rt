@@ -146,6 +146,7 @@ fn put_part(
 fn put_parts(line: &[u8; LINE_BYTES], from: usize, end: usize, payload: &mut [u8]) -> usize {
     let mut n = 0;
     let mut at = from;
+    // Counted by hand: a step ends behind the next `+`, and a range has one step.
     while at < end {
         let to = find(line, at, end, b'+');
         n = put_part(line, at, to, payload, n);

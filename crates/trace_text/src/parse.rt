@@ -134,6 +134,7 @@ pub fn parse(line: &[u8; LINE_BYTES], end: usize, state: &mut [u64; STATE]) -> b
     state[LETTER] = wide(line[0]);
     let mut at = 1;
     let mut k = 0;
+    // Counted by hand: a step is the length of a number, and a range has one step.
     while at < end {
         let next = take_number(line, at, end, state, k);
         if next <= at {
