@@ -2,7 +2,6 @@
 ghost use Rattle.std.specs.Prelude.{true, ◌≡◌, ℕ, ◌≤◌, ◌<◌, length, get_or};
 ghost use Rattle.trace_answers.specs.Marks.{event_buffer, event_mark, byte_mark};
 
-use queue_words::whole;
 use send_queue::{PLACE_WORDS, QUEUE_WORDS};
 use trace_text::state::{MOST_PLACES, STORE};
 
@@ -39,13 +38,8 @@ fn byte_mark(i: usize) -> u8
 
 // Puts marks on the first n words.
 pub fn mark_events(events: &mut [u64; EVENT_BUFFER], n: usize) {
-    let mut i = 0;
-    while i < EVENT_BUFFER {
-        if i >= n {
-            return;
-        }
+    for i in 0..n.min(EVENT_BUFFER) {
         events[i] = event_mark(i);
-        i += 1;
     }
 }
 
@@ -53,25 +47,18 @@ pub fn mark_events(events: &mut [u64; EVENT_BUFFER], n: usize) {
 pub fn events_marked(events: &[u64; EVENT_BUFFER], from: usize) -> bool
     ensures { result ≡ true → (k : ℕ) → k < event_buffer → from ≤ k → get_or events.now k 0 ≡ event_mark k }
 {
-    let mut i = from;
-    while i < EVENT_BUFFER {
+    for i in from..EVENT_BUFFER {
         if events[i] != event_mark(i) {
             return false;
         }
-        i += 1;
     }
     true
 }
 
 // The same for the fragment buffer and the image buffer. The check goes through all bytes, so that it can take many at a time.
 pub fn mark_bytes(buffer: &mut [u8], n: usize) {
-    let mut i = 0;
-    while i < buffer.len() {
-        if i >= n {
-            return;
-        }
+    for i in 0..n.min(buffer.len()) {
         buffer[i] = byte_mark(i);
-        i += 1;
     }
 }
 
@@ -79,12 +66,10 @@ pub fn bytes_marked(buffer: &[u8], from: usize) -> bool
     ensures { result ≡ true → (k : ℕ) → k < length buffer.now → from ≤ k → get_or buffer.now k 0 ≡ byte_mark k }
 {
     let mut strays: u8 = 0;
-    let mut i = from;
-    while i < buffer.len() {
+    for i in from..buffer.len() {
         if buffer[i] != byte_mark(i) {
             strays = 1;
         }
-        i += 1;
     }
     strays == 0
 }
@@ -93,28 +78,13 @@ pub fn bytes_marked(buffer: &[u8], from: usize) -> bool
 pub fn keep_words(queue: &[u64; QUEUE_WORDS], kept: &mut [u64; QUEUE_WORDS])
     ensures { kept.new ≡ queue.now }
 {
-    whole(queue);
-    whole(&*kept);
-    let mut i = 0;
-    while i < 20768 {
-        kept[i] = queue[i];
-        i += 1;
-    }
+    kept.copy_from_slice(queue);
 }
 
 pub fn words_same(queue: &[u64; QUEUE_WORDS], kept: &[u64; QUEUE_WORDS]) -> bool
     ensures { result ≡ true → queue.now ≡ kept.now }
 {
-    whole(queue);
-    whole(kept);
-    let mut i = 0;
-    while i < 20768 {
-        if queue[i] != kept[i] {
-            return false;
-        }
-        i += 1;
-    }
-    true
+    queue == kept
 }
 
 // A copy of the store's first n bytes.
@@ -122,11 +92,7 @@ pub fn keep_store(store: &[u8; STORE], kept: &mut [u8; STORE], n: usize) {
     if n > 2100000 {
         return;
     }
-    let mut i = 0;
-    while i < n {
-        kept[i] = store[i];
-        i += 1;
-    }
+    kept[..n].copy_from_slice(&store[..n]);
 }
 
 // Whether those are the same.
@@ -136,15 +102,7 @@ pub fn store_same(store: &[u8; STORE], kept: &[u8; STORE], n: usize) -> bool
     if n > 2100000 {
         return false;
     }
-    let mut strays: u8 = 0;
-    let mut i = 0;
-    while i < n {
-        if store[i] != kept[i] {
-            strays = 1;
-        }
-        i += 1;
-    }
-    strays == 0
+    store[..n] == kept[..n]
 }
 
 // Zeros in their place.
@@ -152,21 +110,15 @@ pub fn clear_store(store: &mut [u8; STORE], n: usize) {
     if n > 2100000 {
         return;
     }
-    let mut i = 0;
-    while i < n {
-        store[i] = 0;
-        i += 1;
-    }
+    store[..n].fill(0);
 }
 
 // Whether all bytes of an output from a place on are as before the call.
 pub fn as_before(output: &[u8], from: usize) -> bool {
-    let mut i = from;
-    while i < output.len() {
+    for i in from..output.len() {
         if output[i] != BEFORE {
             return false;
         }
-        i += 1;
     }
     true
 }

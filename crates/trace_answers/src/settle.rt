@@ -82,14 +82,12 @@ fn put_events(events: &[u64; EVENT_BUFFER], n: usize, output: &mut Answers) {
     if n > MOST_PLACES {
         return;
     }
-    let mut i = 0;
-    while i < n {
+    for i in 0..n {
         put_byte(output, b'!');
         put_number(output, events[i * PLACE_WORDS]);
         put_number(output, events[i * PLACE_WORDS + 1]);
         put_number(output, events[i * PLACE_WORDS + 2]);
         put_byte(output, b'\n');
-        i += 1;
     }
 }
 

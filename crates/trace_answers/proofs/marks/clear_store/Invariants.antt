@@ -1,6 +1,0 @@
--- `trace_answers::marks::clear_store` is safe and ends. Assumes nothing.
-use Prim.Native.Nat.{◌-◌}
-use Rattle.trace_answers.proofs.marks.clear_store.Given as goal
-
-abbrev pub decreases-loop-i : goal.decreases-loop-i
-decreases-loop-i l = l.n - l.i
