@@ -1,9 +1,9 @@
 -- What a chunk carries of a fragment. Assumes nothing.
+use Rattle.std.specs.Prelude.{Some}
 use Rattle.std.specs.Prelude.{ℕ}
 use Rattle.std.specs.Prelude.{if◌then◌else◌}
 use Rattle.queue_sending.specs.declared.data.Data.{Data}
 use Rattle.queue_sending.specs.declared.data.DataToSend.{DataToSend}
-use Rattle.queue_words.specs.declared.items.Expiry.TheVariants.{At}
 use Rattle.chunks.specs.declared.chunk.ChunkKind.{ChunkKind}
 use Rattle.chunks.specs.declared.chunk.ChunkKind.TheVariants as kind
 
@@ -13,7 +13,7 @@ only_data d = record {
   message_id = record { 0 = 0 };
   «data» = d;
   max_retransmissions = 0;
-  expires_at = At 0;
+  expires_at = Some 0;
   lifecycle_id = 0;
 }
 

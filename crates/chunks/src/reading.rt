@@ -8,7 +8,7 @@ use crate::chunk::{
     UNORDERED, choose, padded,
 };
 use big_endian::{read_u8, read_u16, read_u32};
-use queue_sending::{Data, DataToSend, Expiry};
+use queue_sending::{Data, DataToSend};
 use types::{Fsn, Mid, OutgoingMessageId, Ssn, StreamId, StreamKey};
 
 fn is_set(flags: u8, mark: u8) -> bool
@@ -38,7 +38,7 @@ fn fragment_of(flags: u8, id: u16, ssn: u16, mid: u32, fsn: u32, ppid: u32, n: u
         message_id: OutgoingMessageId(0),
         data: data,
         max_retransmissions: 0,
-        expires_at: Expiry::At(0),
+        expires_at: Some(0),
         lifecycle_id: 0,
     }
 }

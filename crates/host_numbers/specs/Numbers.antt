@@ -1,8 +1,8 @@
 -- A message by its numbers, and what a call tells in an array of 16 places: 0 the value, 1 the number of events, the others what goes with a fragment. Assumes nothing.
+use Rattle.std.specs.Prelude.{Some, None}
 use Rattle.std.specs.Prelude.{ℕ, Bool, true, false, List, ◌++◌, set, take, drop}
 use Rattle.queue_words.specs.Flags.{bit}
-use Rattle.queue_words.specs.declared.items.Expiry.{Expiry}
-use Rattle.queue_words.specs.declared.items.Expiry.TheVariants as expiry
+use Rattle.queue_words.specs.Items.{Expiry}
 use Rattle.types.specs.Keys.{key_id, key_unordered}
 use Rattle.queue_streams.specs.Call.{Call}
 use Rattle.queue_streams.specs.Call.{Accepted, Refused}
@@ -55,12 +55,12 @@ with_first to count from = take count from ++ drop count to
 
 -- "expiry time or never": whether it expires, and when
 abbrev pub expiry_number : Expiry → ℕ
-expiry_number expiry.Never = 0
-expiry_number (expiry.At t) = 1
+expiry_number None = 0
+expiry_number (Some t) = 1
 
 abbrev pub expiry_time : Expiry → ℕ
-expiry_time expiry.Never = 0
-expiry_time (expiry.At t) = t
+expiry_time None = 0
+expiry_time (Some t) = t
 
 -- "With it go message id, stream, unordered mark, the three counters, protocol id, first and last marks, retransmissions, expiry time or never, and lifecycle id."
 unfoldable pub shown : List ℕ → ℕ → DataToSend → List ℕ

@@ -7,23 +7,22 @@ use out_array::{
     MESSAGE_ID, MID, OUT_WORDS, PPID, SSN, STREAM_ID, UNORDERED, VALUE,
 };
 use queue_sending::DataToSend;
-use queue_words::Expiry;
 
-fn expiry_number(e: Expiry) -> u64
+fn expiry_number(e: Option<u64>) -> u64
     ensures { result ≡ expiry_number e }
 {
     match e {
-        Expiry::Never => 0,
-        Expiry::At(_) => 1,
+        None => 0,
+        Some(_) => 1,
     }
 }
 
-fn expiry_time(e: Expiry) -> u64
+fn expiry_time(e: Option<u64>) -> u64
     ensures { result ≡ expiry_time e }
 {
     match e {
-        Expiry::Never => 0,
-        Expiry::At(t) => t,
+        None => 0,
+        Some(t) => t,
     }
 }
 

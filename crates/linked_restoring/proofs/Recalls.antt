@@ -1,4 +1,5 @@
 -- Restoring, last: without interleaving the first stream whose first message is half-sent is remembered. Assumes nothing.
+use Rattle.std.specs.Prelude.{Some}
 use mathlib.Core.Path.{◌≡◌, refl, sym, ap, ◌∙◌}
 use mathlib.Core.Bool.{Bool, true, false}
 use mathlib.Core.List.{List}
@@ -13,8 +14,7 @@ use Rattle.queue_words.specs.Items.{item_at}
 use Rattle.queue_words.specs.Known.{known_at, id_at}
 use Rattle.queue_words.specs.Streams.{stream_at_words}
 use Rattle.queue_words.specs.declared.header.Options.{Options}
-use Rattle.queue_words.specs.declared.header.Remembered.{Remembered}
-use Rattle.queue_words.specs.declared.header.Remembered.TheVariants as remembered
+use Rattle.queue_words.specs.Header.{Remembered}
 use Rattle.queue_words.specs.declared.header.SchedulerState.{SchedulerState}
 use Rattle.queue_words.specs.declared.streams.OutgoingStream.{OutgoingStream}
 use Rattle.queue_words.proofs.Laws
@@ -90,7 +90,7 @@ module _ (us st : List ℕ) (g : Shape us st) where
       id = ap (λ (s : Stream). s.id) at_i ∙ id_is us st g i hi
 
       by : (b : Bool) → half_sent_at us (known_at us i) ≡ b → first_half_sent (tab (λ j. f (suc j)) n) ≡ current_of (first_half_sent_words us (suc i) n)
-          → (if half_sent_first (f 0).items then some (f 0).id else first_half_sent (tab (λ j. f (suc j)) n)) ≡ current_of (pick (half_sent_at us (known_at us i)) (remembered.Stream (known_at us i).id) (first_half_sent_words us (suc i) n))
+          → (if half_sent_first (f 0).items then some (f 0).id else first_half_sent (tab (λ j. f (suc j)) n)) ≡ current_of (pick (half_sent_at us (known_at us i)) (Some (known_at us i).id) (first_half_sent_words us (suc i) n))
       by true k rest = rw (half, k) (ap some id ∙ sym (current_some (known_at us i).id))
       by false k rest = rw (half, k) rest
 
@@ -103,7 +103,7 @@ unfolding first_half_sent_words
 first_fits ws zero i = tt
 first_fits ws (suc n) i = go (half_sent_at ws (known_at ws i)) (first_fits ws n (suc i))
   where
-    go : (b : Bool) → FitsRemembered (first_half_sent_words ws (suc i) n) → FitsRemembered (pick b (remembered.Stream (known_at ws i).id) (first_half_sent_words ws (suc i) n))
+    go : (b : Bool) → FitsRemembered (first_half_sent_words ws (suc i) n) → FitsRemembered (pick b (Some (known_at ws i).id) (first_half_sent_words ws (suc i) n))
     go true f = (Laws.known_at_fits ws i).id_fits
     go false f = f
 

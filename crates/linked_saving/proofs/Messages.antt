@@ -1,4 +1,5 @@
 -- A message's record on the words is the model's. Assumes nothing.
+use Rattle.std.specs.Prelude.{Some, None}
 use mathlib.Core.Path.{◌≡◌, refl, sym, ap, ◌∙◌}
 use mathlib.Core.Bool.{Bool, true, false}
 use mathlib.Core.List.{List, [], ◌∷◌, ◌++◌, map, append_assoc}
@@ -11,11 +12,9 @@ use lib.Dec.{ltb, leb}
 use lib.ListN.{length}
 use Rattle.queue_words.specs.Flags.{pick}
 use Rattle.queue_words.specs.Items.{item_at, has_expiry, are_given, mid_in, ssn_in}
-use Rattle.queue_words.specs.declared.items.Expiry.{Expiry}
-use Rattle.queue_words.specs.declared.items.Expiry.TheVariants.{Never, At}
+use Rattle.queue_words.specs.Items.{Expiry}
 use Rattle.queue_words.specs.declared.items.Item.{Item}
-use Rattle.queue_words.specs.declared.items.Numbers.{Numbers}
-use Rattle.queue_words.specs.declared.items.Numbers.TheVariants.{Missing, Given}
+use Rattle.queue_words.specs.Items.{Numbers}
 use Rattle.queue_model.specs.Logic.{is_some}
 use Rattle.queue_model.specs.Bytes.{row_bytes}
 use Rattle.queue_model.specs.Image.{MessageRecord, message_widths, message_row, message_bytes, messages_bytes, bit, ms_left_at, message_record}
@@ -34,14 +33,14 @@ use Rattle.saving.proofs.Lengths.{payload_long}
 
 flags_same : (u : Bool) (n : Numbers) (e : Expiry) → pick u 1 0 + pick (are_given n) 2 0 + pick (has_expiry e) 4 0 ≡ bit u 1 + bit (is_some (mid_of n)) 2 + bit (is_some (expires_of e)) 4
 unfolding bit is_some
-flags_same true (Given mid ssn) (At t) = refl
-flags_same true (Given mid ssn) Never = refl
-flags_same true Missing (At t) = refl
-flags_same true Missing Never = refl
-flags_same false (Given mid ssn) (At t) = refl
-flags_same false (Given mid ssn) Never = refl
-flags_same false Missing (At t) = refl
-flags_same false Missing Never = refl
+flags_same true (Some n) (Some t) = refl
+flags_same true (Some n) None = refl
+flags_same true None (Some t) = refl
+flags_same true None None = refl
+flags_same false (Some n) (Some t) = refl
+flags_same false (Some n) None = refl
+flags_same false None (Some t) = refl
+flags_same false None None = refl
 
 -- "rounded down, 0 if past, at most 2,147,483,647"
 left_same : (time at : ℕ) → left_at time at ≡ min ((at - time) / 1000000) 2147483647
@@ -65,12 +64,12 @@ left_same time at =
 
 left_given : (e : Expiry) (time : ℕ) → left_of e time ≡ ms_left_at time (expires_of e)
 unfolding ms_left_at
-left_given Never time = refl
-left_given (At t) time = left_same time t
+left_given None time = refl
+left_given (Some t) time = left_same time t
 
 mid_given : (n : Numbers) → (mid_in n).0 ≡ get_or (mid_of n) 0
-mid_given Missing = refl
-mid_given (Given mid ssn) = refl
+mid_given None = refl
+mid_given (Some n) = refl
 
 -- ------------------------------------------------------------------ the record
 

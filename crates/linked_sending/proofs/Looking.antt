@@ -1,4 +1,5 @@
 -- A look at the scheduler's choice, on good words, is the model's look. Assumes nothing.
+use Rattle.std.specs.Prelude.{Some, None}
 use mathlib.Core.Path.{◌≡◌, refl, sym, ap, ◌∙◌}
 use mathlib.Core.Bool.{Bool, true, false}
 use mathlib.Core.List.{List, [], ◌∷◌}
@@ -7,8 +8,7 @@ use Prim.Native.Nat.{ℕ, suc, ◌≤◌, ◌<◌}
 use native.Mathlib.Omega.{arith}
 use borrow.Author.Tests.{lt-ltb, le-ltb, le-leb, lt-leb}
 use lib.Dec.{ltb, leb}
-use Rattle.queue_words.specs.declared.items.Expiry.TheVariants.{Never, At}
-use Rattle.queue_words.specs.declared.items.Expiry.{Expiry}
+use Rattle.queue_words.specs.Items.{Expiry}
 use Rattle.queue_words.specs.Flags.{pick}
 use Rattle.queue_words.specs.Active.{active_at}
 use Rattle.queue_words.specs.Find.{find_stream_words}
@@ -78,8 +78,8 @@ unfolding item_in_words expired_by
 expired_is ws st x time = go (item_at ws x).expires_at
   where
     go : (e : Expiry) → expired time (expires_of e) ≡ is_past e time
-    go Never = refl
-    go (At t) = test_same t time
+    go None = refl
+    go (Some t) = test_same t time
 
 -- ---- the choice
 

@@ -1,4 +1,5 @@
 -- The numbers of a message, and what goes with a fragment, are the model's. Assumes nothing.
+use Rattle.std.specs.Prelude.{Some, None}
 use mathlib.Core.Path.{◌≡◌, refl}
 use mathlib.Core.Bool.{Bool, true, false}
 use mathlib.Core.List.{List, []}
@@ -9,8 +10,7 @@ use lib.Dec.{eqb}
 use lib.ListN.{length, take, drop, length-drop}
 use lib.Seq.{length-take-le}
 use Rattle.message_chains.specs.Numbers.{with_numbers}
-use Rattle.queue_words.specs.declared.items.Numbers as words
-use Rattle.queue_words.specs.declared.items.Numbers.TheVariants.{Missing, Given}
+use Rattle.queue_words.specs.Items as words
 use borrow.Author.Tests.{le-ltb}
 use Rattle.types.specs.Wrap.{wrapping_add}
 use Rattle.types.proofs.Width.{wrap_one, wrap_fits}
@@ -25,8 +25,7 @@ use Rattle.queue_model.specs.Produce.{Numbered, numbered, numbered_in, give_numb
 use Rattle.message_chains.specs.Amounts.{rest, sum}
 use Rattle.queue_sending.specs.Data.{shown_lifecycle, data_to_send}
 use Rattle.queue_sending.specs.Numbers.{numbered_item, numbered_stream, next_numbers, moved_on_words, with_counters, next_mid, next_ssn}
-use Rattle.queue_words.specs.declared.items.Expiry.{Expiry}
-use Rattle.queue_words.specs.declared.items.Expiry.TheVariants.{Never, At}
+use Rattle.queue_words.specs.Items.{Expiry}
 use Rattle.queue_state.specs.Model.{item_of, stream_of, expires_of, mid_of}
 use Rattle.linked_sending.specs.Meaning as meaning
 
@@ -46,9 +45,9 @@ unfolding numbered numbered_in give_numbers numbered_item numbered_stream
 numbers s m bs = go m.numbers refl m.unordered refl
   where
     go : (a : words.Numbers) → m.numbers ≡ a → (b : Bool) → m.unordered ≡ b → Numbers s m bs
-    go (Given mid ssn) e b f = record { item_is = rw e; counters_are = rw e }
-    go Missing e true f = record { item_is = rw (e, f); counters_are = rw (e, f, wrap_one 32 s.next_unordered_mid.0) }
-    go Missing e false f = record { item_is = rw (e, f); counters_are = rw (e, f, wrap_one 16 s.next_ssn.0, wrap_one 32 s.next_ordered_mid.0) }
+    go (Some n) e b f = record { item_is = rw e; counters_are = rw e }
+    go None e true f = record { item_is = rw (e, f); counters_are = rw (e, f, wrap_one 32 s.next_unordered_mid.0) }
+    go None e false f = record { item_is = rw (e, f); counters_are = rw (e, f, wrap_one 16 s.next_ssn.0, wrap_one 32 s.next_ordered_mid.0) }
 
 -- Numbers leave the rest of a message and of its stream.
 pub record Renumbered (s : OutgoingStream) (m : Item) : Type 0 where
@@ -80,12 +79,12 @@ numbered_before s m e = (rw e, rw e)
 -- ---- the fragment
 
 expiry_is : (e : Expiry) → meaning.expiry_of (expires_of e) ≡ e
-expiry_is Never = refl
-expiry_is (At t) = refl
+expiry_is None = refl
+expiry_is (Some t) = refl
 
 mid_is : (n : words.Numbers) → get_or (mid_of n) 0 ≡ (mid_in n).0
-mid_is Missing = refl
-mid_is (Given mid ssn) = refl
+mid_is None = refl
+mid_is (Some n) = refl
 
 shown_is : (b : Bool) (n : ℕ) → (if b then n else 0) ≡ pick b n 0
 shown_is true n = refl

@@ -1,4 +1,5 @@
 -- The next fragment is the model's. Assumes nothing.
+use Rattle.std.specs.Prelude.{Some, None}
 use Rattle.std.specs.Prelude.{ℕ, ◌≡◌, List, ◌++◌, map, length, drop}
 use Rattle.std.proofs.Math.Option.{Option, none, some}
 use Rattle.types.specs.Keys.{key_of}
@@ -7,8 +8,7 @@ use Rattle.queue_model.specs.Answers.{answer_number, event_count, fragments_in}
 use Rattle.queue_model.specs.Run as run
 use Rattle.queue_streams.specs.Events.{places_in, written}
 use Rattle.queue_sending.specs.declared.data.DataToSend.{DataToSend}
-use Rattle.queue_words.specs.declared.items.Expiry.{Expiry}
-use Rattle.queue_words.specs.declared.items.Expiry.TheVariants.{Never, At}
+use Rattle.queue_words.specs.Items.{Expiry}
 use Rattle.queue_sending.specs.declared.data.Produced.{Produced}
 use Rattle.queue_sending.specs.declared.data.Produced.TheVariants as produced
 use Rattle.queue_sending.specs.Data.{ProducedWith, produced_with, produced_number, produced_events, produced_data}
@@ -18,8 +18,8 @@ use Rattle.queue_state.specs.Good.{Good}
 
 -- "expiry time or never"
 abbrev pub expiry_of : Option ℕ → Expiry
-expiry_of none = Never
-expiry_of (some t) = At t
+expiry_of none = None
+expiry_of (some t) = Some t
 
 -- What goes with the model's fragment; its bytes are in the lent buffer.
 abbrev pub data_of : Fragment → DataToSend

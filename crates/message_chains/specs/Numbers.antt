@@ -1,6 +1,6 @@
 -- A message with other numbers. Assumes nothing.
 use Rattle.queue_words.specs.declared.items.Item.{Item}
-use Rattle.queue_words.specs.declared.items.Numbers.{Numbers}
+use Rattle.queue_words.specs.Items.{Numbers}
 
 abbrev pub with_numbers : Item → Numbers → Item
 with_numbers m n = record {

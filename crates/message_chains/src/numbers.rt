@@ -2,10 +2,10 @@
 ghost use Rattle.std.specs.Prelude.{◌≡◌};
 ghost use Rattle.message_chains.specs.Numbers.{with_numbers};
 
-use queue_words::items::{Item, Numbers};
+use queue_words::items::{Item, MessageNumbers};
 use types::{Fsn, OutgoingMessageId};
 
-pub fn with_numbers(m: Item, n: Numbers) -> Item
+pub fn with_numbers(m: Item, n: Option<MessageNumbers>) -> Item
     ensures { result ≡ with_numbers m n }
 {
     let expires_at = m.expires_at;

@@ -1,10 +1,10 @@
 -- Creating a queue in lent words. Assumes nothing.
+use Rattle.std.specs.Prelude.{None}
 use Rattle.std.specs.Prelude.{ℕ, zero, suc, ◌+◌, ◌%◌, Bool, false, List, ltb, eqb}
 use Rattle.queue_words.specs.Flags.{pick}
 use Rattle.queue_words.specs.Header.{is_strict, put_options, put_totals, put_scheduler}
 use Rattle.queue_words.specs.Items.{put_next, put_place, put_length}
 use Rattle.queue_words.specs.declared.header.Options.{Options}
-use Rattle.queue_words.specs.declared.header.Remembered.TheVariants.{NoStream}
 use Rattle.queue_words.specs.declared.header.RestartRule.{RestartRule}
 use Rattle.queue_words.specs.declared.header.SchedulerState.{SchedulerState}
 use Rattle.queue_words.specs.declared.header.Totals.{Totals}
@@ -31,7 +31,7 @@ new_totals = record {
 
 -- no stream waits, none is remembered
 abbrev pub new_scheduler_words : SchedulerState
-new_scheduler_words = record { current = NoStream; system_virtual_time = 0; active = 0 }
+new_scheduler_words = record { current = None; system_virtual_time = 0; active = 0 }
 
 -- the first n places are free, chained in their order; none has a payload, and none points past the store
 unfoldable pub freed : List ℕ → ℕ → List ℕ

@@ -1,9 +1,8 @@
 -- A message as it is handed over, and as it waits. Assumes nothing.
+use Rattle.std.specs.Prelude.{Some, None}
 use Rattle.std.specs.Prelude.{ℕ, ◌+◌}
-use Rattle.queue_words.specs.declared.items.Expiry.{Expiry}
-use Rattle.queue_words.specs.declared.items.Expiry.TheVariants.{Never, At}
+use Rattle.queue_words.specs.Items.{Expiry}
 use Rattle.queue_words.specs.declared.items.Item.{Item}
-use Rattle.queue_words.specs.declared.items.Numbers.TheVariants.{Missing}
 use Rattle.types.specs.declared.OutgoingMessageId.{OutgoingMessageId}
 use Rattle.queue_messages.specs.declared.message.Lifetime.{Lifetime}
 use Rattle.queue_messages.specs.declared.message.Lifetime.TheVariants as life
@@ -23,8 +22,8 @@ nanoseconds (life.Limited n) = n
 
 -- "a lifetime sets now + lifetime + 1 ms, else never".
 unfoldable pub expiry : ℕ → Lifetime → Expiry
-expiry now life.Unlimited = Never
-expiry now (life.Limited n) = At (now + n + 1000000)
+expiry now life.Unlimited = None
+expiry now (life.Limited n) = Some (now + n + 1000000)
 
 -- the message as it waits, the last of its chain, its payload not yet stored (Rust: Item::new)
 unfoldable pub new_item_words : ℕ → OutgoingMessageId → Message → Item
@@ -33,7 +32,7 @@ new_item_words now id m = record {
   unordered = m.unordered;
   message_id = id;
   ppid = m.ppid;
-  numbers = Missing;
+  numbers = None;
   fsn = record { 0 = 0 };
   expires_at = expiry now m.lifetime;
   lifecycle_id = m.lifecycle_id;

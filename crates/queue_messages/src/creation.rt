@@ -6,8 +6,8 @@ ghost use Rattle.queue_messages.specs.Create.{create_code, freed, new_words, cre
 use queue_streams::answers::Call;
 use queue_words::QUEUE_WORDS;
 use queue_words::header::{
-    Gaps, Options, Remembered, RestartRule, SchedulerState, Totals, store_options,
-    store_scheduler_state, store_totals,
+    Gaps, Options, RestartRule, SchedulerState, Totals, store_options, store_scheduler_state,
+    store_totals,
 };
 use queue_words::items::{store_length, store_next, store_place};
 use queue_words::limits::{MAX_PAYLOAD_LIMIT, MAX_STORE, MESSAGE_ROWS};
@@ -69,7 +69,7 @@ fn write_new(queue: &mut [u64; QUEUE_WORDS], o: Options)
     store_scheduler_state(
         queue,
         SchedulerState {
-            current: Remembered::NoStream,
+            current: None,
             system_virtual_time: 0,
             active: 0,
         },

@@ -2,7 +2,7 @@
 ghost use Rattle.std.specs.Prelude.{◌≡◌, ◌≤◌};
 ghost use Rattle.queue_messages.specs.Message.{retransmissions, nanoseconds, expiry, new_item_words};
 
-use queue_words::items::{Expiry, Item, Numbers};
+use queue_words::items::Item;
 use queue_words::limits::NO_MESSAGE;
 use types::{Fsn, OutgoingMessageId, StreamId};
 
@@ -51,13 +51,13 @@ pub fn nanoseconds(l: Lifetime) -> u64
 }
 
 // "a lifetime sets now + lifetime + 1 ms, else never".
-fn expiry(time: u64, l: Lifetime) -> Expiry
+fn expiry(time: u64, l: Lifetime) -> Option<u64>
     requires { (time ≤ 4611686018427387903) × (nanoseconds l ≤ 4611686018427387903) }
     ensures { result ≡ expiry time l }
 {
     match l {
-        Lifetime::Unlimited => Expiry::Never,
-        Lifetime::Limited(n) => Expiry::At(time + n + 1000000),
+        Lifetime::Unlimited => None,
+        Lifetime::Limited(n) => Some(time + n + 1000000),
     }
 }
 
@@ -75,7 +75,7 @@ pub fn new_item(time: u64, id: OutgoingMessageId, m: Message) -> Item
         unordered: m.unordered,
         message_id: id,
         ppid: m.ppid,
-        numbers: Numbers::Missing,
+        numbers: None,
         fsn: Fsn(0),
         expires_at: expires_at,
         lifecycle_id: m.lifecycle_id,

@@ -1,4 +1,5 @@
 -- The whole-queue reset, on the words. Assumes nothing.
+use Rattle.std.specs.Prelude.{None}
 use Rattle.std.specs.Prelude.{ℕ, zero, suc, ◌+◌, ◌-◌, Bool, true, false, List, ltb}
 use Rattle.queue_words.specs.Flags.{pick}
 use Rattle.queue_words.specs.Header.{options_at, totals_at, put_totals}
@@ -7,7 +8,6 @@ use Rattle.queue_words.specs.Known.{known_at}
 use Rattle.queue_words.specs.Streams.{stream_at_words, put_stream_words}
 use Rattle.queue_words.specs.declared.header.Totals.{Totals}
 use Rattle.queue_words.specs.declared.items.Item.{Item}
-use Rattle.queue_words.specs.declared.items.Numbers.TheVariants.{Missing}
 use Rattle.queue_words.specs.declared.streams.OutgoingStream.{OutgoingStream}
 use Rattle.queue_words.specs.declared.streams.PauseState.TheVariants.{NotPaused}
 use Rattle.queue_streams.specs.Settings.{Called, called}
@@ -64,7 +64,7 @@ whole_item strict m = record {
   unordered = m.unordered;
   message_id = m.message_id;
   ppid = m.ppid;
-  numbers = pick strict Missing m.numbers;
+  numbers = pick strict None m.numbers;
   fsn = pick strict (record { 0 = 0 }) m.fsn;
   expires_at = m.expires_at;
   lifecycle_id = m.lifecycle_id;

@@ -12,7 +12,7 @@ use message_chains::numbers::with_numbers;
 use queue_streams::answers::Call;
 use queue_streams::waiting::{reschedule, room_for};
 use queue_words::header::{Totals, load_options, load_totals, store_totals};
-use queue_words::items::{Item, Numbers, load_item, store_item};
+use queue_words::items::{Item, load_item, store_item};
 use queue_words::known::{Known, load_known};
 use queue_words::limits::{LAST_MESSAGE, LAST_STREAM, NO_MESSAGE};
 use queue_words::streams::{OutgoingStream, PauseState, load_stream, store_stream};
@@ -123,7 +123,7 @@ fn whole_item(m: Item, strict: bool) -> Item
     o.offset = 0;
     if strict {
         o.fsn.0 = 0;
-        return with_numbers(o, Numbers::Missing);
+        return with_numbers(o, None);
     }
     o
 }

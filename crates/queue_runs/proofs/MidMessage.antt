@@ -1,4 +1,5 @@
 -- A queue that never had interleaving remembers the stream in mid-message, and sends its rest first: document 02's 10/13 on the code. Assumes nothing.
+use Rattle.std.specs.Prelude.{Some, None}
 use mathlib.Core.Path.{◌≡◌, refl, sym, ap, subst, ◌∙◌}
 use mathlib.Core.Bool.{false}
 use mathlib.Core.Option.{Option, some}
@@ -24,8 +25,7 @@ use Rattle.queue_sending.specs.declared.data.Produced.TheVariants as produced
 use Rattle.queue_state.specs.Promise as promise
 use Rattle.queue_state.proofs.Singles.{model_schedules}
 use Rattle.linked_sending.specs.Meaning.{data_of}
-use Rattle.queue_words.specs.declared.header.Remembered.{Remembered}
-use Rattle.queue_words.specs.declared.header.Remembered.TheVariants as recalled
+use Rattle.queue_words.specs.Header.{Remembered}
 use Rattle.queue_runs.specs.Calls.{Call, add, produce, fill, discard, close, ready_ids, commit, rollback, reset, set_threshold, set_priority, set_interleaving, restore, ask_priority, ask_amount, ask_threshold, ask_total, ask_empty, ask_has_data, ask_streams_ready, ask_ready_count, ask_readiness, ask_room, call_of, Typed, Shown, called, sent}
 use Rattle.queue_runs.specs.Run.{State, step}
 use Rattle.queue_runs.specs.Meaning.{queue_of, GoodState, sent_of}
@@ -92,10 +92,10 @@ never_stands {a} {len} (later {s = s} n c t u) =
 
 -- ------------------------------------------------------------------ the remembered stream
 
-current_back : (c : Remembered) (k : ℕ) → current_of c ≡ some k → c ≡ recalled.Stream (record { 0 = k })
+current_back : (c : Remembered) (k : ℕ) → current_of c ≡ some k → c ≡ Some (record { 0 = k })
 unfolding current_of
-current_back recalled.NoStream k e = let z : ◌≡◌ {A = ℕ} 0 1 = cc in absurd (omega arith)
-current_back (recalled.Stream id) k e = let z : id.0 ≡ k = cc in λ p. recalled.Stream (record { 0 = z p })
+current_back None k e = let z : ◌≡◌ {A = ℕ} 0 1 = cc in absurd (omega arith)
+current_back (Some id) k e = let z : id.0 ≡ k = cc in λ p. Some (record { 0 = z p })
 
 schedules_current : (ws : List ℕ) → (model_scheduler ws).current ≡ current_of (scheduler_at ws).current
 unfolding model_scheduler

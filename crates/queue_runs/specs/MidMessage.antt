@@ -1,9 +1,9 @@
 -- The scheduler's shared condition on a stream in mid-message (document 02, 10/13), on the words and the store that the calls leave; and that the rest of its message is sent first. Assumes nothing.
+use Rattle.std.specs.Prelude.{Some}
 use Rattle.std.specs.Prelude.{ℕ, ◌<◌, ◌≡◌, true, false, List, ◌∷◌, length}
 use Rattle.std.proofs.Math.Option.{Option, some}
 use Rattle.types.specs.Keys.{key_id}
 use Rattle.queue_words.specs.Header.{scheduler_at}
-use Rattle.queue_words.specs.declared.header.Remembered.TheVariants as remembered
 use Rattle.queue_model.specs.Types.{Item, Stream, expired}
 use Rattle.queue_model.specs.Streams.{find_stream}
 use Rattle.queue_model.specs.Image.{Handover}
@@ -59,7 +59,7 @@ unfoldable pub Request10Remembered : Type 0
 Request10Remembered =
     (a : Arguments) (len : ℕ) (s : State) (k : ℕ) (x : Stream)
     → NeverInterleaved a len s → find_stream k (queue_of s).streams ≡ some x → half_sent_first x.items ≡ true → is_waiting k (queue_of s) ≡ true
-    → (scheduler_at s.words).current ≡ remembered.Stream (record { 0 = k })
+    → (scheduler_at s.words).current ≡ Some (record { 0 = k })
 
 -- What a fragment shows is of the message i of the stream k, and not its first one.
 pub record RestOf (k : ℕ) (i : Item) (d : DataToSend) : Type 0 where

@@ -1,12 +1,12 @@
 -- The choice of the stream to send from, and a look at its head. Assumes nothing.
+use Rattle.std.specs.Prelude.{Some, None}
 use Rattle.std.specs.Prelude.{ℕ, Bool, false, List, ltb, leb}
 use Rattle.queue_words.specs.Flags.{pick}
 use Rattle.queue_words.specs.Active.{active_at}
 use Rattle.queue_words.specs.Find.{find_stream_words}
 use Rattle.queue_words.specs.Items.{item_at}
 use Rattle.queue_words.specs.Streams.{stream_at_words}
-use Rattle.queue_words.specs.declared.items.Expiry.{Expiry}
-use Rattle.queue_words.specs.declared.items.Expiry.TheVariants.{Never, At}
+use Rattle.queue_words.specs.Items.{Expiry}
 use Rattle.queue_words.specs.declared.items.Item.{Item}
 use Rattle.queue_words.specs.declared.known.Found.{Found}
 use Rattle.queue_words.specs.declared.known.Found.TheVariants as found
@@ -18,8 +18,8 @@ use Rattle.queue_sending.specs.declared.choice.Look.TheVariants as look
 
 -- "A message expires exactly if its time is at or before now".
 abbrev pub is_past : Expiry → ℕ → Bool
-is_past Never time = false
-is_past (At t) time = leb t time
+is_past None time = false
+is_past (Some t) time = leb t time
 
 unfoldable pub expired_by : Item → ℕ → Bool
 expired_by m time = is_past m.expires_at time

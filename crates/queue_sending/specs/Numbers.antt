@@ -1,4 +1,5 @@
 -- The numbers of a message. Assumes nothing.
+use Rattle.std.specs.Prelude.{Some}
 use Rattle.std.specs.Prelude.{ℕ, Bool}
 use Rattle.types.specs.Wrap.{wrapping_add}
 use Rattle.types.specs.declared.Fsn.{Fsn}
@@ -7,8 +8,7 @@ use Rattle.types.specs.declared.Ssn.{Ssn}
 use Rattle.queue_words.specs.Flags.{pick}
 use Rattle.queue_words.specs.Items.{are_given}
 use Rattle.queue_words.specs.declared.items.Item.{Item}
-use Rattle.queue_words.specs.declared.items.Numbers.{Numbers}
-use Rattle.queue_words.specs.declared.items.Numbers.TheVariants.{Given}
+use Rattle.queue_words.specs.Items.{Numbers}
 use Rattle.queue_words.specs.declared.streams.OutgoingStream.{OutgoingStream}
 use Rattle.message_chains.specs.Amounts.{sum}
 use Rattle.message_chains.specs.Numbers.{with_numbers}
@@ -25,7 +25,7 @@ next_fsn f = record { 0 = wrapping_add 32 f.0 1 }
 
 -- the MID and SSN that a stream gives next: "ordered and unordered counting separately in each stream; only ordered ones get an SSN, others show 0"
 abbrev pub next_numbers : OutgoingStream → Bool → Numbers
-next_numbers s unordered = pick unordered (Given s.next_unordered_mid (record { 0 = 0 })) (Given s.next_ordered_mid s.next_ssn)
+next_numbers s unordered = pick unordered (Some (record { mid = s.next_unordered_mid; ssn = (record { 0 = 0 }) })) (Some (record { mid = s.next_ordered_mid; ssn = s.next_ssn }))
 
 -- "A message gets its MID when its first fragment is made, ordered and unordered counting separately in each stream; only ordered ones get an SSN,
 -- others show 0."

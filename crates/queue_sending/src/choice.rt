@@ -4,7 +4,7 @@ ghost use Rattle.queue_sending.specs.Choice.{expired_by, look_at_words, look_for
 
 use queue_words::QUEUE_WORDS;
 use queue_words::active::load_active;
-use queue_words::items::{Expiry, Item, load_item};
+use queue_words::items::{Item, load_item};
 use queue_words::known::{Found, find_stream};
 use queue_words::limits::{LAST_MESSAGE, LAST_STREAM_ROW};
 use queue_words::streams::load_stream;
@@ -26,8 +26,8 @@ pub fn expired(m: Item, time: u64) -> bool
 {
     let e = m.expires_at;
     match e {
-        Expiry::Never => false,
-        Expiry::At(t) => t <= time,
+        None => false,
+        Some(t) => t <= time,
     }
 }
 

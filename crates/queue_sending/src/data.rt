@@ -3,7 +3,7 @@ ghost use Rattle.std.specs.Prelude.{◌≡◌};
 ghost use Rattle.queue_sending.specs.Data.{shown_lifecycle, data_to_send};
 
 use message_chains::amounts::remaining;
-use queue_words::items::{Expiry, Item};
+use queue_words::items::{Item, mid_in, ssn_in};
 use types::{Fsn, Mid, OutgoingMessageId, Ssn, StreamId, StreamKey};
 
 #[derive(Clone, Copy)]
@@ -24,7 +24,7 @@ pub struct DataToSend {
     pub message_id: OutgoingMessageId,
     pub data: Data,
     pub max_retransmissions: u16,
-    pub expires_at: Expiry,
+    pub expires_at: Option<u64>,
     pub lifecycle_id: u64,
 }
 
@@ -54,8 +54,8 @@ pub fn data_to_send(id: u16, m: Item, n: u64) -> DataToSend
     let is_end = n == left;
     let stream_key = StreamKey::new(m.unordered, StreamId(id));
     let numbers = m.numbers;
-    let ssn = numbers.ssn();
-    let mid = numbers.mid();
+    let ssn = ssn_in(numbers);
+    let mid = mid_in(numbers);
     let fsn = m.fsn;
     let data = Data {
         stream_key: stream_key,

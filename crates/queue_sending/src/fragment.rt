@@ -189,7 +189,7 @@ fn send(
     let item = numbered_item(s, m);
     let stream = numbered_stream(s, m);
     let numbers = m.numbers;
-    let had = numbers.are_given();
+    let had = numbers.is_some();
     write_sent(queue, at, id, row, stream, item, n, had);
     let d = data_to_send(id, item, n);
     Handed {

@@ -15,4 +15,3 @@ pub mod progress;
 
 pub use data::{Data, DataToSend, Produced};
 pub use next_fragment::{produce, produce_after};
-pub use queue_words::items::Expiry;

@@ -5,18 +5,24 @@ ghost use Rattle.queue_sending.specs.Numbers.{next_numbers, numbered_item, numbe
 
 use message_chains::amounts::plus;
 use message_chains::numbers::with_numbers;
-use queue_words::items::{Item, Numbers};
+use queue_words::items::{Item, MessageNumbers};
 use queue_words::streams::OutgoingStream;
 use types::{Mid, Ssn};
 
 // The numbers that the stream gives next.
-fn next_numbers(s: OutgoingStream, unordered: bool) -> Numbers
+fn next_numbers(s: OutgoingStream, unordered: bool) -> Option<MessageNumbers>
     ensures { result ≡ next_numbers s unordered }
 {
     if unordered {
-        return Numbers::Given(Mid(s.next_unordered_mid.0), Ssn(0));
+        return Some(MessageNumbers {
+            mid: Mid(s.next_unordered_mid.0),
+            ssn: Ssn(0),
+        });
     }
-    Numbers::Given(Mid(s.next_ordered_mid.0), Ssn(s.next_ssn.0))
+    Some(MessageNumbers {
+        mid: Mid(s.next_ordered_mid.0),
+        ssn: Ssn(s.next_ssn.0),
+    })
 }
 
 // The message with its numbers.
@@ -24,7 +30,7 @@ pub fn numbered_item(s: OutgoingStream, m: Item) -> Item
     ensures { result ≡ numbered_item s m }
 {
     let numbers = m.numbers;
-    let given = numbers.are_given();
+    let given = numbers.is_some();
     if given {
         return m;
     }
@@ -37,7 +43,7 @@ pub fn numbered_stream(s: OutgoingStream, m: Item) -> OutgoingStream
     ensures { result ≡ numbered_stream s m }
 {
     let numbers = m.numbers;
-    let given = numbers.are_given();
+    let given = numbers.is_some();
     if given {
         return s;
     }

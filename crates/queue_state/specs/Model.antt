@@ -1,4 +1,5 @@
 -- The queue that words and a store stand for. Assumes nothing.
+use Rattle.std.specs.Prelude.{Some, None}
 use Rattle.std.specs.Prelude.{ℕ, zero, suc, List, [], ◌∷◌}
 use Rattle.std.proofs.Math.Option.{Option, none, some}
 use Rattle.queue_model.specs.Types.{PauseState, not_paused, pending, paused, resetting, Stream, Queue}
@@ -8,11 +9,9 @@ use Rattle.queue_words.specs.Items.{item_at, ssn_in}
 use Rattle.queue_words.specs.Known.{known_at}
 use Rattle.queue_words.specs.Streams.{stream_at_words}
 use Rattle.queue_words.specs.declared.header.Options.{Options}
-use Rattle.queue_words.specs.declared.items.Expiry.{Expiry}
-use Rattle.queue_words.specs.declared.items.Expiry.TheVariants.{Never, At}
+use Rattle.queue_words.specs.Items.{Expiry}
 use Rattle.queue_words.specs.declared.items.Item.{Item}
-use Rattle.queue_words.specs.declared.items.Numbers.{Numbers}
-use Rattle.queue_words.specs.declared.items.Numbers.TheVariants.{Missing, Given}
+use Rattle.queue_words.specs.Items.{Numbers}
 use Rattle.queue_words.specs.declared.streams.OutgoingStream.{OutgoingStream}
 use Rattle.queue_words.specs.declared.streams.PauseState as words
 use Rattle.queue_words.specs.declared.streams.PauseState.TheVariants.{NotPaused, Pending, Paused, Resetting}
@@ -33,12 +32,12 @@ next_of ws x = (item_at ws x).next
 
 -- its expiry, and its MID, where it has them
 abbrev pub expires_of : Expiry → Option ℕ
-expires_of Never = none
-expires_of (At t) = some t
+expires_of None = none
+expires_of (Some t) = some t
 
 abbrev pub mid_of : Numbers → Option ℕ
-mid_of Missing = none
-mid_of (Given mid ssn) = some mid.0
+mid_of None = none
+mid_of (Some n) = some n.mid.0
 
 -- a waiting message with its payload
 abbrev pub item_of : Item → List ℕ → plain.Item

@@ -1,13 +1,12 @@
 -- The header: the options from word 0, the totals from word 7, the scheduler's state from word 18. Assumes nothing.
-use Rattle.std.specs.Prelude.{ℕ, ◌%◌, ◌<◌, Bool, true, false, List, [], ◌∷◌, ltb, get_or}
+use Rattle.std.specs.Prelude.{ℕ, ◌%◌, ◌<◌, Bool, true, false, List, [], ◌∷◌, Option, Some, None, ltb, get_or}
+use Rattle.types.specs.declared.StreamId.{StreamId}
 use Rattle.queue_words.specs.Rows.{row, put_row}
 use Rattle.queue_words.specs.Flags.{bit, flag, pick}
 use Rattle.queue_words.specs.declared.header.RestartRule.{RestartRule}
 use Rattle.queue_words.specs.declared.header.RestartRule.TheVariants.{Dcsctp, Strict}
 use Rattle.queue_words.specs.declared.header.Options.{Options}
 use Rattle.queue_words.specs.declared.header.Totals.{Totals}
-use Rattle.queue_words.specs.declared.header.Remembered.{Remembered}
-use Rattle.queue_words.specs.declared.header.Remembered.TheVariants.{NoStream, Stream}
 use Rattle.queue_words.specs.declared.header.SchedulerState.{SchedulerState}
 
 -- whether a rule is the strict one
@@ -50,14 +49,18 @@ abbrev pub totals_words : Totals → List ℕ
 totals_words t = bit t.interleaving ∷ t.next_message_id.0 ∷ t.total ∷ t.known ∷ t.waiting ∷ t.free ∷ t.used
     ∷ t.gaps.end ∷ t.gaps.limit ∷ t.gaps.from ∷ t.gaps.upto ∷ []
 
+-- "the stream in mid-message if one is remembered"
+abbrev pub Remembered : Type 0
+Remembered = Option StreamId
+
 -- the remembered stream of a word: an id below 65,536, else none
 abbrev pub remembered_of : ℕ → Remembered
-remembered_of w = pick (ltb w 65536) (Stream (record { 0 = w })) NoStream
+remembered_of w = pick (ltb w 65536) (Some (record { 0 = w })) None
 
 -- the word of it
 abbrev pub remembered_word : Remembered → ℕ
-remembered_word NoStream = 65536
-remembered_word (Stream id) = id.0
+remembered_word None = 65536
+remembered_word (Some id) = id.0
 
 -- the scheduler's state in three words
 abbrev pub scheduler_of : List ℕ → SchedulerState
@@ -115,5 +118,5 @@ pub record FitsTotals (t : Totals) : Type 0 where
   pub message_id_fits : t.next_message_id.0 < 4294967296
 
 abbrev pub FitsRemembered : Remembered → Type 0
-FitsRemembered NoStream = Unit {0}
-FitsRemembered (Stream id) = id.0 < 65536
+FitsRemembered None = Unit {0}
+FitsRemembered (Some id) = id.0 < 65536

@@ -1,44 +1,49 @@
 -- The messages: 1,024 rows of 16 words from word 3104 on, 15 of them used. Assumes nothing.
-use Rattle.std.specs.Prelude.{ℕ, ◌+◌, ◌*◌, ◌%◌, ◌<◌, Bool, true, false, List, [], ◌∷◌, get_or, set}
+use Rattle.std.specs.Prelude.{ℕ, ◌+◌, ◌*◌, ◌%◌, ◌<◌, Bool, true, false, List, [], ◌∷◌, Option, Some, None, get_or, set}
 use Rattle.types.specs.declared.Mid.{Mid}
 use Rattle.types.specs.declared.Ssn.{Ssn}
 use Rattle.queue_words.specs.Rows.{row, put_row}
 use Rattle.queue_words.specs.Flags.{bit, flag, pick}
-use Rattle.queue_words.specs.declared.items.Expiry.{Expiry}
-use Rattle.queue_words.specs.declared.items.Expiry.TheVariants.{Never, At}
-use Rattle.queue_words.specs.declared.items.Numbers.{Numbers}
-use Rattle.queue_words.specs.declared.items.Numbers.TheVariants.{Missing, Given}
+use Rattle.queue_words.specs.declared.items.MessageNumbers.{MessageNumbers}
 use Rattle.queue_words.specs.declared.items.Item.{Item}
+
+-- when a message expires
+abbrev pub Expiry : Type 0
+Expiry = Option ℕ
+
+-- a message's MID and SSN, which it gets together
+abbrev pub Numbers : Type 0
+Numbers = Option MessageNumbers
 
 -- the expiry in two words, a flag and a time
 abbrev pub expiry_of : ℕ → ℕ → Expiry
-expiry_of f t = pick (flag f) (At t) Never
+expiry_of f t = pick (flag f) (Some t) None
 
 -- whether there is one, and its time, 0 for none
 abbrev pub has_expiry : Expiry → Bool
-has_expiry Never = false
-has_expiry (At t) = true
+has_expiry None = false
+has_expiry (Some t) = true
 
 abbrev pub expiry_at : Expiry → ℕ
-expiry_at Never = 0
-expiry_at (At t) = t
+expiry_at None = 0
+expiry_at (Some t) = t
 
 -- a message's MID and SSN in three words, a flag and the two
 abbrev pub numbers_of : ℕ → ℕ → ℕ → Numbers
-numbers_of f mid ssn = pick (flag f) (Given (record { 0 = mid % 4294967296 }) (record { 0 = ssn % 65536 })) Missing
+numbers_of f mid ssn = pick (flag f) (Some (record { mid = record { 0 = mid % 4294967296 }; ssn = record { 0 = ssn % 65536 } })) None
 
 -- whether it has them, and each, 0 where they are missing
 abbrev pub are_given : Numbers → Bool
-are_given Missing = false
-are_given (Given mid ssn) = true
+are_given None = false
+are_given (Some n) = true
 
 abbrev pub mid_in : Numbers → Mid
-mid_in Missing = record { 0 = 0 }
-mid_in (Given mid ssn) = mid
+mid_in None = record { 0 = 0 }
+mid_in (Some n) = n.mid
 
 abbrev pub ssn_in : Numbers → Ssn
-ssn_in Missing = record { 0 = 0 }
-ssn_in (Given mid ssn) = ssn
+ssn_in None = record { 0 = 0 }
+ssn_in (Some n) = n.ssn
 
 -- a message in fifteen words
 abbrev pub item_of : List ℕ → Item

@@ -16,7 +16,7 @@ const SCHEDULER: usize = 18;
 // Document 02, 6/13: "Creation chooses the rule, as in the Rust or strict." How a whole-queue reset puts a half-sent message back: with its numbers, as
 // dcSCTP does, or as one
 // that was never begun, as RFC 8260 has it.
-#[derive(Clone, Copy)]
+#[derive(Clone, Copy, Debug, PartialEq, Eq)]
 pub enum RestartRule {
     Dcsctp,
     Strict,
@@ -26,10 +26,7 @@ impl RestartRule {
     pub fn is_strict(self) -> bool
         ensures { result ≡ is_strict self }
     {
-        match self {
-            RestartRule::Dcsctp => false,
-            RestartRule::Strict => true,
-        }
+        self == RestartRule::Strict
     }
 }
 
@@ -72,38 +69,32 @@ pub struct Totals {
     pub gaps: Gaps,
 }
 
-// "the stream in mid-message if one is remembered".
-#[derive(Clone, Copy)]
-pub enum Remembered {
-    NoStream,
-    Stream(StreamId),
-}
-
 // The word for no stream, the least that is no id.
 const NO_STREAM: u64 = 65536;
 
 // The remembered stream of a word. A word above 65536, which no queue holds, is taken for none.
-fn remembered_of(w: u64) -> Remembered
+fn remembered_of(w: u64) -> Option<StreamId>
     ensures { result ≡ remembered_of w }
 {
     if w < NO_STREAM {
-        return Remembered::Stream(StreamId(w as u16));
+        return Some(StreamId(w as u16));
     }
-    Remembered::NoStream
+    None
 }
 
-fn remembered_word(r: Remembered) -> u64
+fn remembered_word(r: Option<StreamId>) -> u64
     ensures { result ≡ remembered_word r }
 {
     match r {
-        Remembered::NoStream => NO_STREAM,
-        Remembered::Stream(id) => id.0 as u64,
+        None => NO_STREAM,
+        Some(id) => id.0 as u64,
     }
 }
 
 #[derive(Clone, Copy)]
 pub struct SchedulerState {
-    pub current: Remembered,
+    // "the stream in mid-message if one is remembered".
+    pub current: Option<StreamId>,
     pub system_virtual_time: u64,
     // How many rows of the active table are in use.
     pub active: u64,

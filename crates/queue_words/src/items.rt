@@ -1,6 +1,6 @@
 // The messages: 1,024 rows of 16 words from word 3104 on, 15 of them used.
 ghost use Rattle.std.specs.Prelude.{◌≡◌, ◌<◌};
-ghost use Rattle.queue_words.specs.Items.{expiry_of, has_expiry, expiry_at, numbers_of, are_given, mid_in, ssn_in};
+ghost use Rattle.queue_words.specs.Items.{expiry_of, numbers_of, mid_in, ssn_in};
 ghost use Rattle.queue_words.specs.Items.{item_out, item_row_in, item_at, put_item};
 ghost use Rattle.queue_words.specs.Items.{put_next, put_place, put_length};
 
@@ -9,87 +9,29 @@ use types::{Fsn, Mid, OutgoingMessageId, Ssn};
 
 const BASE: usize = 3104;
 
-// When a message expires.
-#[derive(Clone, Copy)]
-pub enum Expiry {
-    Never,
-    At(u64),
-}
-
-impl Expiry {
-    pub fn is_given(self) -> bool
-        ensures { result ≡ has_expiry self }
-    {
-        match self {
-            Expiry::Never => false,
-            Expiry::At(_) => true,
-        }
-    }
-
-    // 0 where there is none.
-    pub fn time(self) -> u64
-        ensures { result ≡ expiry_at self }
-    {
-        match self {
-            Expiry::Never => 0,
-            Expiry::At(t) => t,
-        }
-    }
-}
-
-fn expiry_of(flag: u64, at: u64) -> Expiry
+fn expiry_of(flag: u64, at: u64) -> Option<u64>
     ensures { result ≡ expiry_of flag at }
 {
-    if flag == 1 {
-        return Expiry::At(at);
-    }
-    Expiry::Never
+    if flag == 1 { Some(at) } else { None }
 }
 
 // A message's MID and SSN, which it gets together.
-#[derive(Clone, Copy)]
-pub enum Numbers {
-    Missing,
-    Given(Mid, Ssn),
+#[derive(Clone, Copy, Debug, PartialEq, Eq)]
+pub struct MessageNumbers {
+    pub mid: Mid,
+    pub ssn: Ssn,
 }
 
-impl Numbers {
-    pub fn are_given(self) -> bool
-        ensures { result ≡ are_given self }
-    {
-        match self {
-            Numbers::Missing => false,
-            Numbers::Given(_, _) => true,
-        }
-    }
-
-    // 0 where they are missing; so is the SSN.
-    pub fn mid(self) -> Mid
-        ensures { result ≡ mid_in self }
-    {
-        match self {
-            Numbers::Missing => Mid(0),
-            Numbers::Given(mid, _) => mid,
-        }
-    }
-
-    pub fn ssn(self) -> Ssn
-        ensures { result ≡ ssn_in self }
-    {
-        match self {
-            Numbers::Missing => Ssn(0),
-            Numbers::Given(_, ssn) => ssn,
-        }
-    }
-}
-
-fn numbers_of(flag: u64, mid: u64, ssn: u64) -> Numbers
+fn numbers_of(flag: u64, mid: u64, ssn: u64) -> Option<MessageNumbers>
     ensures { result ≡ numbers_of flag mid ssn }
 {
     if flag == 1 {
-        return Numbers::Given(Mid((mid % 4294967296) as u32), Ssn((ssn % 65536) as u16));
+        return Some(MessageNumbers {
+            mid: Mid((mid % 4294967296) as u32),
+            ssn: Ssn((ssn % 65536) as u16),
+        });
     }
-    Numbers::Missing
+    None
 }
 
 #[derive(Clone, Copy)]
@@ -98,9 +40,10 @@ pub struct Item {
     pub unordered: bool,
     pub message_id: OutgoingMessageId,
     pub ppid: u32,
-    pub numbers: Numbers,
+    pub numbers: Option<MessageNumbers>,
     pub fsn: Fsn,
-    pub expires_at: Expiry,
+    // When it expires, if it does.
+    pub expires_at: Option<u64>,
     pub lifecycle_id: u64,
     // The payload's place in the store, its length, 0 for a free row, and the bytes handed out.
     pub place: u64,
@@ -108,6 +51,25 @@ pub struct Item {
     pub offset: u64,
     // The place of the next message of its chain, 1024 for none.
     pub next: u64,
+}
+
+// 0 where they are missing; so is the SSN.
+pub fn mid_in(numbers: Option<MessageNumbers>) -> Mid
+    ensures { result ≡ mid_in numbers }
+{
+    match numbers {
+        None => Mid(0),
+        Some(n) => n.mid,
+    }
+}
+
+pub fn ssn_in(numbers: Option<MessageNumbers>) -> Ssn
+    ensures { result ≡ ssn_in numbers }
+{
+    match numbers {
+        None => Ssn(0),
+        Some(n) => n.ssn,
+    }
 }
 
 fn item_out(queue: &[u64; QUEUE_WORDS], i: usize) -> Item
@@ -140,12 +102,12 @@ fn item_in(queue: &mut [u64; QUEUE_WORDS], i: usize, m: Item)
     // The cast of the innermost field stands first: after the stores the check does not find its bound.
     let fsn = m.fsn.0 as u64;
     let numbers = m.numbers;
-    let given = numbers.are_given();
-    let mid = numbers.mid();
-    let ssn = numbers.ssn();
+    let given = numbers.is_some();
+    let mid = mid_in(numbers);
+    let ssn = ssn_in(numbers);
     let e = m.expires_at;
-    let expires = e.is_given();
-    let time = e.time();
+    let expires = e.is_some();
+    let time = e.unwrap_or(0);
     let at = BASE + i * 16;
     queue[at + 0] = ssn.0 as u64;
     queue[at + 1] = m.max_retransmissions as u64;

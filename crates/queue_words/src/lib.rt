@@ -31,13 +31,12 @@ pub use active::{
     store_active,
 };
 pub use header::{
-    Gaps, Options, Remembered, RestartRule, SchedulerState, Totals, load_options,
-    load_scheduler_state, load_totals, options_fits, store_options, store_scheduler_state,
-    store_totals, totals_fits,
+    Gaps, Options, RestartRule, SchedulerState, Totals, load_options, load_scheduler_state,
+    load_totals, options_fits, store_options, store_scheduler_state, store_totals, totals_fits,
 };
 pub use items::{
-    Expiry, Item, Numbers, load_item, load_length, load_next, load_place, store_item, store_length,
-    store_next, store_place,
+    Item, MessageNumbers, load_item, load_length, load_next, load_place, mid_in, ssn_in,
+    store_item, store_length, store_next, store_place,
 };
 pub use known::{Found, Known, find_stream, known_fits, load_known, store_known};
 pub use leasts::{load_least, store_least};

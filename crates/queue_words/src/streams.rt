@@ -9,7 +9,7 @@ use types::{Mid, Ssn};
 const BASE: usize = 544;
 
 // "States: open, pending, paused, resetting." Open is the Rust's NotPaused.
-#[derive(Clone, Copy)]
+#[derive(Clone, Copy, Debug, PartialEq, Eq)]
 pub enum PauseState {
     NotPaused,
     Pending,
@@ -21,45 +21,25 @@ impl PauseState {
     pub fn is_open(self) -> bool
         ensures { result ≡ is_open self }
     {
-        match self {
-            PauseState::NotPaused => true,
-            PauseState::Pending => false,
-            PauseState::Paused => false,
-            PauseState::Resetting => false,
-        }
+        self == PauseState::NotPaused
     }
 
     pub fn is_pending(self) -> bool
         ensures { result ≡ is_pending self }
     {
-        match self {
-            PauseState::NotPaused => false,
-            PauseState::Pending => true,
-            PauseState::Paused => false,
-            PauseState::Resetting => false,
-        }
+        self == PauseState::Pending
     }
 
     pub fn is_paused(self) -> bool
         ensures { result ≡ is_paused_words self }
     {
-        match self {
-            PauseState::NotPaused => false,
-            PauseState::Pending => false,
-            PauseState::Paused => true,
-            PauseState::Resetting => false,
-        }
+        self == PauseState::Paused
     }
 
     pub fn is_resetting(self) -> bool
         ensures { result ≡ is_resetting_words self }
     {
-        match self {
-            PauseState::NotPaused => false,
-            PauseState::Pending => false,
-            PauseState::Paused => false,
-            PauseState::Resetting => true,
-        }
+        self == PauseState::Resetting
     }
 }
 
@@ -167,14 +147,7 @@ pub fn with_pause(s: OutgoingStream, state: PauseState) -> OutgoingStream
     ensures { result ≡ with_pause s state }
 {
     OutgoingStream {
-        priority: s.priority,
         pause_state: state,
-        next_ssn: Ssn(s.next_ssn.0),
-        next_unordered_mid: Mid(s.next_unordered_mid.0),
-        next_ordered_mid: Mid(s.next_ordered_mid.0),
-        buffered_amount: s.buffered_amount,
-        low_threshold: s.low_threshold,
-        first: s.first,
-        last: s.last,
+        ..s
     }
 }

@@ -1,8 +1,8 @@
 // Chunks on the wire: the lines `W kind buffer tsn stream unordered ssn mid fsn ppid first last length seed` and `R bytes`.
 use lent_calls::TOO_SHORT;
 use send_queue::{
-    Chunk, ChunkKind, ChunkRead, ChunkWritten, Data, DataToSend, Expiry, Fsn, Mid,
-    OutgoingMessageId, Ssn, StreamId, StreamKey, read_chunk, write_chunk,
+    Chunk, ChunkKind, ChunkRead, ChunkWritten, Data, DataToSend, Fsn, Mid, OutgoingMessageId, Ssn,
+    StreamId, StreamKey, read_chunk, write_chunk,
 };
 use trace_answers::fragments::put_fields;
 use trace_answers::marks::{BEFORE, OUTPUT, SHOWN, as_before};
@@ -43,7 +43,7 @@ fn fragment_of(state: &[u64; STATE]) -> DataToSend {
         message_id: OutgoingMessageId(0),
         data: data,
         max_retransmissions: 0,
-        expires_at: Expiry::Never,
+        expires_at: None,
         lifecycle_id: 0,
     }
 }

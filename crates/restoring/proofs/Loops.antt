@@ -1,4 +1,5 @@
 -- The loops: the first records or streams are done. Assumes nothing.
+use Rattle.std.specs.Prelude.{Some, None}
 use mathlib.Core.Path.{◌≡◌, refl, ap, ◌∙◌, sym}
 use mathlib.Core.Bool.{Bool, true, false}
 use mathlib.Core.List.{List}
@@ -10,7 +11,6 @@ use native.Mathlib.Numerals.{add-one}
 use native.Mathlib.Omega.{arith}
 use Rattle.queue_words.specs.Known.{known_at}
 use Rattle.queue_words.specs.declared.known.Known.{Known}
-use Rattle.queue_words.specs.declared.header.Remembered.TheVariants.{NoStream, Stream}
 use Rattle.restoring.specs.Streams.{stream_restored, streams_restored}
 use Rattle.restoring.specs.Messages.{Restored, restored, hung_with, message_restored, messages_restored, waits_at, waits_all}
 use Rattle.restoring.specs.Recall.{half_sent_at, first_half_sent_words}
@@ -68,7 +68,7 @@ module _ (ws : List ℕ) (n : ℕ) where
 
   module _ (i : ℕ) (inv : first_half_sent_words ws 0 n ≡ first_half_sent_words ws i (n - i)) where
     module _ (h : i < n) (k : Known) (ek : k ≡ known_at ws i) (b : Bool) (eb : b ≡ half_sent_at ws k) where
-      pub half_here : b ≡ true → Stream (record { 0 = k.id.0 }) ≡ first_half_sent_words ws 0 n
+      pub half_here : b ≡ true → Some (record { 0 = k.id.0 }) ≡ first_half_sent_words ws 0 n
       unfolding first_half_sent_words
       half_here g =
           let s : n - i ≡ suc (n - (i + 1)) = omega arith in
@@ -80,7 +80,7 @@ module _ (ws : List ℕ) (n : ℕ) where
           let s : n - i ≡ suc (n - (i + 1)) = omega arith in
           inv ∙ rw (s, ← ek, ← eb, g, add-one)
 
-    pub half_end : n ≤ i → NoStream ≡ first_half_sent_words ws 0 n
+    pub half_end : n ≤ i → None ≡ first_half_sent_words ws 0 n
     unfolding first_half_sent_words
     half_end g =
         let s : n - i ≡ 0 = omega arith in

@@ -1,4 +1,5 @@
 -- Restoring, second: the messages from their records. Assumes nothing.
+use Rattle.std.specs.Prelude.{Some, None}
 use Rattle.std.specs.Prelude.{ℕ, zero, suc, ◌+◌, ◌*◌, ◌-◌, Bool, List, ltb, length, take, drop}
 use Rattle.queue_model.specs.Reader.{has_flag}
 use Rattle.queue_words.specs.Flags.{pick}
@@ -7,11 +8,9 @@ use Rattle.queue_words.specs.Items.{item_at, put_item}
 use Rattle.queue_words.specs.Known.{known_at}
 use Rattle.queue_words.specs.Streams.{stream_at_words}
 use Rattle.queue_words.specs.declared.header.Totals.{Totals}
-use Rattle.queue_words.specs.declared.items.Expiry.{Expiry}
-use Rattle.queue_words.specs.declared.items.Expiry.TheVariants.{Never, At}
+use Rattle.queue_words.specs.Items.{Expiry}
 use Rattle.queue_words.specs.declared.items.Item.{Item}
-use Rattle.queue_words.specs.declared.items.Numbers.{Numbers}
-use Rattle.queue_words.specs.declared.items.Numbers.TheVariants.{Missing, Given}
+use Rattle.queue_words.specs.Items.{Numbers}
 use Rattle.queue_words.specs.declared.known.Known.{Known}
 use Rattle.queue_words.specs.declared.streams.OutgoingStream.{OutgoingStream}
 use Rattle.payload_store.specs.Putting.{put_payload}
@@ -27,10 +26,10 @@ use Rattle.restoring.specs.declared.message_records.Home.{Home}
 
 -- its MID and SSN, where the MID is given; its expiry, at the time + milliseconds left
 abbrev pub restored_numbers : Bool → ℕ → ℕ → Numbers
-restored_numbers given mid ssn = pick given (Given (record { 0 = mid }) (record { 0 = ssn })) Missing
+restored_numbers given mid ssn = pick given (Some (record { mid = record { 0 = mid }; ssn = record { 0 = ssn } })) None
 
 abbrev pub restored_expiry : Bool → ℕ → ℕ → Expiry
-restored_expiry expires time left = pick expires (At (time + left * 1000000)) Never
+restored_expiry expires time left = pick expires (Some (time + left * 1000000)) None
 
 -- the message as it waits, its payload not yet stored
 unfoldable pub restored_item_words : ℕ → HandoverStreamMessage → Item

@@ -12,7 +12,7 @@ use queue_messages::adding::link_last;
 use queue_streams::{Place, insert_stream, look_up, new_stream};
 use queue_words::QUEUE_WORDS;
 use queue_words::header::{load_options, load_totals, store_totals};
-use queue_words::items::{Expiry, Item, Numbers, load_next, store_item};
+use queue_words::items::{Item, MessageNumbers, load_next, store_item};
 use queue_words::limits::{LAST_MESSAGE, LAST_STREAM_ROW, NO_MESSAGE, STREAM_ROWS};
 use queue_words::streams::{OutgoingStream, load_stream, store_chain};
 use types::{Fsn, Mid, OutgoingMessageId, Ssn};
@@ -25,23 +25,26 @@ fn has_flag(n: u8, flags: u8) -> bool
     flags / n % 2 == 1
 }
 
-fn restored_numbers(given: bool, mid: u32, ssn: u16) -> Numbers
+fn restored_numbers(given: bool, mid: u32, ssn: u16) -> Option<MessageNumbers>
     ensures { result ≡ restored_numbers given mid ssn }
 {
     if given {
-        return Numbers::Given(Mid(mid), Ssn(ssn));
+        return Some(MessageNumbers {
+            mid: Mid(mid),
+            ssn: Ssn(ssn),
+        });
     }
-    Numbers::Missing
+    None
 }
 
-fn restored_expiry(expires: bool, time: u64, ms_left: u32) -> Expiry
+fn restored_expiry(expires: bool, time: u64, ms_left: u32) -> Option<u64>
     requires { time ≤ 4611686018427387903 }
     ensures { result ≡ restored_expiry expires time ms_left }
 {
     if expires {
-        return Expiry::At(time + ms_left as u64 * 1000000);
+        return Some(time + ms_left as u64 * 1000000);
     }
-    Expiry::Never
+    None
 }
 
 // The message as it waits, its payload not yet stored.

@@ -4,9 +4,7 @@ ghost use Rattle.std.specs.Prelude.{◌≡◌, ◌≤◌};
 ghost use Rattle.restoring.specs.Recall.{half_sent_at, first_half_sent_words, recalled};
 
 use queue_words::QUEUE_WORDS;
-use queue_words::header::{
-    Remembered, SchedulerState, load_scheduler_state, store_scheduler_state,
-};
+use queue_words::header::{SchedulerState, load_scheduler_state, store_scheduler_state};
 use queue_words::items::load_item;
 use queue_words::known::{Known, load_known};
 use queue_words::limits::{LAST_STREAM, NO_MESSAGE};
@@ -29,7 +27,7 @@ fn is_half_sent(queue: &[u64; QUEUE_WORDS], k: Known) -> bool
 }
 
 // Of n known streams the first whose first message is half-sent; the known streams stand by rising id.
-fn first_half_sent(queue: &[u64; QUEUE_WORDS], n: usize) -> Remembered
+fn first_half_sent(queue: &[u64; QUEUE_WORDS], n: usize) -> Option<StreamId>
     requires { n ≤ 256 }
     ensures { result ≡ first_half_sent_words queue.now 0 n }
 {
@@ -37,10 +35,10 @@ fn first_half_sent(queue: &[u64; QUEUE_WORDS], n: usize) -> Remembered
         let k = load_known(queue, i);
         let half = is_half_sent(queue, k);
         if half {
-            return Remembered::Stream(StreamId(k.id.0));
+            return Some(StreamId(k.id.0));
         }
     }
-    Remembered::NoStream
+    None
 }
 
 // The stream is remembered.

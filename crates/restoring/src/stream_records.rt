@@ -8,8 +8,8 @@ use queue_messages::creation::free_all;
 use queue_streams::insert_stream;
 use queue_words::QUEUE_WORDS;
 use queue_words::header::{
-    Gaps, Options, Remembered, SchedulerState, Totals, load_options, load_totals,
-    store_scheduler_state, store_totals,
+    Gaps, Options, SchedulerState, Totals, load_options, load_totals, store_scheduler_state,
+    store_totals,
 };
 use queue_words::limits::{LAST_STREAM, NO_MESSAGE};
 use queue_words::streams::{OutgoingStream, PauseState};
@@ -41,7 +41,7 @@ pub fn empty_queue(queue: &mut [u64; QUEUE_WORDS], next_message_id: u32)
     store_scheduler_state(
         queue,
         SchedulerState {
-            current: Remembered::NoStream,
+            current: None,
             system_virtual_time: 0,
             active: 0,
         },

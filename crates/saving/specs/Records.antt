@@ -1,10 +1,10 @@
 -- The records of a queue's streams and messages, on the words. Assumes nothing.
+use Rattle.std.specs.Prelude.{Some, None}
 use Rattle.std.specs.Prelude.{ℕ, ◌+◌, ◌-◌, ◌*◌, ◌/◌, List, ltb, leb}
 use Rattle.queue_words.specs.Flags.{pick}
 use Rattle.queue_words.specs.Header.{options_at, totals_at}
 use Rattle.queue_words.specs.Items.{has_expiry, are_given, mid_in, ssn_in}
-use Rattle.queue_words.specs.declared.items.Expiry.{Expiry}
-use Rattle.queue_words.specs.declared.items.Expiry.TheVariants.{Never, At}
+use Rattle.queue_words.specs.Items.{Expiry}
 use Rattle.queue_words.specs.declared.items.Item.{Item}
 use Rattle.queue_words.specs.declared.streams.OutgoingStream.{OutgoingStream}
 use Rattle.handover_records.specs.declared.records.HandoverOutgoingStream.{HandoverOutgoingStream}
@@ -30,8 +30,8 @@ unfoldable pub left_at : ℕ → ℕ → ℕ
 left_at time at = pick (leb at time) 0 (pick (ltb 2147483647 ((at - time) / 1000000)) 2147483647 ((at - time) / 1000000))
 
 abbrev pub left_of : Expiry → ℕ → ℕ
-left_of Never time = 0
-left_of (At t) time = left_at time t
+left_of None time = 0
+left_of (Some t) time = left_at time t
 
 unfoldable pub ms_left : Item → ℕ → ℕ
 ms_left m time = left_of m.expires_at time

@@ -12,7 +12,7 @@ ghost use Rattle.saving.specs.Bytes.{item_bytes, chain_bytes, messages_from};
 
 use handover_records::records::{HandoverStreamMessage, put_message};
 use queue_words::QUEUE_WORDS;
-use queue_words::items::{Expiry, Item, load_item};
+use queue_words::items::{Item, load_item, mid_in, ssn_in};
 use queue_words::known::load_known;
 use queue_words::limits::{CHAIN_STEPS, LAST_MESSAGE};
 use queue_words::streams::load_stream;
@@ -56,8 +56,8 @@ fn ms_left(m: Item, time: u64) -> u32
 {
     let e = m.expires_at;
     match e {
-        Expiry::Never => 0,
-        Expiry::At(t) => left_at(time, t),
+        None => 0,
+        Some(t) => left_at(time, t),
     }
 }
 
@@ -67,12 +67,12 @@ fn message_record(m: Item, id: u16, time: u64) -> HandoverStreamMessage
 {
     let unordered = given(m.unordered, 1);
     let numbers = m.numbers;
-    let has_numbers = numbers.are_given();
+    let has_numbers = numbers.is_some();
     let mid_given = given(has_numbers, 2);
-    let mid = numbers.mid();
-    let ssn = numbers.ssn();
+    let mid = mid_in(numbers);
+    let ssn = ssn_in(numbers);
     let e = m.expires_at;
-    let expires = e.is_given();
+    let expires = e.is_some();
     let lifetime = given(expires, 4);
     let flags = unordered + mid_given + lifetime;
     HandoverStreamMessage {

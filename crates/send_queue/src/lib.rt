@@ -11,7 +11,7 @@ pub use queue_messages::{Lifetime, MaxRetransmissions, Message};
 pub use queue_words::RestartRule;
 // The next fragment.
 pub use linked_sending::produce;
-pub use queue_sending::{Data, DataToSend, Expiry, Produced};
+pub use queue_sending::{Data, DataToSend, Produced};
 // Closing and restarting streams.
 pub use linked_dropping::prepare_reset_stream;
 pub use linked_restarts::{

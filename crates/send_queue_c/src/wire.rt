@@ -9,7 +9,7 @@ ghost use Rattle.send_queue_c.specs.Given.{GivesWritten, GivesRead};
 use host_numbers::{is_yes, show};
 use out_array::{OUT_WORDS, VALUE};
 use send_queue::{
-    ChunkKind, ChunkRead, ChunkWritten, Data, DataToSend, Expiry, Fsn, Mid, OutgoingMessageId, Ssn,
+    ChunkKind, ChunkRead, ChunkWritten, Data, DataToSend, Fsn, Mid, OutgoingMessageId, Ssn,
     StreamId, StreamKey, read_chunk, write_chunk,
 };
 
@@ -70,7 +70,7 @@ fn fragment_of(
         message_id: OutgoingMessageId(0),
         data: data,
         max_retransmissions: 0,
-        expires_at: Expiry::At(0),
+        expires_at: Some(0),
         lifecycle_id: 0,
     }
 }

@@ -1,5 +1,6 @@
 -- From good words `accept_last` leaves good words that stand for the model's: the stream's waiting ended by its last fragment, and begun anew with what is behind it. No other
 -- row is that stream's (`GoodScheduler`), so none has to be sought. Assumes nothing.
+use Rattle.std.specs.Prelude.{None}
 use mathlib.Core.Path.{◌≡◌, refl, sym, ap, ap₂, ◌∙◌, subst}
 use mathlib.Core.Bool.{true}
 use mathlib.Core.List.{List, [], ◌∷◌}
@@ -16,7 +17,6 @@ use Rattle.queue_words.specs.Active.{active_at, put_active_words, parameters_wor
 use Rattle.queue_words.specs.Header.{options_at, scheduler_at, put_scheduler}
 use Rattle.queue_words.specs.declared.active.ActiveStreamInfo.{ActiveStreamInfo}
 use Rattle.queue_words.specs.declared.active.SchedulingParameters.{SchedulingParameters}
-use Rattle.queue_words.specs.declared.header.Remembered.TheVariants.{NoStream}
 use Rattle.active_table.specs.Groups.{refreshed}
 use Rattle.stream_scheduler.specs.Rows.{weight_of_words, advanced, scheduled_row}
 use Rattle.stream_scheduler.specs.Words.{outcome, rested, state_of, dropped_row}
@@ -67,7 +67,7 @@ module _ (ws : List ℕ) (g : GoodScheduler ws) (at sent : ℕ) (h : at < (sched
   start_is = elim (count (scheduler_at ws).active) [
     | none_there z ↦ absurd (omega arith)
     | some_there m z ↦ (let e : suc m - 1 ≡ m = omega arith in
-        rw (z, e) (sym (dropped_rest ws g at m NoStream time (subst (λ (x : ℕ). at < x) z h) z)))
+        rw (z, e) (sym (dropped_rest ws g at m None time (subst (λ (x : ℕ). at < x) z h) z)))
   ]
 
   ended : accept_last (entry_at ws at) sent (model_scheduler ws) ≡ make limit none start others
@@ -100,15 +100,15 @@ module _ (ws : List ℕ) (g : GoodScheduler ws) (at sent : ℕ) (h : at < (sched
     unfolding begun_anew
     anew_link pos =
         let row : ActiveStreamInfo = scheduled_row limit id (parameters_word p) start bytes in
-        subst (Steps ws (outcome true (put_scheduler (put_active_words ws at row) (state_of NoStream start (scheduler_at ws).active))))
+        subst (Steps ws (outcome true (put_scheduler (put_active_words ws at row) (state_of None start (scheduler_at ws).active))))
         (ap₂ (λ (c : Option ℕ) (a : Active). make limit c start (put_active a table)) current_none (row_entry ws g id bytes p (id_fits ws at) fp start) ∙ some_behind pos)
-        (row_link ws g at h row (row_fits ws g id bytes p (id_fits ws at) fp start) refl NoStream start tt)
+        (row_link ws g at h row (row_fits ws g id bytes p (id_fits ws at) fp start) refl None start tt)
 
     row_ended : Steps ws (outcome true (last_row ws at id sent bytes (parameters_word p) (scheduler_at ws).active)) (set_bytes_remaining id bytes (weight_of_words p) (accept_last (entry_at ws at) sent (model_scheduler ws)))
     unfolding last_row
     row_ended = elim (tri bytes 0) [
       | less l ↦ absurd (omega arith)
-      | same z ↦ rw (eqb_true z, z) (subst (Steps ws (outcome true (dropped_row ws at NoStream time (scheduler_at ws).active))) (none_behind (weight_of_words p)) (accept_last_link ws g at sent h))
+      | same z ↦ rw (eqb_true z, z) (subst (Steps ws (outcome true (dropped_row ws at None time (scheduler_at ws).active))) (none_behind (weight_of_words p)) (accept_last_link ws g at sent h))
       | more l ↦ (let ne : bytes ≡ 0 → ⊥ = λ f. omega arith in rw (eqb_false ne) (anew_link l))
     ]
 

@@ -1,4 +1,5 @@
 -- The ways out of the scheduler's functions, over plain values: a callee's result is a variable, what it ensures a hypothesis. Assumes nothing.
+use Rattle.std.specs.Prelude.{Some, None}
 use mathlib.Core.Path.{◌≡◌, refl, sym, ◌∙◌}
 use mathlib.Core.Bool.{Bool, true, false}
 use mathlib.Core.List.{List, [], ◌∷◌}
@@ -18,8 +19,7 @@ use Rattle.queue_words.specs.declared.active.ActiveStreamInfo.{ActiveStreamInfo}
 use Rattle.queue_words.specs.declared.active.SchedulingParameters.{SchedulingParameters}
 use Rattle.queue_words.specs.declared.active.SchedulingParameters.TheVariants.{RoundRobin, WeightedFairQueuing}
 use Rattle.queue_words.specs.declared.header.Options.{Options}
-use Rattle.queue_words.specs.declared.header.Remembered.{Remembered}
-use Rattle.queue_words.specs.declared.header.Remembered.TheVariants.{NoStream, Stream}
+use Rattle.queue_words.specs.Header.{Remembered}
 use Rattle.queue_words.specs.declared.header.SchedulerState.{SchedulerState}
 use Rattle.active_table.specs.Groups.{least_known, refreshed}
 use Rattle.active_table.specs.Rows.{seek}
@@ -245,7 +245,7 @@ dropped_few ws us at c t n e h = put_few _ us _ e (omega arith)
 module _ (ws : List ℕ) (at bytes : ℕ) (s : SchedulerState) (es : s ≡ scheduler_at ws) where
   module _ (h : s.active ≤ 256) where
     module _ (f : at < s.active) (a : ActiveStreamInfo) (ea : a ≡ active_at ws at) (t : ℕ) (et : t ≡ advanced a.parameters a.virtual_start_time bytes) where
-      pub accept_last : (l r : List ℕ) → a.bytes_remaining ≤ bytes → l ≡ dropped_row ws at NoStream t s.active → r ≡ refreshed l at → outcome true r ≡ accept_at ws at bytes
+      pub accept_last : (l r : List ℕ) → a.bytes_remaining ≤ bytes → l ≡ dropped_row ws at None t s.active → r ≡ refreshed l at → outcome true r ≡ accept_at ws at bytes
       unfolding accept_at accept_row
       accept_last l r g el er = rw (← es, le-ltb _ _ h, lt-leb _ _ f, ← ea, le-leb _ _ g, er, el, et)
 
@@ -256,10 +256,10 @@ module _ (ws : List ℕ) (at bytes : ℕ) (s : SchedulerState) (es : s ≡ sched
       accept_part o row c l m r g eo er el ec em ef = rw (← es, le-ltb _ _ h, lt-leb _ _ f, ← ea, lt-leb _ _ g, ← eo, ef, em, el, er, ec, et)
 
 module _ (id w : ℕ) (p : SchedulingParameters) (ep : p ≡ parameters_of w) where
-  pub remembered_turns : p ≡ RoundRobin → Stream (record { 0 = id }) ≡ remembered_by id w
+  pub remembered_turns : p ≡ RoundRobin → Some (record { 0 = id }) ≡ remembered_by id w
   remembered_turns ev = rw (← ep, ev)
 
-  pub remembered_weighted : (v : ℕ) → p ≡ WeightedFairQueuing v → NoStream ≡ remembered_by id w
+  pub remembered_weighted : (v : ℕ) → p ≡ WeightedFairQueuing v → None ≡ remembered_by id w
   remembered_weighted v ev = rw (← ep, ev)
 
 module _ (ws : List ℕ) (id : ℕ) (s : SchedulerState) (es : s ≡ scheduler_at ws) where

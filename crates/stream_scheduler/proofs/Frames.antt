@@ -18,7 +18,7 @@ use Rattle.queue_words.proofs.Laws.{options_put_least, totals_put_least, known_p
 use Rattle.active_table.specs.Groups.{refreshed}
 use Rattle.active_table.specs.Rows.{seek}
 use Rattle.active_table.proofs.Choice.{refreshed_puts}
-use Rattle.queue_words.specs.declared.header.Remembered.{Remembered}
+use Rattle.queue_words.specs.Header.{Remembered}
 use Rattle.stream_scheduler.specs.Words.{Outcome, outcome, dropped_row, taken_out, remove_stream_words, set_in, set_bytes_remaining_words, accept_row, accept_at}
 use Rattle.stream_scheduler.specs.Link.{GoodScheduler, FitsParameters, listed, free, Untouched}
 use Rattle.stream_scheduler.proofs.Search.{Sought, hit, miss, sought}

@@ -1,4 +1,5 @@
 -- From good words `accept` leaves good words that stand for the model's, and `peek` chooses what the model chooses. Assumes nothing.
+use Rattle.std.specs.Prelude.{Some, None}
 use mathlib.Core.Path.{◌≡◌, refl, sym, ap, ap₂, ◌∙◌, subst}
 use mathlib.Core.Bool.{Bool, true, false}
 use mathlib.Core.List.{List, []}
@@ -14,8 +15,7 @@ use Rattle.queue_words.specs.Active.{active_at, put_active_words, FitsActive, pa
 use Rattle.queue_words.specs.declared.active.SchedulingParameters.{SchedulingParameters}
 use Rattle.types.specs.declared.StreamId.{StreamId}
 use Rattle.queue_words.specs.Header.{options_at, scheduler_at, put_scheduler, FitsRemembered}
-use Rattle.queue_words.specs.declared.header.Remembered.{Remembered}
-use Rattle.queue_words.specs.declared.header.Remembered.TheVariants.{NoStream, Stream}
+use Rattle.queue_words.specs.Header.{Remembered}
 use Rattle.queue_words.specs.declared.active.ActiveStreamInfo.{ActiveStreamInfo}
 use Rattle.queue_words.proofs.Laws.{active_at_fits}
 use Rattle.stream_scheduler.specs.declared.Peeked.TheVariants.{At, Nothing, Broken}
@@ -66,21 +66,21 @@ module _ (ws : List ℕ) (g : GoodScheduler ws) (at bytes : ℕ) (h : at < (sche
   abbrev time : ℕ
   time = advanced (active_at ws at).parameters (active_at ws at).virtual_start_time bytes
 
-  pub accept_last_link : Steps ws (outcome true (dropped_row ws at NoStream time (scheduler_at ws).active)) (accept_last (entry_at ws at) bytes (model_scheduler ws))
+  pub accept_last_link : Steps ws (outcome true (dropped_row ws at None time (scheduler_at ws).active)) (accept_last (entry_at ws at) bytes (model_scheduler ws))
   accept_last_link = elim (count (scheduler_at ws).active) [
     | none_there z ↦ absurd (omega arith)
     | some_there m z ↦ (let h' : at < suc m = subst (λ (x : ℕ). at < x) z h in
         let l : ℕ = (options_at ws).payload_limit in
         let id : ℕ = (entry_at ws at).stream_id in
-        let q : dropped_row ws at NoStream time (scheduler_at ws).active ≡ dropped_row ws at NoStream time (suc m) = ap (dropped_row ws at NoStream time) z in
+        let q : dropped_row ws at None time (scheduler_at ws).active ≡ dropped_row ws at None time (suc m) = ap (dropped_row ws at None time) z in
         record {
           step_done = refl;
-          step_good = subst GoodScheduler (sym q) (dropped_good ws g at m NoStream time h' z);
-          step_model = ap model_scheduler q ∙ dropped_model ws g at m NoStream time h' z tt
+          step_good = subst GoodScheduler (sym q) (dropped_good ws g at m None time h' z);
+          step_model = ap model_scheduler q ∙ dropped_model ws g at m None time h' z tt
               ∙ ap₂ (λ (x : Option ℕ) (y : ℕ). make l x (rest_time time (without_active id (table_of (entry_at ws) y))) (without_active id (table_of (entry_at ws) y))) (current_none ∙ sym (forget_own id)) (sym z)
               ∙ ap (λ (x : ℕ). make l (forget id (some id)) (rest_time x (without_active id (table_of (entry_at ws) (scheduler_at ws).active))) (without_active id (table_of (entry_at ws) (scheduler_at ws).active))) (sym (moved_is ws at bytes))
               ∙ sym (last_is ws (entry_at ws at) bytes);
-          step_count = subst (λ (x : List ℕ). (scheduler_at x).active ≤ suc (scheduler_at ws).active) (sym q) (dropped_count ws g at m NoStream time h' z);
+          step_count = subst (λ (x : List ℕ). (scheduler_at x).active ≤ suc (scheduler_at ws).active) (sym q) (dropped_count ws g at m None time h' z);
         })
   ]
 
@@ -119,7 +119,7 @@ module _ (ws : List ℕ) (g : GoodScheduler ws) (at bytes : ℕ) (h : at < (sche
   same_size = refl
 
   by_size : (b : Bool) → leb (active_at ws at).bytes_remaining bytes ≡ b
-      → Steps ws (outcome true (if b then dropped_row ws at NoStream time (scheduler_at ws).active else put_scheduler (put_active_words ws at part) (state_of (remembered_by (active_at ws at).stream_id.0 (active_at ws at).parameters) time (scheduler_at ws).active)))
+      → Steps ws (outcome true (if b then dropped_row ws at None time (scheduler_at ws).active else put_scheduler (put_active_words ws at part) (state_of (remembered_by (active_at ws at).stream_id.0 (active_at ws at).parameters) time (scheduler_at ws).active)))
       (if b then accept_last (entry_at ws at) bytes (model_scheduler ws) else accept_part (entry_at ws at) bytes (model_scheduler ws))
   by_size true e = accept_last_link
   by_size false e = accept_part_link
@@ -175,7 +175,7 @@ module _ (ws : List ℕ) (g : GoodScheduler ws) where
       nothing_remembered (some k) = remembered_some k ∙ table_none (entry_at ws) (scheduler_at ws).active k (λ i h f. omega arith)
 
   -- The remembered stream's row.
-  peek_current : (k : StreamId) (i : ℕ) → (scheduler_at ws).current ≡ Stream k → i < (scheduler_at ws).active → (entry_at ws i).stream_id ≡ k.0 → peek (model_scheduler ws) ≡ some (entry_at ws i)
+  peek_current : (k : StreamId) (i : ℕ) → (scheduler_at ws).current ≡ Some k → i < (scheduler_at ws).active → (entry_at ws i).stream_id ≡ k.0 → peek (model_scheduler ws) ≡ some (entry_at ws i)
   peek_current k i ec h e =
       let t : List Active = table_of (entry_at ws) (scheduler_at ws).active in
       peek_is ∙ ap (λ (x : Option Active). or_else x (least_of t)) (ap (λ (x : Remembered). remembered (current_of x) t) ec ∙ ap (λ (x : Option ℕ). remembered x t) (current_some k) ∙ remembered_some k.0
@@ -201,12 +201,12 @@ module _ (ws : List ℕ) (g : GoodScheduler ws) where
       let pos : 0 < (scheduler_at ws).active = omega arith in
       subst (Chooses ws (peek (model_scheduler ws))) (sym (among_least i h)) (row_chosen (least_known ws (scheduler_at ws).active).at (known_in ws (scheduler_at ws).active pos) (peek_least pos r))
 
-  chooses_some : (m : ℕ) → (scheduler_at ws).active ≡ suc m → (c : StreamId) → (scheduler_at ws).current ≡ Stream c → (i : ℕ) → Sought ws c.0 (scheduler_at ws).active i → Chooses ws (peek (model_scheduler ws)) (peek_among ws (scheduler_at ws).active i)
+  chooses_some : (m : ℕ) → (scheduler_at ws).active ≡ suc m → (c : StreamId) → (scheduler_at ws).current ≡ Some c → (i : ℕ) → Sought ws c.0 (scheduler_at ws).active i → Chooses ws (peek (model_scheduler ws)) (peek_among ws (scheduler_at ws).active i)
   chooses_some m z c ec i (hit h e) = subst (Chooses ws (peek (model_scheduler ws))) (sym (among i h)) (row_chosen i h (peek_current c i ec h e))
   chooses_some m z c ec i (miss k h) =
       least_chosen i m z (omega arith) (ap (λ (x : Remembered). remembered (current_of x) (table_of (entry_at ws) (scheduler_at ws).active)) ec ∙ ap (λ (x : Option ℕ). remembered x (table_of (entry_at ws) (scheduler_at ws).active)) (current_some c) ∙ remembered_some c.0 ∙ table_none (entry_at ws) (scheduler_at ws).active c.0 h)
 
-  chooses_none : (m : ℕ) → (scheduler_at ws).active ≡ suc m → (scheduler_at ws).current ≡ NoStream → Chooses ws (peek (model_scheduler ws)) (peek_among ws (scheduler_at ws).active (scheduler_at ws).active)
+  chooses_none : (m : ℕ) → (scheduler_at ws).active ≡ suc m → (scheduler_at ws).current ≡ None → Chooses ws (peek (model_scheduler ws)) (peek_among ws (scheduler_at ws).active (scheduler_at ws).active)
   chooses_none m z e = least_chosen (scheduler_at ws).active m z (omega arith) (ap (λ (x : Remembered). remembered (current_of x) (table_of (entry_at ws) (scheduler_at ws).active)) e ∙ ap (λ (x : Option ℕ). remembered x (table_of (entry_at ws) (scheduler_at ws).active)) current_none ∙ remembered_none)
 
   by_current : (m : ℕ) → (scheduler_at ws).active ≡ suc m → Chooses ws (peek (model_scheduler ws)) (peek_among ws (scheduler_at ws).active (current_row ws (scheduler_at ws).active (scheduler_at ws).current))
@@ -214,8 +214,8 @@ module _ (ws : List ℕ) (g : GoodScheduler ws) where
   by_current m z = go (scheduler_at ws).current refl
     where
       go : (c : Remembered) → (scheduler_at ws).current ≡ c → Chooses ws (peek (model_scheduler ws)) (peek_among ws (scheduler_at ws).active (current_row ws (scheduler_at ws).active c))
-      go NoStream e = chooses_none m z e
-      go (Stream k) e = chooses_some m z k e (seek ws k.0 (scheduler_at ws).active) (sought ws k.0 (scheduler_at ws).active)
+      go None e = chooses_none m z e
+      go (Some k) e = chooses_some m z k e (seek ws k.0 (scheduler_at ws).active) (sought ws k.0 (scheduler_at ws).active)
 
   pub peek_link : Chooses ws (peek (model_scheduler ws)) (peek_words ws)
   unfolding peek_words

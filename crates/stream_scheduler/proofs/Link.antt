@@ -1,4 +1,5 @@
 -- From good words each function of the scheduler leaves good words, which stand for what the model's function of that name makes. Assumes nothing.
+use Rattle.std.specs.Prelude.{Some, None}
 use mathlib.Core.Path.{◌≡◌, refl, sym, ap, ap₂, ◌∙◌, subst}
 use mathlib.Core.Bool.{Bool, true, false}
 use mathlib.Core.List.{List, [], ◌∷◌}
@@ -20,8 +21,7 @@ use Rattle.queue_words.specs.declared.active.ActiveStreamInfo.{ActiveStreamInfo}
 use Rattle.queue_words.specs.declared.active.SchedulingParameters.{SchedulingParameters}
 use Rattle.queue_words.specs.declared.active.SchedulingParameters.TheVariants.{RoundRobin, WeightedFairQueuing}
 use Rattle.queue_words.specs.declared.header.Options.{Options}
-use Rattle.queue_words.specs.declared.header.Remembered.{Remembered}
-use Rattle.queue_words.specs.declared.header.Remembered.TheVariants.{NoStream, Stream}
+use Rattle.queue_words.specs.Header.{Remembered}
 use Rattle.queue_words.specs.declared.header.SchedulerState.{SchedulerState}
 use Rattle.queue_words.specs.Leasts.{leasts_at}
 use Rattle.queue_words.proofs.Laws.{leasts_put_active, leasts_put_scheduler, active_at_fits, active_at_put, active_at_put_other, active_put_scheduler, scheduler_put_active, scheduler_at_put, active_count_put, remembered_at_fits, options_put_active, options_put_scheduler, whole_put_active, whole_put_scheduler}
@@ -130,11 +130,11 @@ pub id_fits : (ws : List ℕ) (i : ℕ) → (entry_at ws i).stream_id < 65536
 unfolding entry_at
 id_fits ws i = (active_at_fits ws i).stream_id_fits
 
-pub current_some : (k : StreamId) → current_of (Stream k) ≡ some k.0
+pub current_some : (k : StreamId) → current_of (Some k) ≡ some k.0
 unfolding current_of
 current_some k = refl
 
-pub current_none : current_of NoStream ≡ none
+pub current_none : current_of None ≡ none
 unfolding current_of
 current_none = refl
 
@@ -144,18 +144,18 @@ forget_none id = refl
 
 forgotten_current : (c : Remembered) (id : ℕ) → current_of (forgotten c id) ≡ forget id (current_of c)
 unfolding current_of forget
-forgotten_current NoStream id = refl
-forgotten_current (Stream k) id = go (eqb k.0 id)
+forgotten_current None id = refl
+forgotten_current (Some k) id = go (eqb k.0 id)
   where
-    go : (b : Bool) → current_of (if b then NoStream else Stream (record { 0 = k.0 })) ≡ (if b then none else some k.0)
+    go : (b : Bool) → current_of (if b then None else Some (record { 0 = k.0 })) ≡ (if b then none else some k.0)
     go true = refl
     go false = refl
 
 forgotten_fits : (c : Remembered) (id : ℕ) → FitsRemembered c → FitsRemembered (forgotten c id)
-forgotten_fits NoStream id f = f
-forgotten_fits (Stream k) id f = go (eqb k.0 id)
+forgotten_fits None id f = f
+forgotten_fits (Some k) id f = go (eqb k.0 id)
   where
-    go : (b : Bool) → FitsRemembered (if b then NoStream else Stream (record { 0 = k.0 }))
+    go : (b : Bool) → FitsRemembered (if b then None else Some (record { 0 = k.0 }))
     go true = tt
     go false = f
 

@@ -15,7 +15,7 @@ use Rattle.queue_words.specs.Active.{active_at, put_active_words, FitsActive, pa
 use Rattle.queue_words.specs.Header.{options_at, scheduler_at, put_scheduler}
 use Rattle.queue_words.specs.declared.active.ActiveStreamInfo.{ActiveStreamInfo}
 use Rattle.queue_words.specs.declared.active.SchedulingParameters.{SchedulingParameters}
-use Rattle.queue_words.specs.declared.header.Remembered.{Remembered}
+use Rattle.queue_words.specs.Header.{Remembered}
 use Rattle.queue_words.specs.declared.header.SchedulerState.{SchedulerState}
 use Rattle.queue_words.proofs.Laws.{active_count_put, scheduler_put_active, whole_put_active, whole_put_scheduler}
 use Rattle.active_table.specs.Rows.{seek}

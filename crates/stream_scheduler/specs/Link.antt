@@ -1,4 +1,5 @@
 -- The scheduler that words stand for, and when words are good for it. Assumes nothing.
+use Rattle.std.specs.Prelude.{Some, None}
 use Rattle.std.specs.Prelude.{ℕ, zero, suc, ◌≤◌, ◌<◌, ◌≡◌, true, List, [], length}
 use Rattle.std.proofs.Math.Option.{Option, none, some}
 use Rattle.queue_model.specs.Types.{Active, Scheduler}
@@ -11,8 +12,7 @@ use Rattle.queue_words.specs.Streams.{stream_at_words}
 use Rattle.queue_words.specs.declared.active.ActiveStreamInfo.{ActiveStreamInfo}
 use Rattle.queue_words.specs.declared.active.SchedulingParameters.{SchedulingParameters}
 use Rattle.queue_words.specs.declared.active.SchedulingParameters.TheVariants.{RoundRobin, WeightedFairQueuing}
-use Rattle.queue_words.specs.declared.header.Remembered.{Remembered}
-use Rattle.queue_words.specs.declared.header.Remembered.TheVariants.{NoStream, Stream}
+use Rattle.queue_words.specs.Header.{Remembered}
 use Rattle.queue_words.specs.declared.header.SchedulerState.{SchedulerState}
 use Rattle.active_table.specs.Groups.{Leasts}
 use Rattle.stream_scheduler.specs.Rows.{weight_at}
@@ -34,8 +34,8 @@ table_of e (suc n) = put_active (e n) (table_of e n)
 
 -- The remembered stream.
 unfoldable pub current_of : Remembered → Option ℕ
-current_of NoStream = none
-current_of (Stream id) = some id.0
+current_of None = none
+current_of (Some id) = some id.0
 
 -- The scheduler that the words stand for.
 unfoldable pub model_scheduler : List ℕ → Scheduler
@@ -55,7 +55,7 @@ pub record GoodScheduler (ws : List ℕ) : Type 0 where
 
 -- The state of a new scheduler: nothing remembered, no time, no row.
 abbrev pub at_rest : SchedulerState
-at_rest = record { current = NoStream; system_virtual_time = 0; active = 0 }
+at_rest = record { current = None; system_virtual_time = 0; active = 0 }
 
 -- ------------------------------------------------------------------ what a function must show
 

@@ -1,4 +1,5 @@
 -- What the scheduler's functions leave in the words, for every input. Assumes nothing.
+use Rattle.std.specs.Prelude.{Some, None}
 use Rattle.std.specs.Prelude.{ℕ, ◌+◌, ◌-◌, Bool, true, false, List, eqb, ltb, leb}
 use Rattle.std.specs.Prelude.{if◌then◌else◌}
 use Rattle.queue_words.specs.Active.{active_at, put_active_words, parameters_of, parameters_word}
@@ -6,8 +7,7 @@ use Rattle.queue_words.specs.Header.{options_at, scheduler_at, put_scheduler}
 use Rattle.queue_words.specs.declared.active.ActiveStreamInfo.{ActiveStreamInfo}
 use Rattle.queue_words.specs.declared.active.SchedulingParameters.{SchedulingParameters}
 use Rattle.queue_words.specs.declared.active.SchedulingParameters.TheVariants.{RoundRobin, WeightedFairQueuing}
-use Rattle.queue_words.specs.declared.header.Remembered.{Remembered}
-use Rattle.queue_words.specs.declared.header.Remembered.TheVariants.{NoStream, Stream}
+use Rattle.queue_words.specs.Header.{Remembered}
 use Rattle.queue_words.specs.declared.header.SchedulerState.{SchedulerState}
 use Rattle.active_table.specs.Groups.{least_known, refreshed}
 use Rattle.active_table.specs.Rows.{seek}
@@ -27,8 +27,8 @@ outcome d ws = record { done = d; next = ws }
 
 -- The remembered stream's row, or n.
 unfoldable pub current_row : List ℕ → ℕ → Remembered → ℕ
-current_row ws n NoStream = n
-current_row ws n (Stream id) = seek ws id.0 n
+current_row ws n None = n
+current_row ws n (Some id) = seek ws id.0 n
 
 unfoldable pub peek_among : List ℕ → ℕ → ℕ → Peeked
 peek_among ws n i = if ltb i n then At i else At (least_known ws n).at
@@ -47,11 +47,11 @@ waits_in ws id = let n = (scheduler_at ws).active in if ltb 256 n then false els
 
 -- The remembered stream, unless it is this one; and the system time, 0 where no row is left.
 abbrev pub kept_unless : ℕ → ℕ → Remembered
-kept_unless k id = if eqb k id then NoStream else Stream (record { 0 = k })
+kept_unless k id = if eqb k id then None else Some (record { 0 = k })
 
 abbrev pub forgotten : Remembered → ℕ → Remembered
-forgotten NoStream id = NoStream
-forgotten (Stream k) id = kept_unless k.0 id
+forgotten None id = None
+forgotten (Some k) id = kept_unless k.0 id
 
 abbrev pub rested : ℕ → ℕ → ℕ
 rested t n = if eqb n 0 then 0 else t
@@ -97,8 +97,8 @@ begin_waiting ws id bytes p = let n = (scheduler_at ws).active in if ltb 256 n t
 
 -- "Without interleaving a stream is remembered from any fragment but a last one": by turns, and not by weights.
 abbrev pub remembered_in : ℕ → SchedulingParameters → Remembered
-remembered_in id RoundRobin = Stream (record { 0 = id })
-remembered_in id (WeightedFairQueuing v) = NoStream
+remembered_in id RoundRobin = Some (record { 0 = id })
+remembered_in id (WeightedFairQueuing v) = None
 
 abbrev pub remembered_by : ℕ → ℕ → Remembered
 remembered_by id w = remembered_in id (parameters_of w)
@@ -111,7 +111,7 @@ unfoldable pub accept_row : List ℕ → ℕ → ℕ → ℕ → List ℕ
 accept_row ws at bytes n =
     let a = active_at ws at in
     let t = advanced a.parameters a.virtual_start_time bytes in
-    if leb a.bytes_remaining bytes then dropped_row ws at NoStream t n else put_scheduler (put_active_words ws at (part_row ws a t bytes)) (state_of (remembered_by a.stream_id.0 a.parameters) t n)
+    if leb a.bytes_remaining bytes then dropped_row ws at None t n else put_scheduler (put_active_words ws at (part_row ws a t bytes)) (state_of (remembered_by a.stream_id.0 a.parameters) t n)
 
 -- The next choice finds the row's group fresh, and one stale group fewer.
 unfoldable pub accept_at : List ℕ → ℕ → ℕ → Outcome

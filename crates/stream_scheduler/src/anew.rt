@@ -9,7 +9,7 @@ use active_table::groups::refresh;
 use queue_words::QUEUE_WORDS;
 use queue_words::active::{SchedulingParameters, load_active, parameters_word, store_active};
 use queue_words::header::{
-    Remembered, SchedulerState, load_options, load_scheduler_state, store_scheduler_state,
+    SchedulerState, load_options, load_scheduler_state, store_scheduler_state,
 };
 
 // Of n rows the row `at` begins anew with so many bytes, at a time; no stream is remembered.
@@ -33,7 +33,7 @@ fn begin_anew(
     store_scheduler_state(
         queue,
         SchedulerState {
-            current: Remembered::NoStream,
+            current: None,
             system_virtual_time: start,
             active: n as u64,
         },
@@ -58,7 +58,7 @@ pub fn accept_last_own(
     let a = load_active(&*queue, at);
     let time = calculate_vt(a.parameters, a.virtual_start_time, sent);
     if bytes == 0 {
-        drop_row(queue, at, Remembered::NoStream, time, n);
+        drop_row(queue, at, None, time, n);
         refresh(queue, at);
         return;
     }

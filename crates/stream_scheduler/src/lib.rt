@@ -26,7 +26,7 @@ use queue_words::active::{
     ActiveStreamInfo, SchedulingParameters, load_active, parameters_of, store_active,
 };
 use queue_words::header::{
-    Remembered, SchedulerState, load_options, load_scheduler_state, store_scheduler_state,
+    SchedulerState, load_options, load_scheduler_state, store_scheduler_state,
 };
 use queue_words::limits::{STREAM_ROWS, STREAMS};
 use types::StreamId;
@@ -114,18 +114,18 @@ pub enum Peeked {
 }
 
 // The row of the remembered stream, or n.
-fn current_row(queue: &[u64; QUEUE_WORDS], n: usize, current: Remembered) -> usize
+fn current_row(queue: &[u64; QUEUE_WORDS], n: usize, current: Option<StreamId>) -> usize
     requires { n ≤ 256 }
     ensures { result ≡ current_row queue.now n current }
 {
     match current {
-        Remembered::NoStream => n,
-        Remembered::Stream(id) => seek(queue, id.0, n),
+        None => n,
+        Some(id) => seek(queue, id.0, n),
     }
 }
 
 // "Choice: the stream in mid-message if one is remembered, else the smallest finish time, then the smallest id": of n rows.
-fn front_row(queue: &[u64; QUEUE_WORDS], n: usize, current: Remembered) -> usize
+fn front_row(queue: &[u64; QUEUE_WORDS], n: usize, current: Option<StreamId>) -> usize
     requires { (0 < n) × (n ≤ 256) }
     ensures { At result ≡ peek_among queue.now n (current_row queue.now n current) }
 {
@@ -178,26 +178,32 @@ fn rest_time(time: u64, n: u64) -> u64
 }
 
 // The remembered stream, unless it is this one.
-fn kept(id: u16, stream_id: u16) -> Remembered
+fn kept(id: u16, stream_id: u16) -> Option<StreamId>
     ensures { result ≡ kept_unless id stream_id }
 {
     if id == stream_id {
-        return Remembered::NoStream;
+        return None;
     }
-    Remembered::Stream(StreamId(id))
+    Some(StreamId(id))
 }
 
-fn forget(current: Remembered, stream_id: u16) -> Remembered
+fn forget(current: Option<StreamId>, stream_id: u16) -> Option<StreamId>
     ensures { result ≡ forgotten current stream_id }
 {
     match current {
-        Remembered::NoStream => Remembered::NoStream,
-        Remembered::Stream(id) => kept(id.0, stream_id),
+        None => None,
+        Some(id) => kept(id.0, stream_id),
     }
 }
 
 // Takes a row out: the last of n rows takes its place.
-fn drop_row(queue: &mut [u64; QUEUE_WORDS], at: usize, current: Remembered, time: u64, n: usize)
+fn drop_row(
+    queue: &mut [u64; QUEUE_WORDS],
+    at: usize,
+    current: Option<StreamId>,
+    time: u64,
+    n: usize,
+)
     requires { (at < n) × (n ≤ 256) }
     ensures { queue.new ≡ dropped_row queue.old at current time n }
 {
@@ -335,12 +341,12 @@ pub fn set_bytes_remaining(
 }
 
 // "Without interleaving a stream is remembered from any fragment but a last one".
-fn remember(stream_id: u16, parameters: u32) -> Remembered
+fn remember(stream_id: u16, parameters: u32) -> Option<StreamId>
     ensures { result ≡ remembered_by stream_id parameters }
 {
     let p = parameters_of(parameters);
     match p {
-        SchedulingParameters::RoundRobin => Remembered::Stream(StreamId(stream_id)),
-        SchedulingParameters::WeightedFairQueuing(_) => Remembered::NoStream,
+        SchedulingParameters::RoundRobin => Some(StreamId(stream_id)),
+        SchedulingParameters::WeightedFairQueuing(_) => None,
     }
 }

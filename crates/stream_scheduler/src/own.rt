@@ -13,7 +13,7 @@ use active_table::seek;
 use queue_words::QUEUE_WORDS;
 use queue_words::active::{SchedulingParameters, load_active, parameters_word, store_active};
 use queue_words::header::{
-    Remembered, SchedulerState, load_options, load_scheduler_state, store_scheduler_state,
+    SchedulerState, load_options, load_scheduler_state, store_scheduler_state,
 };
 
 // What the scheduler would hand out from.
@@ -113,7 +113,7 @@ pub fn accept_own(queue: &mut [u64; QUEUE_WORDS], at: usize, bytes: u64)
     let a = load_active(&*queue, at);
     let time = calculate_vt(a.parameters, a.virtual_start_time, bytes);
     if a.bytes_remaining <= bytes {
-        drop_row(queue, at, Remembered::NoStream, time, n);
+        drop_row(queue, at, None, time, n);
         refresh(queue, at);
         return;
     }

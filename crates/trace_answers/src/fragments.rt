@@ -1,12 +1,12 @@
 // A fragment's fields, as the lines of `p` and `R` have them.
-use send_queue::{Data, DataToSend, Expiry};
+use send_queue::{Data, DataToSend};
 use trace_text::output::{Answers, put_byte, put_number, put_text};
 use trace_text::state::bit;
 
-fn put_expiry(output: &mut Answers, e: Expiry) {
+fn put_expiry(output: &mut Answers, e: Option<u64>) {
     match e {
-        Expiry::Never => put_text(output, b" 0 0"),
-        Expiry::At(t) => {
+        None => put_text(output, b" 0 0"),
+        Some(t) => {
             put_number(output, 1);
             put_number(output, t);
         }

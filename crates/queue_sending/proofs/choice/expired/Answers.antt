@@ -2,12 +2,12 @@
 use Rattle.queue_sending.specs.Choice.{expired_by}
 use Rattle.queue_sending.proofs.choice.expired.Goals as goal
 
-pub returns-in-Never : goal.returns-in-Never
+pub returns-in-None : goal.returns-in-None
 unfolding expired_by
-returns-in-Never c =
+returns-in-None c =
     rw
     (
-    c.in-Never.is
+    c.in-None.is
     )
 
 pub returns-in-At : goal.returns-in-At

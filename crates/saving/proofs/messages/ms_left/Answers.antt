@@ -2,9 +2,9 @@
 use Rattle.saving.specs.Records.{ms_left}
 use Rattle.saving.proofs.messages.ms_left.Goals as goal
 
-pub returns-in-Never : goal.returns-in-Never
+pub returns-in-None : goal.returns-in-None
 unfolding ms_left
-returns-in-Never c = rw c.in-Never.is
+returns-in-None c = rw c.in-None.is
 
 pub returns-in-At : goal.returns-in-At
 unfolding ms_left
