@@ -25,12 +25,8 @@ const LARGEST_ID: u16 = 65535;
 pub fn position(table: &[ActiveStreamInfo], stream_id: u16) -> usize
     ensures { result ≡ seek_from (rows_of table.now) stream_id 0 (length table.now) }
 {
-    for (i, row) in table.iter().enumerate() {
-        if row.stream_id.0 == stream_id {
-            return i;
-        }
-    }
-    table.len()
+    let found = table.iter().position(|row| row.stream_id.0 == stream_id);
+    found.unwrap_or(table.len())
 }
 
 // A row in the search for the least: its place, finish time and stream.
@@ -94,12 +90,7 @@ pub fn soonest(table: &[ActiveStreamInfo]) -> u64
 pub fn ids_behind(table: &[ActiveStreamInfo], id: u16) -> bool
     ensures { result ≡ ids_behind_words (rows_of table.now) id 0 (length table.now) }
 {
-    for row in table {
-        if row.stream_id.0 < id {
-            return false;
-        }
-    }
-    true
+    table.iter().all(|row| id <= row.stream_id.0)
 }
 
 // The parts of the table that are lent.

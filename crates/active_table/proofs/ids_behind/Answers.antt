@@ -1,33 +1,31 @@
--- The id at i is below, or what is left are those behind it.
-use Rattle.std.proofs.Common.{◌≡◌, ℕ, ◌-◌, ◌+◌, ◌<◌, ◌≤◌, length, suc, true, false, sym, ◌∙◌, arith}
+-- What holds of each id is said row by row.
+use Rattle.std.proofs.Common.{◌≡◌, ℕ, zero, suc, List, [], ◌∷◌, length, refl, sym, ◌∙◌, rules, tests}
+use Rattle.std.specs.Prelude.{leb}
+use Rattle.std.specs.List.{list_all}
+use Rattle.std.proofs.lemmas.Iterator.{YieldsList-from_slice}
+use Rattle.std.proofs.lemmas.Iterator.Search.{all_from_yields_List}
+use borrow.Author.Tests.{lt-ltb, le-ltb, le-leb, lt-leb}
+use Rattle.queue_words.proofs.Finds.{by_lt}
 use Rattle.queue_words.specs.declared.active.ActiveStreamInfo.{ActiveStreamInfo}
 use Rattle.active_table.specs.Passing.{ids_behind_words}
 use Rattle.active_table.specs.Parts.{rows_of}
-use Rattle.active_table.proofs.Passing.{ids_hit, ids_miss, ids_none}
 use Rattle.active_table.proofs.ids_behind.Goals as goal
 
-module _ (rows : ℕ → ActiveStreamInfo) (id i n : ℕ) where
-  here : i < n → (rows i).stream_id.0 < id → false ≡ ids_behind_words rows id i (n - i)
-  here l e =
-      let s : n - i ≡ suc (n - (i + 1)) = omega arith in
-      rw s (sym (ids_hit rows id i (n - (i + 1)) e))
+module _ (id : ℕ) where
+  later : (rows : ℕ → ActiveStreamInfo) (i n : ℕ) → ids_behind_words rows id (suc i) n ≡ ids_behind_words (λ k. rows (suc k)) id i n
+  unfolding ids_behind_words
+  later rows i zero = refl
+  later rows i (suc n) = rw (later rows (suc i) n)
 
-  behind : i < n → id ≤ (rows i).stream_id.0 → ids_behind_words rows id i (n - i) ≡ ids_behind_words rows id (i + 1) (n - (i + 1))
-  behind l e =
-      let s : n - i ≡ suc (n - suc i) = omega arith in
-      let t : i + 1 ≡ suc i = omega arith in
-      rw (s, t, ids_miss rows id i (n - suc i) e)
-
-  nowhere : n ≤ i → true ≡ ids_behind_words rows id i (n - i)
-  nowhere l =
-      let s : n - i ≡ 0 = omega arith in
-      rw s (sym (ids_none rows id i))
-
-pub returns-then-row-id : goal.returns-then-row-id
-returns-then-row-id c = here (rows_of c.args.table.now) c.args.id c.loop-row.row-index (length c.args.table.now) c.loop-row-test.true c.if-row-id.true ∙ sym c.loop-row.invariant
-
-pub loop-row-preserved : goal.loop-row-preserved
-loop-row-preserved c = c.loop-row.invariant ∙ behind (rows_of c.args.table.now) c.args.id c.loop-row.row-index (length c.args.table.now) c.loop-row-test.true c.if-row-id.false
+  each : (t : List ActiveStreamInfo) → list_all (λ r. leb id r.stream_id.0) t ≡ ids_behind_words (rows_of t) id 0 (length t)
+  unfolding ids_behind_words
+  each [] = refl
+  each (r ∷ t) = by_lt r.stream_id.0 id
+      (λ l. rw (lt-ltb _ _ l, lt-leb _ _ l))
+      (λ l. rw (le-ltb _ _ l, le-leb _ _ l) (each t ∙ sym (later (rows_of (r ∷ t)) 0 (length t))))
 
 pub returns : goal.returns
-returns c = nowhere (rows_of c.args.table.now) c.args.id c.loop-row.row-index (length c.args.table.now) c.loop-row-test.false ∙ sym c.loop-row.invariant
+returns c =
+    let h : c.all.result ≡ list_all (λ r. leb c.args.id r.stream_id.0) c.args.table.now =
+    all_from_yields_List (λ r. leb c.args.id r.stream_id.0) _ _ c.all.result c.all.ensures.ran (YieldsList-from_slice c.args.table.now c.iter.ensures.rest) (λ x b q k. search (rules, tests)) in
+    h ∙ each c.args.id c.args.table.now

@@ -1,34 +1,52 @@
--- The row at i is the stream's, or the search goes on behind it.
-use Rattle.std.proofs.Common.{◌≡◌, ℕ, ◌-◌, ◌+◌, ◌<◌, ◌≤◌, length, suc, sym, ◌∙◌, arith}
+-- The first place at which the test passes is the row that is sought, row by row.
+use Rattle.std.proofs.Common.{◌≡◌, ℕ, zero, suc, ◌+◌, ◌≤◌, List, [], ◌∷◌, length, Bool, not, sym, ap, ◌∙◌, arith, rules, tests}
+use Rattle.std.specs.Prelude.{eqb, ltb, cond, Some, None}
+use Rattle.std.specs.List.{position_or_len}
+use Rattle.std.specs.Option.{unwrap_or}
+use Rattle.std.proofs.lemmas.Iterator.{YieldsList-from_slice}
+use Rattle.std.proofs.lemmas.Iterator.Search.{position_from_yields_List}
+use Rattle.std.proofs.lemmas.List.Sums.{prefix_len-le-length}
+use borrow.Author.Tests.{lt-ltb, le-ltb, eq-eqb, ne_eqb}
+use Rattle.queue_model.proofs.Tests.{less, same, more, tri}
+use Rattle.queue_words.proofs.Finds.{by_lt}
 use Rattle.queue_words.specs.declared.active.ActiveStreamInfo.{ActiveStreamInfo}
 use Rattle.active_table.specs.Rows.{seek_from}
 use Rattle.active_table.specs.Parts.{rows_of}
 use Rattle.active_table.proofs.Laws.{seek_hit, seek_miss, seek_none}
 use Rattle.active_table.proofs.position.Goals as goal
 
-module _ (rows : ℕ → ActiveStreamInfo) (id i n : ℕ) where
-  here : i < n → (rows i).stream_id.0 ≡ id → i ≡ seek_from rows id i (n - i)
-  here l e =
-      let s : n - i ≡ suc (n - (i + 1)) = omega arith in
-      rw s (sym (seek_hit rows id i (n - (i + 1)) e))
+by_eq : {G : Type 0} (a b : ℕ) → (a ≡ b → G) → ((a ≡ b → ⊥) → G) → G
+by_eq a b f g = elim (tri a b) [
+  | less l ↦ g (λ e. omega arith)
+  | same e ↦ f e
+  | more l ↦ g (λ e. omega arith)
+]
 
-  behind : i < n → ((rows i).stream_id.0 ≡ id → ⊥) → seek_from rows id i (n - i) ≡ seek_from rows id (i + 1) (n - (i + 1))
-  behind l e =
-      let s : n - i ≡ suc (n - suc i) = omega arith in
-      let t : i + 1 ≡ suc i = omega arith in
-      rw (s, t, seek_miss rows id i (n - suc i) e)
+module _ (id : ℕ) where
+  abbrev own : ActiveStreamInfo → Bool
+  own r = eqb r.stream_id.0 id
 
-  nowhere : i ≤ n → n ≤ i → n ≡ seek_from rows id i (n - i)
-  nowhere l m =
-      let s : n - i ≡ 0 = omega arith in
-      let t : n ≡ i = omega arith in
-      rw s (t ∙ sym (seek_none rows id i))
+  later : (rows : ℕ → ActiveStreamInfo) (i n : ℕ) → seek_from rows id (suc i) n ≡ suc (seek_from (λ k. rows (suc k)) id i n)
+  later rows i zero = seek_none rows id (suc i) ∙ ap suc (sym (seek_none (λ k. rows (suc k)) id i))
+  later rows i (suc n) = by_eq (rows (suc i)).stream_id.0 id
+      (λ e. seek_hit rows id (suc i) n e ∙ ap suc (sym (seek_hit (λ k. rows (suc k)) id i n e)))
+      (λ e. seek_miss rows id (suc i) n e ∙ (later rows (suc i) n ∙ ap suc (sym (seek_miss (λ k. rows (suc k)) id i n e))))
 
-pub returns-then-row-stream_id : goal.returns-then-row-stream_id
-returns-then-row-stream_id c = here (rows_of c.args.table.now) c.args.stream_id c.loop-i.i (length c.args.table.now) c.loop-i-test.true c.if-row-stream_id.true ∙ sym c.loop-i.invariant
+  place : (t : List ActiveStreamInfo) → position_or_len own t ≡ seek_from (rows_of t) id 0 (length t)
+  place [] = sym (seek_none (rows_of []) id 0)
+  place (r ∷ t) = by_eq r.stream_id.0 id
+      (λ e. rw (seek_hit (rows_of (r ∷ t)) id 0 (length t) e, eq-eqb _ _ e))
+      (λ e.
+      let s : 1 + position_or_len own t ≡ suc (position_or_len own t) = omega arith in
+      rw (seek_miss (rows_of (r ∷ t)) id 0 (length t) e, ne_eqb _ _ e) (s ∙ (ap suc (place t) ∙ sym (later (rows_of (r ∷ t)) 0 (length t)))))
 
-pub loop-i-preserved : goal.loop-i-preserved
-loop-i-preserved c = c.loop-i.invariant ∙ behind (rows_of c.args.table.now) c.args.stream_id c.loop-i.i (length c.args.table.now) c.loop-i-test.true c.if-row-stream_id.false
+  found : (t : List ActiveStreamInfo) → unwrap_or (cond (ltb (position_or_len own t) (length t)) (Some (position_or_len own t)) None) (length t) ≡ position_or_len own t
+  found t = by_lt (position_or_len own t) (length t)
+      (λ l. rw (lt-ltb _ _ l))
+      (λ l. let h : position_or_len own t ≤ length t = prefix_len-le-length (λ r. not (own r)) t in rw (le-ltb _ _ l) (omega arith))
 
 pub returns : goal.returns
-returns c = nowhere (rows_of c.args.table.now) c.args.stream_id c.loop-i.i (length c.args.table.now) (omega arith) c.loop-i-test.false ∙ sym c.loop-i.invariant
+returns c =
+    let h : c.position-found.result ≡ cond (ltb (position_or_len (own c.args.stream_id) c.args.table.now) (length c.args.table.now)) (Some (position_or_len (own c.args.stream_id) c.args.table.now)) None =
+    position_from_yields_List (own c.args.stream_id) _ _ c.position-found.result c.position-found.ensures.ran (YieldsList-from_slice c.args.table.now c.iter.ensures.rest) (λ x b q k. search (rules, tests)) in
+    c.unwrap_or.ensures ∙ (ap (λ o. unwrap_or o (length c.args.table.now)) h ∙ (found c.args.stream_id c.args.table.now ∙ place c.args.stream_id c.args.table.now))
