@@ -81,15 +81,13 @@ fn run_line(
     state: &mut [u64; STATE],
 ) -> io::Result<u64> {
     let good = *queue;
-    let mut left = turns(&*state);
-    while left > 0 {
+    for _ in 0..turns(&*state) {
         prepare(queue, kept, &good, state);
         let refusal = run_call(rt, queue, kept, store, events, fragment, state)?;
         let last = stops(refusal, state);
         if last {
             return Ok(refusal);
         }
-        left -= 1;
     }
     restore(queue, kept, &good, &*state);
     Ok(0)
@@ -165,6 +163,7 @@ fn run(
     script: &[u8],
 ) -> io::Result<()> {
     let mut at = 0;
+    // Counted by hand: a step is the length of a line, and a range has one step.
     while at < script.len() {
         let end = line_end(script, at);
         if end > script.len() {
@@ -193,6 +192,7 @@ fn read_script(stdin: &mut Stdin, script: &mut [u8]) -> io::Result<usize>
     ensures { IfOk result (λ n. n ≤ length script.new) }
 {
     let mut done = 0;
+    // Counted by hand: a step is what one read got, and a range has one step.
     while done < script.len() {
         let n = stdin.read(&mut script[done..])?;
         if n == 0 {
