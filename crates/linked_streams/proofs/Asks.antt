@@ -36,7 +36,7 @@ use Rattle.queue_streams.specs.Flag.{Flag}
 use Rattle.queue_streams.specs.Flag as flag
 use Rattle.queue_streams.specs.Number.{Number}
 use Rattle.queue_streams.specs.Number as number
-use Rattle.queue_questions.specs.declared.questions.Looked.TheVariants as looked
+use Rattle.queue_questions.specs.Looked as looked
 use Rattle.queue_state.specs.Model.{options_of, pause_of, row_at, stream_in, streams_in, model, tab}
 use Rattle.queue_state.specs.Good.{Good}
 use Rattle.queue_state.specs.Promise.{shown, number_of}

@@ -4,7 +4,7 @@ ghost use Rattle.queue_words.specs.Find.{Findable};
 ghost use Rattle.queue_streams.specs.Number as number;
 ghost use Rattle.queue_streams.specs.Flag as flag;
 ghost use Rattle.queue_questions.specs.Questions.{stream_or_new, ready_among};
-ghost use Rattle.queue_questions.specs.declared.questions.Looked.TheVariants.{Stream};
+ghost use Rattle.queue_questions.specs.Looked.{Stream};
 ghost use Rattle.queue_restarts.specs.Ready.{collected};
 ghost use Rattle.linked_streams.specs.Questions.{PriorityMeets, AmountMeets, ThresholdMeets, DataMeets, ReadyMeets};
 ghost use Rattle.linked_restarts.specs.Promises.{CountMeets};

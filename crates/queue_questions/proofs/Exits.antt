@@ -25,8 +25,8 @@ use Rattle.queue_streams.specs.Known.{new_stream_words}
 use Rattle.queue_questions.specs.Questions.{stream_or_new, priority_of_words, amount_of_words, threshold_of, data_of, ready_among, ready_of, readiness_of, room_of}
 use Rattle.queue_streams.specs.Flag as flag
 use Rattle.queue_streams.specs.Number as number
-use Rattle.queue_questions.specs.declared.questions.Looked.{Looked}
-use Rattle.queue_questions.specs.declared.questions.Looked.TheVariants as looked
+use Rattle.queue_questions.specs.Looked.{Looked}
+use Rattle.queue_questions.specs.Looked as looked
 use Rattle.queue_streams.proofs.Exits.{count_of}
 
 -- ------------------------------------------------------------------ the questions

@@ -1,2 +1,3 @@
 -- What the questions answer, for every input. Assumes nothing.
+pub mod Looked
 pub mod Questions

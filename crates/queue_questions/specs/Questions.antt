@@ -1,5 +1,5 @@
 -- "The questions are the calls that only ask", on the words. Assumes nothing.
-use Rattle.std.specs.Prelude.{ℕ, zero, suc, ◌-◌, Bool, true, false, List, ltb, eqb}
+use Rattle.std.specs.Prelude.{ℕ, zero, suc, ◌-◌, Bool, true, false, List, ltb, eqb, Result, Ok, Err}
 use Rattle.queue_model.specs.Questions.{Room, free_store, waiting_messages, known_streams}
 use Rattle.queue_words.specs.Flags.{pick}
 use Rattle.queue_words.specs.Find.{find_stream_words}
@@ -12,13 +12,19 @@ use Rattle.queue_words.specs.declared.streams.OutgoingStream.{OutgoingStream}
 use Rattle.stream_scheduler.specs.Words.{peek_words}
 use Rattle.stream_scheduler.specs.declared.Peeked.{Peeked}
 use Rattle.stream_scheduler.specs.declared.Peeked.TheVariants as peeked
+use Rattle.types.specs.declared.refusal.Broken as types
 use Rattle.queue_streams.specs.Known.{new_stream_words}
 use Rattle.queue_streams.specs.Flag.{Flag}
 use Rattle.queue_streams.specs.Flag as flag
 use Rattle.queue_streams.specs.Number.{Number}
 use Rattle.queue_streams.specs.Number as number
-use Rattle.queue_questions.specs.declared.questions.Looked.{Looked}
-use Rattle.queue_questions.specs.declared.questions.Looked.TheVariants as looked
+use Rattle.queue_questions.specs.Looked.{Looked}
+use Rattle.queue_questions.specs.Looked as looked
+
+-- What the code answers.
+abbrev pub as_looked : Result OutgoingStream types.Broken → Looked
+as_looked (Ok s) = looked.Stream s
+as_looked (Err b) = looked.Broken
 
 -- The stream of an id: the known one, or a new one.
 abbrev pub looked_at : List ℕ → Found → Looked

@@ -1,68 +1,56 @@
 // The questions: "the calls that only ask".
 ghost use Rattle.std.specs.Prelude.{◌≡◌, ◌≤◌};
 ghost use Rattle.queue_model.specs.Questions.{free_store, waiting_messages, known_streams};
-ghost use Rattle.queue_questions.specs.Questions.{priority_of_words, amount_of_words, threshold_of, total_of, empty_of, data_of, ready_of, readiness_of, stream_or_new, ready_among, room_of};
+ghost use Rattle.queue_streams.specs.Answers.{as_flag, as_number};
+ghost use Rattle.queue_questions.specs.Questions.{as_looked, priority_of_words, amount_of_words, threshold_of, total_of, empty_of, data_of, ready_of, readiness_of, stream_or_new, ready_among, room_of};
 
-use queue_streams::{Flag, Number, new_stream};
+use queue_streams::new_stream;
 use queue_words::QUEUE_WORDS;
 use queue_words::header::{load_options, load_totals};
 use queue_words::known::{Found, find_stream, load_known};
 use queue_words::limits::{LAST_STREAM, STREAMS};
 use queue_words::streams::{OutgoingStream, load_stream};
 use stream_scheduler::{Peeked, peek};
+use types::Refusal;
+use types::refusal::Broken;
 
 // A stream as it is, or as it would begin.
-#[derive(Clone, Copy)]
-pub enum Looked {
-    Stream(OutgoingStream),
-    Broken,
-}
-
-fn stream_or_new(queue: &[u64; QUEUE_WORDS], id: u16) -> Looked
-    ensures { result ≡ stream_or_new queue.now id }
+fn stream_or_new(queue: &[u64; QUEUE_WORDS], id: u16) -> Result<OutgoingStream, Broken>
+    ensures { as_looked result ≡ stream_or_new queue.now id }
 {
     let found = find_stream(queue, id);
     match found {
-        Found::At(_, row) => Looked::Stream(load_stream(queue, row)),
+        Found::At(_, row) => Ok(load_stream(queue, row)),
         Found::Gap(_) => {
             let o = load_options(queue);
-            Looked::Stream(new_stream(o))
+            Ok(new_stream(o))
         }
-        Found::Broken => Looked::Broken,
+        Found::Broken => Err(Broken),
     }
 }
 
 // "A call of its own answers the priority last set or restored, the default where there is none, and changes nothing."
-pub fn get_priority(queue: &[u64; QUEUE_WORDS], id: u16) -> Number
-    ensures { result ≡ priority_of_words queue.now id }
+pub fn get_priority(queue: &[u64; QUEUE_WORDS], id: u16) -> Result<u64, Refusal>
+    ensures { as_number result ≡ priority_of_words queue.now id }
 {
-    let looked = stream_or_new(queue, id);
-    match looked {
-        Looked::Stream(s) => Number::Value(s.priority as u64),
-        Looked::Broken => Number::Refused(16),
-    }
+    let s = stream_or_new(queue, id)?;
+    Ok(s.priority as u64)
 }
 
 // A stream's amount.
-pub fn buffered_amount(queue: &[u64; QUEUE_WORDS], id: u16) -> Number
-    ensures { result ≡ amount_of_words queue.now id }
+pub fn buffered_amount(queue: &[u64; QUEUE_WORDS], id: u16) -> Result<u64, Refusal>
+    ensures { as_number result ≡ amount_of_words queue.now id }
 {
-    let looked = stream_or_new(queue, id);
-    match looked {
-        Looked::Stream(s) => Number::Value(s.buffered_amount),
-        Looked::Broken => Number::Refused(16),
-    }
+    let s = stream_or_new(queue, id)?;
+    Ok(s.buffered_amount)
 }
 
 // A stream's threshold.
-pub fn buffered_amount_low_threshold(queue: &[u64; QUEUE_WORDS], id: u16) -> Number
-    ensures { result ≡ threshold_of queue.now id }
+pub fn buffered_amount_low_threshold(queue: &[u64; QUEUE_WORDS], id: u16) -> Result<u64, Refusal>
+    ensures { as_number result ≡ threshold_of queue.now id }
 {
-    let looked = stream_or_new(queue, id);
-    match looked {
-        Looked::Stream(s) => Number::Value(s.low_threshold),
-        Looked::Broken => Number::Refused(16),
-    }
+    let s = stream_or_new(queue, id)?;
+    Ok(s.low_threshold)
 }
 
 // The total.
@@ -81,43 +69,43 @@ pub fn is_empty(queue: &[u64; QUEUE_WORDS]) -> bool
 }
 
 // Whether a stream waits.
-pub fn has_data_to_send(queue: &[u64; QUEUE_WORDS]) -> Flag
-    ensures { result ≡ data_of queue.now }
+pub fn has_data_to_send(queue: &[u64; QUEUE_WORDS]) -> Result<bool, Refusal>
+    ensures { as_flag result ≡ data_of queue.now }
 {
     let p = peek(queue);
     match p {
-        Peeked::At(_) => Flag::Value(true),
-        Peeked::Nothing => Flag::Value(false),
-        Peeked::Broken => Flag::Refused(16),
+        Peeked::At(_) => Ok(true),
+        Peeked::Nothing => Ok(false),
+        Peeked::Broken => Err(Refusal::WordsBroken),
     }
 }
 
-fn ready_among(queue: &[u64; QUEUE_WORDS], n: usize) -> Flag
+fn ready_among(queue: &[u64; QUEUE_WORDS], n: usize) -> Result<bool, Refusal>
     requires { n ≤ 256 }
-    ensures { result ≡ ready_among queue.now 0 n }
+    ensures { as_flag result ≡ ready_among queue.now 0 n }
 {
     for i in 0..n {
         let k = load_known(queue, i);
         if k.place > LAST_STREAM {
-            return Flag::Refused(16);
+            return Err(Refusal::WordsBroken);
         }
         let s = load_stream(queue, k.place as usize);
         let state = s.pause_state;
         let paused = state.is_paused();
         if paused {
-            return Flag::Value(true);
+            return Ok(true);
         }
     }
-    Flag::Value(false)
+    Ok(false)
 }
 
 // Whether a stream is paused.
-pub fn has_streams_ready_to_be_reset(queue: &[u64; QUEUE_WORDS]) -> Flag
-    ensures { result ≡ ready_of queue.now }
+pub fn has_streams_ready_to_be_reset(queue: &[u64; QUEUE_WORDS]) -> Result<bool, Refusal>
+    ensures { as_flag result ≡ ready_of queue.now }
 {
     let t = load_totals(queue);
     if t.known > STREAMS {
-        return Flag::Refused(16);
+        return Err(Refusal::WordsBroken);
     }
     ready_among(queue, t.known as usize)
 }

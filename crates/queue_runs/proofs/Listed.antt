@@ -40,8 +40,8 @@ use Rattle.message_chains.specs.Amounts.{rest}
 use Rattle.message_chains.specs.Dropping.{scheduled_behind, behind_dropped, dropped_in_state}
 use Rattle.message_chains.specs.Heads.{head_code}
 use Rattle.queue_questions.specs.Questions.{stream_or_new, asked, priority_of_words, amount_of_words, threshold_of, waits, data_of, ready_among, ready_of}
-use Rattle.queue_questions.specs.declared.questions.Looked.{Looked}
-use Rattle.queue_questions.specs.declared.questions.Looked.TheVariants as looked
+use Rattle.queue_questions.specs.Looked.{Looked}
+use Rattle.queue_questions.specs.Looked as looked
 use Rattle.queue_messages.specs.Add as adding
 use Rattle.queue_messages.specs.Message.{nanoseconds}
 use Rattle.queue_messages.specs.Discard as discarding
