@@ -15,7 +15,7 @@ use Rattle.queue_model.specs.Types.{Stream}
 use Rattle.queue_model.specs.Reset.{is_paused, paused_ids}
 use Rattle.queue_streams.specs.Call.{Accepted}
 use Rattle.queue_restarts.specs.Ready.{paused_at, one_more, collected}
-use Rattle.queue_restarts.specs.declared.ready.ReadyStreams.{ReadyStreams}
+use Rattle.queue_restarts.specs.ReadyStreams.{ReadyStreams}
 use Rattle.queue_state.specs.Chains.{each}
 use Rattle.queue_state.specs.Model.{item_in_words, row_at, stream_in, streams_in, tab}
 use Rattle.queue_state.specs.Good.{Shape}

@@ -15,7 +15,7 @@ use Rattle.queue_streams.specs.Call.{Call}
 use Rattle.queue_streams.specs.Number.{Number}
 use Rattle.queue_restarts.specs.Ready.{Readied, readied, ready, ready_number, ready_list, count_of, ready_count}
 use Rattle.queue_restarts.specs.Reset.{reset_queue}
-use Rattle.queue_restarts.specs.declared.ready.ReadyStreams.{ReadyStreams}
+use Rattle.queue_restarts.specs.ReadyStreams.{ReadyStreams}
 use Rattle.queue_restarts.proofs.Few.{Few, ready_few, count_is, counted}
 use Rattle.queue_state.specs.Good.{Good}
 use Rattle.queue_state.specs.Promise.{shown, Does}

@@ -29,7 +29,7 @@ use Rattle.stream_scheduler.proofs.Link.{scheduler_same}
 use Rattle.queue_streams.specs.Call.{Accepted}
 use Rattle.queue_restarts.specs.Marking.{put_resetting}
 use Rattle.queue_restarts.specs.Ready.{places_fit, all_places_fit, marked, marked_all, collected, readied, ready, count_of, ready_count}
-use Rattle.queue_restarts.specs.declared.ready.ReadyStreams.{ReadyStreams}
+use Rattle.queue_restarts.specs.ReadyStreams.{ReadyStreams}
 use Rattle.queue_restarts.proofs.MarkLaws
 use Rattle.queue_state.specs.Chains.{each}
 use Rattle.queue_state.specs.Model.{item_in_words, pause_of, stream_of, row_at, stream_in, streams_in, model, options_of}

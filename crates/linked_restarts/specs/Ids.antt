@@ -5,7 +5,7 @@ use Rattle.queue_model.specs.Run as run
 use Rattle.queue_model.specs.Ascending.{Ascending}
 use Rattle.queue_streams.specs.Call.{Call}
 use Rattle.queue_streams.specs.Call.{Accepted, Refused}
-use Rattle.queue_restarts.specs.declared.ready.ReadyStreams.{ReadyStreams}
+use Rattle.queue_restarts.specs.ReadyStreams.{ReadyStreams}
 use Rattle.queue_state.specs.Model.{model}
 use Rattle.queue_state.specs.Good.{Good}
 use Rattle.queue_state.specs.Promise.{shown}

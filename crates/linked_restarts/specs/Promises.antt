@@ -10,7 +10,7 @@ use Rattle.queue_streams.specs.Number.{Number}
 use Rattle.queue_streams.specs.Number as numbers
 use Rattle.queue_restarts.specs.Ready.{readied, ready, ready_number, ready_list, count_of, ready_count}
 use Rattle.queue_restarts.specs.Reset.{reset_queue}
-use Rattle.queue_restarts.specs.declared.ready.ReadyStreams.{ReadyStreams}
+use Rattle.queue_restarts.specs.ReadyStreams.{ReadyStreams}
 use Rattle.queue_state.specs.Good.{Good}
 use Rattle.queue_state.specs.Promise.{Does, Tells, shown, number_of}
 use Rattle.linked_restarts.specs.Ids.{Readies}

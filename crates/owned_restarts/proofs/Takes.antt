@@ -11,7 +11,7 @@ use Rattle.queue_words.specs.declared.known.Known.{Known}
 use Rattle.queue_words.specs.declared.streams.OutgoingStream.{OutgoingStream}
 use Rattle.queue_restarts.specs.Marking.{put_resetting}
 use Rattle.queue_restarts.specs.Ready.{paused_at, collected, marked, marked_all, readied}
-use Rattle.queue_restarts.specs.declared.ready.ReadyStreams.{ReadyStreams}
+use Rattle.queue_restarts.specs.ReadyStreams.{ReadyStreams}
 use Rattle.queue_restarts.proofs.Loops.{collected_end, marked_next, marked_end}
 use Rattle.queue_restarts.proofs.MarkLaws.{known_marked, stream_marked_other}
 use Rattle.owned_restarts.specs.Ready.{OwnRows}

@@ -2,7 +2,7 @@
 use Rattle.std.specs.Prelude.{ℕ, ◌≤◌, ◌<◌, ◌≡◌, List}
 use Rattle.queue_words.specs.Known.{known_at}
 use Rattle.queue_streams.specs.Call.{Accepted}
-use Rattle.queue_restarts.specs.declared.ready.ReadyStreams.{ReadyStreams}
+use Rattle.queue_restarts.specs.ReadyStreams.{ReadyStreams}
 use Rattle.owned_streams.specs.Own.{RowsFit}
 use Rattle.owned_restarts.specs.declared.ReadyIds.{ReadyIds}
 

@@ -12,7 +12,7 @@ use Rattle.queue_streams.specs.Call.{Call}
 use Rattle.queue_streams.specs.Call.{Accepted, Refused}
 use Rattle.queue_streams.specs.Number as number
 use Rattle.queue_restarts.specs.Ready.{all_places_fit, paused_at, one_more, collected, refused_ready, marked_all, readied, ready, count_of, ready_count}
-use Rattle.queue_restarts.specs.declared.ready.ReadyStreams.{ReadyStreams}
+use Rattle.queue_restarts.specs.ReadyStreams.{ReadyStreams}
 use Rattle.queue_restarts.proofs.Loops.{all_fit}
 
 -- At most n ids, and 256 places.

@@ -23,7 +23,7 @@ use Rattle.queue_streams.specs.Call.{Accepted, Refused}
 use Rattle.queue_streams.specs.Number as number
 use Rattle.queue_restarts.specs.Ready.{places_fit, all_places_fit, paused_at, one_more, collected, refused_ready, collected_or16, marked, marked_all, readied, ready, count_of, ready_count}
 use Rattle.queue_restarts.specs.Reset.{put_back, sum_stream, sum_known, sum_all, reset_at, reset_all}
-use Rattle.queue_restarts.specs.declared.ready.ReadyStreams.{ReadyStreams}
+use Rattle.queue_restarts.specs.ReadyStreams.{ReadyStreams}
 use Rattle.queue_restarts.specs.declared.whole.Sum.{Sum}
 
 -- ------------------------------------------------------------------ whether the places fit

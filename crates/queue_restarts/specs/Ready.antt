@@ -1,16 +1,19 @@
 -- The ids that are ready to be reset, on the words. Assumes nothing.
-use Rattle.std.specs.Prelude.{ℕ, zero, suc, ◌+◌, Bool, true, false, List, ltb, replicate, set, take}
+use Rattle.std.specs.Prelude.{ℕ, zero, suc, ◌+◌, Bool, true, false, List, ltb, replicate, set, take, Result, Ok, Err}
 use Rattle.queue_words.specs.Flags.{pick}
 use Rattle.queue_words.specs.Header.{totals_at}
 use Rattle.queue_words.specs.Known.{known_at}
 use Rattle.queue_words.specs.Streams.{is_paused_words, stream_at_words}
+use Rattle.types.specs.Refusal.{refusal_number}
+use Rattle.types.specs.declared.refusal.Refusal.{Refusal}
 use Rattle.queue_streams.specs.Answers.{call_number}
 use Rattle.queue_streams.specs.Call.{Call}
 use Rattle.queue_streams.specs.Call.{Accepted, Refused}
 use Rattle.queue_streams.specs.Number.{Number}
 use Rattle.queue_streams.specs.Number as number
 use Rattle.queue_restarts.specs.Marking.{put_resetting}
-use Rattle.queue_restarts.specs.declared.ready.ReadyStreams.{ReadyStreams}
+use Rattle.queue_restarts.specs.ReadyStreams.{ReadyStreams}
+use Rattle.queue_restarts.specs.declared.ready.ReadyStreams as code
 
 -- 16: "a place kept in the state lies outside its table": whether those of m known streams from position i on lie in theirs.
 unfoldable pub places_fit : List ℕ → ℕ → ℕ → Bool
@@ -22,6 +25,11 @@ all_places_fit ws n = pick (ltb 256 n) false (places_fit ws 0 n)
 
 unfoldable pub paused_at : List ℕ → ℕ → Bool
 paused_at ws place = pick (ltb 255 place) false (is_paused_words (stream_at_words ws place).pause_state)
+
+-- What the code answers, with the numbers of document 01: the ids, or a refusal and no id.
+abbrev pub as_ready : Result code.ReadyStreams Refusal → ReadyStreams
+as_ready (Ok r) = record { answer = Accepted 0; count = r.count; ids = r.ids }
+as_ready (Err r) = record { answer = Refused (refusal_number r); count = 0; ids = replicate 256 0 }
 
 -- 16, and no id.
 abbrev pub refused_ready : ReadyStreams

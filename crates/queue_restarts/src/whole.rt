@@ -1,6 +1,7 @@
 // The whole-queue reset.
 ghost use Rattle.std.specs.Prelude.{◌≡◌, ◌<◌, ◌≤◌, true};
 ghost use Rattle.queue_words.specs.Header.{totals_at};
+ghost use Rattle.queue_streams.specs.Answers.{as_call};
 ghost use Rattle.queue_streams.specs.Settings.{called};
 ghost use Rattle.queue_streams.specs.Waiting.{room_for};
 ghost use Rattle.queue_streams.specs.Call.{Accepted};
@@ -9,7 +10,6 @@ ghost use Rattle.queue_restarts.specs.Settled.{reset_done_in, reset_done_at, Res
 
 use message_chains::amounts::{minus, plus, remaining};
 use message_chains::numbers::with_numbers;
-use queue_streams::answers::Call;
 use queue_streams::waiting::{reschedule, room_for};
 use queue_words::header::{Totals, load_options, load_totals, store_totals};
 use queue_words::items::{Item, load_item, store_item};
@@ -17,7 +17,7 @@ use queue_words::known::{Known, load_known};
 use queue_words::limits::{LAST_MESSAGE, LAST_STREAM, NO_MESSAGE};
 use queue_words::streams::{OutgoingStream, PauseState, load_stream, store_stream};
 use queue_words::{QUEUE_WORDS, whole};
-use types::{Mid, Ssn};
+use types::{Mid, Refusal, Ssn};
 
 // The sent bytes of a head message, which come back.
 fn put_back(queue: &[u64; QUEUE_WORDS], first: u64) -> u64
@@ -201,8 +201,8 @@ pub fn reset_own(queue: &mut [u64; QUEUE_WORDS])
 }
 
 // "every stream with messages then waits".
-pub fn reset(queue: &mut [u64; QUEUE_WORDS]) -> Call
-    ensures { called result queue.new ≡ reset_queue queue.old }
+pub fn reset(queue: &mut [u64; QUEUE_WORDS]) -> Result<usize, Refusal>
+    ensures { called (as_call result) queue.new ≡ reset_queue queue.old }
 {
     let room = room_for(&*queue, true);
     if room {
@@ -210,8 +210,8 @@ pub fn reset(queue: &mut [u64; QUEUE_WORDS]) -> Call
         let sum = sum_all(&*queue, t.total, t.known as usize);
         if sum.fits {
             reset_to(queue, t, sum.total);
-            return Call::Accepted(0);
+            return Ok(0);
         }
     }
-    Call::Refused(16)
+    Err(Refusal::WordsBroken)
 }

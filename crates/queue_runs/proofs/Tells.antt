@@ -10,7 +10,7 @@ use lib.Seq.{get_or-set_same, get_or-set_other, take-append_seam}
 use Rattle.types.specs.Keys.{key_of, key_id, key_unordered}
 use Rattle.queue_model.specs.Types.{Event, Fragment, refused, done, number, flag, ids, fragment, nothing_waits, filled, Outcome}
 use Rattle.queue_streams.specs.Events.{place_words, event_words, put_event, written}
-use Rattle.queue_restarts.specs.declared.ready.ReadyStreams.{ReadyStreams}
+use Rattle.queue_restarts.specs.ReadyStreams.{ReadyStreams}
 use Rattle.queue_sending.specs.declared.data.DataToSend.{DataToSend}
 use Rattle.queue_sending.specs.declared.data.Produced.{Produced}
 use Rattle.queue_sending.specs.declared.data.Produced.TheVariants as produced

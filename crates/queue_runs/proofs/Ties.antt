@@ -11,7 +11,7 @@ use Rattle.queue_streams.specs.Number.{Number}
 use Rattle.queue_messages.specs.Add.{Added}
 use Rattle.queue_messages.specs.declared.message.Message.{Message}
 use Rattle.queue_restarts.specs.Ready.{Readied}
-use Rattle.queue_restarts.specs.declared.ready.ReadyStreams.{ReadyStreams}
+use Rattle.queue_restarts.specs.ReadyStreams.{ReadyStreams}
 use Rattle.queue_sending.specs.Data.{ProducedWith}
 use Rattle.queue_sending.specs.declared.data.Produced.{Produced}
 use Rattle.linked_adding.specs.Add.{AddMeets}

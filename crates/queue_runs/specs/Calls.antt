@@ -9,7 +9,7 @@ use Rattle.queue_streams.specs.Call as answer
 use Rattle.queue_streams.specs.Flag.{Flag}
 use Rattle.queue_streams.specs.Number.{Number}
 use Rattle.queue_messages.specs.declared.message.Message.{Message}
-use Rattle.queue_restarts.specs.declared.ready.ReadyStreams.{ReadyStreams}
+use Rattle.queue_restarts.specs.ReadyStreams.{ReadyStreams}
 use Rattle.queue_sending.specs.declared.data.Produced.{Produced}
 use Rattle.packets.specs.declared.packet.Packet.{Packet}
 use Rattle.packets.specs.declared.packet.PacketFilled.{PacketFilled}

@@ -1,2 +1,2 @@
 -- The answer of the call for ready ids. Assumes nothing.
-pub use Rattle.queue_restarts.specs.declared.ready.ReadyStreams.{ReadyStreams}
+pub use Rattle.queue_restarts.specs.ReadyStreams.{ReadyStreams}

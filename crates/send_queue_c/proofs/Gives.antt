@@ -6,7 +6,7 @@ use Rattle.queue_streams.specs.Flag.{Flag}
 use Rattle.queue_streams.specs.Number.{Number}
 use Rattle.priority_plan.specs.declared.plan.PlannedPriorities.{PlannedPriorities}
 use Rattle.queue_restarts.specs.Ready.{Readied, readied}
-use Rattle.queue_restarts.specs.declared.ready.ReadyStreams.{ReadyStreams}
+use Rattle.queue_restarts.specs.ReadyStreams.{ReadyStreams}
 use Rattle.chunks.specs.Writing.{outcome, write_chunk}
 use Rattle.chunks.specs.declared.chunk.ChunkKind.{ChunkKind}
 use Rattle.queue_sending.specs.declared.data.DataToSend.{DataToSend}

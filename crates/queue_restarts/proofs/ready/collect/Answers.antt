@@ -10,7 +10,7 @@ loop-i-init c = (omega arith, collected_start _, fit_start _ _)
 
 pub returns-then-k-gt-LAST_STREAM : goal.returns-then-k-gt-LAST_STREAM
 returns-then-k-gt-LAST_STREAM c =
-    c.refused_ready.ensures ∙ or16_not _ _ (fit_not _ _ _ c.loop-i.invariant.2 c.loop-i-test.true _ c.load_known-k.ensures (omega (arith, c.if-k-gt-LAST_STREAM.true)))
+    or16_not _ _ (fit_not _ _ _ c.loop-i.invariant.2 c.loop-i-test.true _ c.load_known-k.ensures (omega (arith, c.if-k-gt-LAST_STREAM.true)))
 
 pub loop-i-preserved : goal.loop-i-preserved
 loop-i-preserved c =
