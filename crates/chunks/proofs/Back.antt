@@ -18,8 +18,8 @@ use Rattle.big_endian.proofs.Rows.{numbers_at, row_at_lem}
 use Rattle.chunks.specs.declared.chunk.Chunk.{Chunk}
 use Rattle.chunks.specs.declared.chunk.ChunkKind.{ChunkKind}
 use Rattle.chunks.specs.declared.chunk.ChunkKind.TheVariants as kind
-use Rattle.chunks.specs.declared.chunk.ChunkRead.{ChunkRead}
-use Rattle.chunks.specs.declared.chunk.ChunkRead.TheVariants.{Read, Refused}
+use Rattle.chunks.specs.ChunkRead.{ChunkRead}
+use Rattle.chunks.specs.ChunkRead.{Read, Refused}
 use Rattle.queue_model.specs.Chunks.{padding, padded, chunk_layout}
 use Rattle.chunks.specs.Layout.{header_size, header_widths, header_row, flags_of}
 use Rattle.chunks.specs.Reading.{is_set, chunk_at, read_as, read_typed, read_chunk, payload_of}

@@ -17,7 +17,7 @@ use Rattle.big_endian.proofs.Rows.{numbers_at, row_at_lem}
 use Rattle.chunks.specs.declared.chunk.Chunk.{Chunk}
 use Rattle.chunks.specs.declared.chunk.ChunkKind.{ChunkKind}
 use Rattle.chunks.specs.declared.chunk.ChunkKind.TheVariants as kind
-use Rattle.chunks.specs.declared.chunk.ChunkRead.TheVariants.{Read}
+use Rattle.chunks.specs.ChunkRead.{Read}
 use Rattle.queue_model.specs.Chunks.{padding, padded, chunk_layout, model_chunk_bytes}
 use Rattle.chunks.specs.Layout.{header_size, header_widths, header_row, flags_of, chunk_bytes}
 use Rattle.chunks.specs.Reading.{is_set, fragment_of, chunk, chunk_at, read_chunk, payload_of}

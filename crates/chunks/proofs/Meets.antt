@@ -14,10 +14,10 @@ use Rattle.queue_model.specs.Logic.{outside}
 use Rattle.queue_model.specs.Chunks.{padded}
 use Rattle.queue_sending.specs.declared.data.DataToSend.{DataToSend}
 use Rattle.chunks.specs.declared.chunk.ChunkKind.{ChunkKind}
-use Rattle.chunks.specs.declared.chunk.ChunkRead.{ChunkRead}
-use Rattle.chunks.specs.declared.chunk.ChunkRead.TheVariants as read
-use Rattle.chunks.specs.declared.chunk.ChunkWritten.{ChunkWritten}
-use Rattle.chunks.specs.declared.chunk.ChunkWritten.TheVariants as answer
+use Rattle.chunks.specs.ChunkRead.{ChunkRead}
+use Rattle.chunks.specs.ChunkRead as read
+use Rattle.chunks.specs.ChunkWritten.{ChunkWritten}
+use Rattle.chunks.specs.ChunkWritten as answer
 use Rattle.chunks.specs.Layout.{header_size, chunk_bytes}
 use Rattle.chunks.specs.Writing.{Outcome, outcome, max_written, write_chunk}
 use Rattle.chunks.specs.Reading.{chunk, read_chunk}

@@ -11,7 +11,7 @@ use Rattle.std.specs.Prelude.{if◌then◌else◌}
 use Rattle.big_endian.specs.Numbers.{number_at}
 use Rattle.chunks.specs.declared.chunk.Chunk.{Chunk}
 use Rattle.chunks.specs.declared.chunk.ChunkKind.TheVariants as kind
-use Rattle.chunks.specs.declared.chunk.ChunkRead.TheVariants.{Read, Refused}
+use Rattle.chunks.specs.ChunkRead.{Read, Refused}
 use Rattle.queue_model.specs.Chunks.{padded}
 use Rattle.chunks.specs.Reading.{chunk_at, read_typed, read_chunk}
 

@@ -11,8 +11,8 @@ use lib.ListN.{length, drop}
 use Rattle.queue_sending.specs.declared.data.DataToSend.{DataToSend}
 use Rattle.chunks.specs.declared.chunk.Chunk.{Chunk}
 use Rattle.chunks.specs.declared.chunk.ChunkKind.{ChunkKind}
-use Rattle.chunks.specs.declared.chunk.ChunkRead.TheVariants.{Read, Refused}
-use Rattle.chunks.specs.declared.chunk.ChunkWritten.TheVariants as answer
+use Rattle.chunks.specs.ChunkRead.{Read, Refused}
+use Rattle.chunks.specs.ChunkWritten as answer
 use Rattle.queue_model.specs.Chunks.{padded}
 use Rattle.chunks.specs.Layout.{header_size, chunk_bytes}
 use Rattle.chunks.specs.Writing.{outcome, write_chunk}

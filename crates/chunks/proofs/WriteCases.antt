@@ -16,7 +16,7 @@ use Rattle.big_endian.proofs.Halves.{wrote_length, wrote_twice}
 use Rattle.big_endian.proofs.Rows.{row_length}
 use Rattle.chunks.specs.declared.chunk.ChunkKind.{ChunkKind}
 use Rattle.chunks.specs.declared.chunk.ChunkKind.TheVariants as kind
-use Rattle.chunks.specs.declared.chunk.ChunkWritten.TheVariants as answer
+use Rattle.chunks.specs.ChunkWritten as answer
 use Rattle.queue_model.specs.Chunks.{padding, padded, chunk_layout, model_chunk_bytes}
 use Rattle.chunks.specs.Layout.{header_size, header_widths, flags_of, header_row, layout, chunk_bytes}
 use Rattle.chunks.specs.Writing.{outcome, max_written, write_chunk}

@@ -6,10 +6,10 @@ use Rattle.queue_sending.specs.declared.data.DataToSend.{DataToSend}
 use Rattle.chunks.specs.declared.chunk.ChunkKind.{ChunkKind}
 use Rattle.chunks.specs.declared.chunk.ChunkKind.TheVariants as kind
 use Rattle.chunks.specs.declared.chunk.Chunk.{Chunk}
-use Rattle.chunks.specs.declared.chunk.ChunkRead.{ChunkRead}
-use Rattle.chunks.specs.declared.chunk.ChunkRead.TheVariants.{Read, Refused}
-use Rattle.chunks.specs.declared.chunk.ChunkWritten.{ChunkWritten}
-use Rattle.chunks.specs.declared.chunk.ChunkWritten.TheVariants.{Bytes}
+use Rattle.chunks.specs.ChunkRead.{ChunkRead}
+use Rattle.chunks.specs.ChunkRead.{Read, Refused}
+use Rattle.chunks.specs.ChunkWritten.{ChunkWritten}
+use Rattle.chunks.specs.ChunkWritten.{Bytes}
 use Rattle.queue_model.specs.Chunks.{padding}
 use Rattle.chunks.specs.Layout.{header_size, flags_of, layout}
 use Rattle.chunks.specs.Writing.{outcome, write_chunk}

@@ -7,8 +7,8 @@ use Rattle.big_endian.specs.Numbers.{number_at}
 use Rattle.chunks.specs.declared.chunk.Chunk.{Chunk}
 use Rattle.chunks.specs.declared.chunk.ChunkKind.{ChunkKind}
 use Rattle.chunks.specs.declared.chunk.ChunkKind.TheVariants as kind
-use Rattle.chunks.specs.declared.chunk.ChunkRead.{ChunkRead}
-use Rattle.chunks.specs.declared.chunk.ChunkRead.TheVariants.{Read, Refused}
+use Rattle.chunks.specs.ChunkRead.{ChunkRead}
+use Rattle.chunks.specs.ChunkRead.{Read, Refused}
 use Rattle.queue_model.specs.Chunks.{chunk_type, padded}
 use Rattle.chunks.specs.Layout.{header_size}
 use Rattle.chunks.specs.Carried.{only_data}

@@ -4,8 +4,8 @@ use Rattle.std.specs.Prelude.{if◌then◌else◌}
 use Rattle.queue_model.specs.Logic.{outside}
 use Rattle.queue_sending.specs.declared.data.DataToSend.{DataToSend}
 use Rattle.chunks.specs.declared.chunk.ChunkKind.{ChunkKind}
-use Rattle.chunks.specs.declared.chunk.ChunkWritten.{ChunkWritten}
-use Rattle.chunks.specs.declared.chunk.ChunkWritten.TheVariants as answer
+use Rattle.chunks.specs.ChunkWritten.{ChunkWritten}
+use Rattle.chunks.specs.ChunkWritten as answer
 use Rattle.queue_model.specs.Chunks.{padded}
 use Rattle.chunks.specs.Layout.{header_size, chunk_bytes}
 

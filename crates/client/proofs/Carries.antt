@@ -12,7 +12,7 @@ use Rattle.queue_model.specs.Streams.{new_queue}
 use Rattle.queue_model.specs.Refusals.{first_refusal, create_refusal, creation_or, create, new}
 use Rattle.queue_model.specs.Run as run
 use Rattle.queue_messages.specs.declared.message.Message.{Message}
-use Rattle.queue_sending.specs.declared.data.Produced.{Produced}
+use Rattle.queue_sending.specs.Produced.{Produced}
 use Rattle.queue_sending.specs.Data.{produced_with}
 use Rattle.queue_streams.specs.Events.{places_in}
 use Rattle.queue_streams.specs.Call.{Call}

@@ -4,8 +4,8 @@ use Rattle.queue_streams.specs.Events.{event_words}
 use Rattle.queue_messages.specs.declared.message.Lifetime.TheVariants as lifetime
 use Rattle.queue_messages.specs.declared.message.MaxRetransmissions.TheVariants as retransmissions
 use Rattle.queue_messages.specs.declared.message.Message.{Message}
-use Rattle.queue_sending.specs.declared.data.Produced.{Produced}
-use Rattle.queue_sending.specs.declared.data.Produced.TheVariants as produced
+use Rattle.queue_sending.specs.Produced.{Produced}
+use Rattle.queue_sending.specs.Produced as produced
 
 -- An ordered message on a stream, without a lifetime or a limit of retransmissions.
 abbrev pub plain_message : ℕ → Message

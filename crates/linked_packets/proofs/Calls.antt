@@ -27,8 +27,8 @@ use Rattle.queue_model.proofs.Fill.Lengths.{chunks_length, length_chunk, chunk_w
 use Rattle.queue_streams.specs.Events.{event_words, written}
 use Rattle.queue_sending.specs.Data.{ProducedWith}
 use Rattle.queue_sending.specs.Produce.{produced_after}
-use Rattle.queue_sending.specs.declared.data.Produced.{Produced}
-use Rattle.queue_sending.specs.declared.data.Produced.TheVariants as produced
+use Rattle.queue_sending.specs.Produced.{Produced}
+use Rattle.queue_sending.specs.Produced as produced
 use Rattle.queue_state.specs.Model.{model}
 use Rattle.queue_state.specs.Good.{Good}
 use Rattle.big_endian.specs.Numbers.{wrote}

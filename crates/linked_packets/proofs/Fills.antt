@@ -27,8 +27,8 @@ use Rattle.big_endian.specs.Numbers.{wrote}
 use Rattle.big_endian.proofs.Rows.{wrote_none}
 use Rattle.packets.specs.declared.filling.Filling as progress
 use Rattle.packets.specs.declared.packet.Packet.{Packet}
-use Rattle.packets.specs.declared.packet.PacketFilled.{PacketFilled}
-use Rattle.packets.specs.declared.packet.PacketFilled.TheVariants as packet
+use Rattle.packets.specs.PacketFilled.{PacketFilled}
+use Rattle.packets.specs.PacketFilled as packet
 use Rattle.packets.specs.Filling.{packet_of, kind_of, fill_code, FillingWith, reached, fill_on_words, filled_with_words, finished_answer, finished_packet, finished, fill_packet}
 use Rattle.packets.proofs.Places.{wrote_before}
 use Rattle.linked_packets.specs.Meaning.{Fills, FillMeets, fill_call}

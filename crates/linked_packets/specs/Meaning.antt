@@ -7,8 +7,8 @@ use Rattle.queue_streams.specs.Events.{places_in, written}
 use Rattle.queue_state.specs.Model.{model}
 use Rattle.queue_state.specs.Good.{Good}
 use Rattle.packets.specs.declared.packet.Packet.{Packet}
-use Rattle.packets.specs.declared.packet.PacketFilled.{PacketFilled}
-use Rattle.packets.specs.declared.packet.PacketFilled.TheVariants as packet
+use Rattle.packets.specs.PacketFilled.{PacketFilled}
+use Rattle.packets.specs.PacketFilled as packet
 use Rattle.packets.specs.Filling.{packet_of, FilledWith, filled_with_words, filled_number, filled_events, filled_bytes, filled_chunks, fill_packet}
 use Rattle.linked_sending.specs.Meaning.{buffer_of}
 

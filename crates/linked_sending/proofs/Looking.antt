@@ -33,7 +33,7 @@ use Rattle.stream_scheduler.specs.declared.Peeked.{Peeked}
 use Rattle.stream_scheduler.specs.declared.Peeked.TheVariants as peeked
 use Rattle.stream_scheduler.proofs.Handing.{peek_link}
 use Rattle.queue_sending.specs.Choice.{expired_by, look_at_words, look_for_words, look_ahead, is_past}
-use Rattle.queue_sending.specs.declared.choice.Look.TheVariants as words_look
+use Rattle.queue_sending.specs.Look as words_look
 use Rattle.queue_state.specs.Chains.{each}
 use Rattle.queue_state.specs.Model.{next_of, item_in_words, row_at, stream_in, streams_in, model, expires_of}
 use Rattle.queue_state.specs.Good.{Shape, Good}

@@ -32,7 +32,7 @@ use Rattle.queue_sending.specs.Choice.{look_ahead}
 use Rattle.queue_sending.specs.Data.{ProducedWith}
 use Rattle.queue_sending.specs.Fragment.{handed_out_words}
 use Rattle.queue_sending.specs.Produce.{pass_over_words, expired_dropped, refusal}
-use Rattle.queue_sending.specs.declared.choice.Look.TheVariants as words_look
+use Rattle.queue_sending.specs.Look as words_look
 use Rattle.queue_sending.proofs.Passes.{pass_nothing, pass_chosen}
 use Rattle.queue_state.specs.Chains.{each}
 use Rattle.queue_state.specs.Model.{item_in_words, row_at, stream_in, model}

@@ -18,8 +18,8 @@ use Rattle.queue_model.proofs.Invariant.Events.{potential_fits}
 use Rattle.payload_store.proofs.Cases.{by_index}
 use Rattle.queue_sending.specs.Data.{ProducedWith, produced_with, refused_with}
 use Rattle.queue_sending.specs.Produce.{produce_code, produce_next, pass_over_words, refusal, settled, settled_as}
-use Rattle.queue_sending.specs.declared.data.Produced.{Produced}
-use Rattle.queue_sending.specs.declared.data.Produced.TheVariants as produced
+use Rattle.queue_sending.specs.Produced.{Produced}
+use Rattle.queue_sending.specs.Produced as produced
 use Rattle.queue_sending.proofs.Passes.{produce_passes}
 use Rattle.queue_streams.specs.Events.{event_words, places_in, written}
 use Rattle.queue_state.specs.Model.{model}

@@ -39,7 +39,7 @@ use Rattle.message_chains.specs.Dropping.{end_pending_words}
 use Rattle.queue_sending.specs.Fragment.{least_of, send_code, finished, less_amount, went_on_words, went_further, written_sent, sent, chosen_code, handed_out_words}
 use Rattle.queue_sending.specs.Produce.{refusal}
 use Rattle.queue_sending.specs.Numbers.{numbered_item, numbered_stream, moved_on_words}
-use Rattle.queue_sending.specs.declared.data.Produced.TheVariants as produced
+use Rattle.queue_sending.specs.Produced as produced
 use Rattle.queue_state.specs.Chains.{each}
 use Rattle.queue_state.specs.Model.{next_of, item_of, item_in_words, options_of, pause_of, stream_of, row_at, stream_in, streams_in, model}
 use Rattle.queue_state.specs.Good.{Shape, Good}

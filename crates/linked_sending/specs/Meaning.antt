@@ -9,8 +9,8 @@ use Rattle.queue_model.specs.Run as run
 use Rattle.queue_streams.specs.Events.{places_in, written}
 use Rattle.queue_sending.specs.declared.data.DataToSend.{DataToSend}
 use Rattle.queue_words.specs.Items.{Expiry}
-use Rattle.queue_sending.specs.declared.data.Produced.{Produced}
-use Rattle.queue_sending.specs.declared.data.Produced.TheVariants as produced
+use Rattle.queue_sending.specs.Produced.{Produced}
+use Rattle.queue_sending.specs.Produced as produced
 use Rattle.queue_sending.specs.Data.{ProducedWith, produced_with, produced_number, produced_events, produced_data}
 use Rattle.queue_sending.specs.Produce.{produce_next}
 use Rattle.queue_state.specs.Model.{model}

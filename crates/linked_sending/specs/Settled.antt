@@ -5,7 +5,7 @@ use Rattle.queue_words.specs.declared.active.SchedulingParameters.{SchedulingPar
 use Rattle.stream_scheduler.specs.Words.{accept_at}
 use Rattle.stream_scheduler.specs.Anew.{accept_last_words}
 use Rattle.queue_sending.specs.Choice.{look_ahead}
-use Rattle.queue_sending.specs.declared.choice.Look.TheVariants as look
+use Rattle.queue_sending.specs.Look as look
 
 -- Bytes of the row `at` are handed out, or its last ones: neither is refused.
 pub record Takes (ws : List ℕ) (at : ℕ) : Type 0 where

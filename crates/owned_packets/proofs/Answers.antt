@@ -17,7 +17,7 @@ use Rattle.queue_state.specs.Good.{Good}
 use Rattle.chunks.specs.declared.chunk.ChunkKind.{ChunkKind}
 use Rattle.packets.specs.Filling.{kind_of, fill_code, filling_with, fill_on_words, filled_with_words, finished_answer, finished_packet, fill_packet}
 use Rattle.packets.specs.declared.packet.Packet.{Packet}
-use Rattle.packets.specs.declared.packet.PacketFilled.TheVariants as packet
+use Rattle.packets.specs.PacketFilled as packet
 use Rattle.packets.proofs.Cases.{filled_is}
 use Rattle.linked_packets.specs.Meaning.{FillMeets}
 use Rattle.linked_packets.proofs.Fills.{fill_meets}

@@ -16,8 +16,8 @@ use Rattle.queue_streams.specs.Events.{event_words, written}
 use Rattle.queue_sending.specs.Data.{ProducedWith, produced_with}
 use Rattle.queue_sending.specs.Produce.{produced_after}
 use Rattle.queue_sending.specs.declared.data.DataToSend.{DataToSend}
-use Rattle.queue_sending.specs.declared.data.Produced.{Produced}
-use Rattle.queue_sending.specs.declared.data.Produced.TheVariants as produced
+use Rattle.queue_sending.specs.Produced.{Produced}
+use Rattle.queue_sending.specs.Produced as produced
 use Rattle.queue_state.specs.Model.{model}
 use Rattle.queue_state.specs.Good.{Good}
 use Rattle.queue_state.proofs.Notes.{written_length}

@@ -17,9 +17,9 @@ use Rattle.queue_streams.specs.Events.{event_words}
 use Rattle.queue_sending.specs.Data.{ProducedWith, produced_with, produced_number}
 use Rattle.queue_sending.specs.Fragment.{chosen_code, handed_out_words}
 use Rattle.queue_sending.specs.Produce.{lent_code, produce_code, pass_over_words, produced_after, produce_next, refusal}
-use Rattle.queue_sending.specs.declared.choice.Look.TheVariants as words_look
+use Rattle.queue_sending.specs.Look as words_look
 use Rattle.queue_sending.specs.declared.data.DataToSend.{DataToSend}
-use Rattle.queue_sending.specs.declared.data.Produced.TheVariants as checked
+use Rattle.queue_sending.specs.Produced as checked
 use Rattle.queue_sending.proofs.Ahead.{chosen_row}
 use Rattle.queue_sending.proofs.Passes.{pass_nothing, pass_chosen, after_passes}
 use Rattle.queue_state.specs.Chains.{each}

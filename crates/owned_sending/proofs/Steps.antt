@@ -21,9 +21,9 @@ use Rattle.message_chains.proofs.Own.{may_drop}
 use Rattle.queue_sending.specs.Choice.{look_ahead}
 use Rattle.queue_sending.specs.Own.{look_of, Unbroken}
 use Rattle.queue_sending.specs.Produce.{expired_dropped, pass_over_words}
-use Rattle.queue_sending.specs.declared.choice.Look.TheVariants as words_look
-use Rattle.queue_sending.specs.declared.own.Ahead.{Ahead}
-use Rattle.queue_sending.specs.declared.own.Ahead.TheVariants as ahead
+use Rattle.queue_sending.specs.Look as words_look
+use Rattle.queue_sending.specs.declared.choice.Ahead.{Ahead}
+use Rattle.queue_sending.specs.declared.choice.Ahead.TheVariants as ahead
 use Rattle.queue_state.specs.Chains.{each}
 use Rattle.queue_state.specs.Model.{item_in_words, row_at, stream_in, model}
 use Rattle.queue_state.specs.Good.{Good}

@@ -5,8 +5,8 @@ use Rattle.queue_model.proofs.Invariant.Events.{potential}
 use Rattle.queue_streams.specs.Events.{event_words}
 use Rattle.queue_sending.specs.Choice.{look_ahead}
 use Rattle.queue_sending.specs.Produce.{pass_over_words}
-use Rattle.queue_sending.specs.declared.choice.Look.{Look}
-use Rattle.queue_sending.specs.declared.choice.Look.TheVariants as look
+use Rattle.queue_sending.specs.Look.{Look}
+use Rattle.queue_sending.specs.Look as look
 use Rattle.queue_state.specs.Model.{model}
 use Rattle.queue_state.specs.Good.{Good}
 use Rattle.owned_sending.specs.declared.passing.Turn.{Turn}

@@ -5,8 +5,8 @@ use Rattle.queue_streams.specs.Events.{places_in}
 use Rattle.queue_state.specs.Model.{model}
 use Rattle.queue_sending.specs.Data.{produced_with, produced_number}
 use Rattle.queue_sending.specs.Produce.{lent_code, produce_next}
-use Rattle.queue_sending.specs.declared.data.Produced as checked
-use Rattle.queue_sending.specs.declared.data.Produced.TheVariants as checked_is
+use Rattle.queue_sending.specs.Produced as checked
+use Rattle.queue_sending.specs.Produced as checked_is
 use Rattle.linked_sending.specs.Meaning.{Sends, TellsFragment}
 use Rattle.owned_sending.specs.declared.next_fragment.Made.{Made}
 use Rattle.owned_sending.specs.declared.next_fragment.Made.TheVariants as made

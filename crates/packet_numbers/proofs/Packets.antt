@@ -2,7 +2,7 @@
 use Prim.Native.Nat.{ℕ}
 use mathlib.Core.Path.{◌≡◌, refl}
 use mathlib.Core.List.{List}
-use Rattle.packets.specs.declared.packet.PacketFilled.{PacketFilled}
+use Rattle.packets.specs.PacketFilled.{PacketFilled}
 use Rattle.packets.specs.Filling.{FilledWith, filled_with_words, filled_number}
 use Rattle.packet_numbers.specs.Packets.{filled_out, GivesPacket}
 

@@ -1,8 +1,8 @@
 -- Packets as numbers, for a host in C or Rust. Assumes nothing.
 use Rattle.std.specs.Prelude.{ℕ, ◌≡◌, List, set}
 use Rattle.packets.specs.declared.packet.Packet.{Packet}
-use Rattle.packets.specs.declared.packet.PacketFilled.{PacketFilled}
-use Rattle.packets.specs.declared.packet.PacketFilled.TheVariants as packet
+use Rattle.packets.specs.PacketFilled.{PacketFilled}
+use Rattle.packets.specs.PacketFilled as packet
 use Rattle.packets.specs.Filling.{FilledWith, filled_number}
 
 -- a packet by its numbers

@@ -23,8 +23,8 @@ use Rattle.queue_sending.specs.Data.{ProducedWith, produced_with}
 use Rattle.queue_sending.specs.Produce.{produced_after}
 use Rattle.queue_sending.specs.declared.data.Data.{Data}
 use Rattle.queue_sending.specs.declared.data.DataToSend.{DataToSend}
-use Rattle.queue_sending.specs.declared.data.Produced.{Produced}
-use Rattle.queue_sending.specs.declared.data.Produced.TheVariants as produced
+use Rattle.queue_sending.specs.Produced.{Produced}
+use Rattle.queue_sending.specs.Produced as produced
 use Rattle.big_endian.specs.Numbers.{wrote}
 use Rattle.chunks.specs.Layout.{header_size, header_widths, header_row, flags_of}
 use Rattle.chunks.specs.declared.chunk.ChunkKind.{ChunkKind}
@@ -32,7 +32,7 @@ use Rattle.chunks.specs.declared.chunk.ChunkKind.TheVariants as kind
 use Rattle.chunks.proofs.WriteCases.{header_length}
 use Rattle.packets.specs.declared.filling.Filling.{Filling}
 use Rattle.packets.specs.declared.packet.Packet.{Packet}
-use Rattle.packets.specs.declared.packet.PacketFilled.{PacketFilled}
+use Rattle.packets.specs.PacketFilled.{PacketFilled}
 use Rattle.packets.specs.Filling.{kind_of, packet_code, events_code, fill_code, chunk_around, packet_after, around, one_filled, filling_with, reached, and_on_words, size_asked_words, fill_on_words, filled_with_words, finished_answer, finished_packet, finished, fill_packet}
 use Rattle.packets.proofs.Within.{after_within}
 

@@ -21,11 +21,11 @@ use Rattle.queue_sending.specs.Data.{data_to_send, ProducedWith, produced_with, 
 use Rattle.queue_sending.specs.Fragment.{least_of, send_code, sent, handed_out_words}
 use Rattle.queue_sending.specs.Numbers.{numbered_item}
 use Rattle.queue_sending.specs.Produce.{expired_dropped, after_look, after_drop, pass_over_words, settled_as, past_from, produced_past, produced_after}
-use Rattle.queue_sending.specs.declared.choice.Look.{Look}
-use Rattle.queue_sending.specs.declared.choice.Look.TheVariants as look
+use Rattle.queue_sending.specs.Look.{Look}
+use Rattle.queue_sending.specs.Look as look
 use Rattle.queue_sending.specs.declared.data.DataToSend.{DataToSend}
-use Rattle.queue_sending.specs.declared.data.Produced.{Produced}
-use Rattle.queue_sending.specs.declared.data.Produced.TheVariants as produced
+use Rattle.queue_sending.specs.Produced.{Produced}
+use Rattle.queue_sending.specs.Produced as produced
 
 pub record Within (size : ℕ) (p : ProducedWith) : Type 0 where
   pub within : (j : ℕ) (d : DataToSend) → p.answer ≡ produced.Fragment j d → d.«data».length ≤ size

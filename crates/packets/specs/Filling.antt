@@ -11,15 +11,15 @@ use Rattle.queue_streams.specs.Events.{event_words}
 use Rattle.queue_sending.specs.Data.{ProducedWith, produced_with}
 use Rattle.queue_sending.specs.Produce.{produced_after}
 use Rattle.queue_sending.specs.declared.data.Data.{Data}
-use Rattle.queue_sending.specs.declared.data.Produced.{Produced}
-use Rattle.queue_sending.specs.declared.data.Produced.TheVariants as produced
+use Rattle.queue_sending.specs.Produced.{Produced}
+use Rattle.queue_sending.specs.Produced as produced
 use Rattle.big_endian.specs.Numbers.{wrote}
 use Rattle.chunks.specs.Layout.{header_size, header_widths, header_row, flags_of}
 use Rattle.chunks.specs.declared.chunk.ChunkKind.{ChunkKind}
 use Rattle.chunks.specs.declared.chunk.ChunkKind.TheVariants as kind
 use Rattle.packets.specs.declared.packet.Packet.{Packet}
-use Rattle.packets.specs.declared.packet.PacketFilled.{PacketFilled}
-use Rattle.packets.specs.declared.packet.PacketFilled.TheVariants as packet
+use Rattle.packets.specs.PacketFilled.{PacketFilled}
+use Rattle.packets.specs.PacketFilled as packet
 use Rattle.packets.specs.declared.filling.Filling.{Filling}
 
 -- The packet as the model takes it.

@@ -1,2 +1,3 @@
 -- Packets on the wire. Assumes nothing.
+pub mod PacketFilled
 pub mod Filling

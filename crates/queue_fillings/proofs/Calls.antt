@@ -20,7 +20,7 @@ use Rattle.queue_model.proofs.Invariant.Sends.{fine_produce}
 use Rattle.queue_model.proofs.Fill.Calls.{fill_induct}
 use Rattle.queue_model.proofs.Fill.Sizes.{Past, past_checks}
 use Rattle.queue_model.proofs.Fill.Answers.{Gives, gives, waits_none, produce_gives}
-use Rattle.packets.specs.declared.packet.PacketFilled.TheVariants as packet
+use Rattle.packets.specs.PacketFilled as packet
 use Rattle.linked_packets.specs.Meaning.{filled_of}
 use Rattle.queue_model.proofs.Fill.Request5.{gives_none}
 

@@ -15,12 +15,12 @@ use Rattle.queue_model.specs.Run as run
 use Rattle.queue_model.specs.Calls as calls
 use Rattle.queue_questions.specs.Questions.{total_of}
 use Rattle.queue_streams.specs.Events.{places_in}
-use Rattle.queue_sending.specs.declared.data.Produced.TheVariants as produced
+use Rattle.queue_sending.specs.Produced as produced
 use Rattle.linked_streams.proofs.Asks.{total_asked}
 use Rattle.linked_sending.specs.Meaning.{produced_of}
 use Rattle.linked_packets.specs.Meaning.{filled_of}
 use Rattle.packets.specs.declared.packet.Packet.{Packet}
-use Rattle.packets.specs.declared.packet.PacketFilled.TheVariants as packet
+use Rattle.packets.specs.PacketFilled as packet
 use Rattle.packets.specs.Filling.{packet_of}
 use Rattle.queue_runs.specs.Calls.{Call, produce, fill, close, ready_ids, reset, Typed, Shown, sent, filled}
 use Rattle.queue_runs.specs.Run as runs

@@ -5,9 +5,9 @@ use Rattle.queue_model.specs.Types.{Item}
 use Rattle.queue_model.specs.Streams.{stream_at}
 use Rattle.queue_model.specs.Closing.{half_sent}
 use Rattle.queue_questions.specs.Questions.{total_of}
-use Rattle.queue_sending.specs.declared.data.Produced.TheVariants as produced
+use Rattle.queue_sending.specs.Produced as produced
 use Rattle.packets.specs.declared.packet.Packet.{Packet}
-use Rattle.packets.specs.declared.packet.PacketFilled.TheVariants as packet
+use Rattle.packets.specs.PacketFilled as packet
 use Rattle.queue_runs.specs.Calls.{Call, produce, fill, close, reset, Typed, sent, filled}
 use Rattle.queue_runs.specs.Run.{State, step, after}
 use Rattle.queue_runs.specs.Meaning.{queue_of, AllTyped}

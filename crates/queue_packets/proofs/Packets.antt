@@ -21,7 +21,7 @@ use Rattle.queue_streams.specs.Events.{places_in}
 use Rattle.chunks.specs.Promise.{InWidth, ReadsBack}
 use Rattle.chunks.proofs.Theorems.{reads_back}
 use Rattle.packets.specs.declared.packet.Packet.{Packet}
-use Rattle.packets.specs.declared.packet.PacketFilled.TheVariants as packet
+use Rattle.packets.specs.PacketFilled as packet
 use Rattle.packets.specs.Filling.{packet_of, kind_of}
 use Rattle.linked_sending.specs.Meaning.{data_of}
 use Rattle.linked_packets.proofs.Chunk.{chunk_same}

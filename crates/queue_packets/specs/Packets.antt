@@ -11,7 +11,7 @@ use Rattle.queue_streams.specs.Events.{places_in, written}
 use Rattle.chunks.specs.Promise.{ReadsBack}
 use Rattle.chunks.specs.declared.chunk.ChunkKind.{ChunkKind}
 use Rattle.packets.specs.declared.packet.Packet.{Packet}
-use Rattle.packets.specs.declared.packet.PacketFilled.TheVariants as packet
+use Rattle.packets.specs.PacketFilled as packet
 use Rattle.packets.specs.Filling.{kind_of}
 use Rattle.linked_sending.specs.Meaning.{data_of}
 use Rattle.queue_runs.specs.Calls.{fill, Typed, filled}

@@ -2,8 +2,8 @@
 use Rattle.std.specs.Prelude.{ℕ, Bool, true, false, ◌||◌, List, [], ◌∷◌}
 use Rattle.std.proofs.Math.Option.{Option, none, some}
 use Rattle.types.specs.Keys.{key_id}
-use Rattle.queue_sending.specs.declared.data.Produced.{Produced}
-use Rattle.queue_sending.specs.declared.data.Produced.TheVariants as produced
+use Rattle.queue_sending.specs.Produced.{Produced}
+use Rattle.queue_sending.specs.Produced as produced
 use Rattle.queue_runs.specs.Calls.{Answer, called, sent, filled, readied, number, flag, count, truth, Shown}
 use Rattle.priority_plan.specs.Turns.{and_shown, ServedInTurn}
 

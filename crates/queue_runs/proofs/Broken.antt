@@ -49,8 +49,8 @@ use Rattle.queue_sending.specs.Choice.{look_ahead, look_for_words, look_at_words
 use Rattle.queue_sending.specs.Data.{produced_number, refused_with}
 use Rattle.queue_sending.specs.Fragment.{handed_out_words, sent, send_code, least_of}
 use Rattle.queue_sending.specs.Produce.{produce_next, produced_after, produced_past, past_from, pass_over_words, expired_dropped}
-use Rattle.queue_sending.specs.declared.choice.Look.TheVariants as look
-use Rattle.queue_sending.specs.declared.data.Produced.TheVariants as produced
+use Rattle.queue_sending.specs.Look as look
+use Rattle.queue_sending.specs.Produced as produced
 use Rattle.queue_runs.specs.Run.{State, step}
 use Rattle.queue_runs.specs.Broken.{Unplaced, UnplacedIsSixteen, LostIsSixteen, CrowdedIsSixteen, AstrayIsSixteen, ChosenBare, ChosenBareIsSixteen, Short, head_of, Unfit, UnfitChosenIsSixteen, UnfitExpiredIsSixteen, UnfitHeadIsSixteen, rest_from, in_table, dropped_from, ShortClosingIsSixteen, Over, NoPlace, OverIsSixteen, put_back_at, put_back_by, OverReset, OverResetIsSixteen}
 

@@ -18,7 +18,7 @@ use Rattle.queue_model.proofs.Invariant.Serving.{waits_above}
 use Rattle.queue_model.proofs.Invariant.Closing.{Begins, Leaves, close_leaves, pending_offset, pending_waits, nothing_waits_then, Falls, is_refused, nothing_left, falls, produce_falls}
 use Rattle.queue_questions.specs.Questions.{total_of}
 use Rattle.queue_streams.specs.Events.{places_in}
-use Rattle.queue_sending.specs.declared.data.Produced.TheVariants as produced
+use Rattle.queue_sending.specs.Produced as produced
 use Rattle.linked_sending.specs.Meaning.{produced_of}
 use Rattle.linked_streams.proofs.Asks.{total_asked}
 use Rattle.queue_runs.specs.Calls.{Call, produce, discard, close, call_of, Typed, Shown, sent}

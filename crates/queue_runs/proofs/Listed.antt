@@ -55,10 +55,10 @@ use Rattle.queue_sending.specs.Choice.{look_ahead}
 use Rattle.queue_sending.specs.Data.{ProducedWith, produced_with, refused_with}
 use Rattle.queue_sending.specs.Fragment.{least_of, send_code, sent, handed_out_words}
 use Rattle.queue_sending.specs.Produce.{produce_code, expired_dropped, after_look, after_drop, after_call, pass_over_words, settled_as, past_from, produced_past, produced_after, produce_next}
-use Rattle.queue_sending.specs.declared.choice.Look.{Look}
-use Rattle.queue_sending.specs.declared.choice.Look.TheVariants as look
-use Rattle.queue_sending.specs.declared.data.Produced.{Produced}
-use Rattle.queue_sending.specs.declared.data.Produced.TheVariants as produced
+use Rattle.queue_sending.specs.Look.{Look}
+use Rattle.queue_sending.specs.Look as look
+use Rattle.queue_sending.specs.Produced.{Produced}
+use Rattle.queue_sending.specs.Produced as produced
 use Rattle.image_rules.specs.Code.{rules_kept, amounts_fit, image_code_words}
 use Rattle.image_rules.specs.Trailers.{trailer_in}
 use Rattle.handover.specs.Restore as restoring
@@ -74,7 +74,7 @@ use Rattle.chunks.specs.Layout.{header_size}
 use Rattle.chunks.specs.declared.chunk.ChunkKind.{ChunkKind}
 use Rattle.packets.specs.declared.filling.Filling.{Filling}
 use Rattle.packets.specs.declared.packet.Packet.{Packet}
-use Rattle.packets.specs.declared.packet.PacketFilled.TheVariants as packet
+use Rattle.packets.specs.PacketFilled as packet
 use Rattle.packets.specs.Filling.{kind_of, fill_code, one_filled, FillingWith, filling_with, reached, after_one, and_on_words, size_asked_words, fill_on_words, filled_with_words, filled_number, finished_answer, finished, fill_packet}
 use Rattle.queue_runs.specs.Numbers.{among, RefusalsListed}
 use Rattle.payload_store.proofs.Cases.{false_true}

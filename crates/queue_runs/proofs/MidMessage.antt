@@ -21,7 +21,7 @@ use Rattle.queue_words.specs.Header.{scheduler_at}
 use Rattle.queue_streams.specs.Events.{places_in}
 use Rattle.stream_scheduler.specs.Link.{current_of, model_scheduler}
 use Rattle.queue_sending.specs.declared.data.DataToSend.{DataToSend}
-use Rattle.queue_sending.specs.declared.data.Produced.TheVariants as produced
+use Rattle.queue_sending.specs.Produced as produced
 use Rattle.queue_state.specs.Promise as promise
 use Rattle.queue_state.proofs.Singles.{model_schedules}
 use Rattle.linked_sending.specs.Meaning.{data_of}

@@ -35,12 +35,12 @@ use Rattle.queue_closing.specs.Walk.{may_sweep}
 use Rattle.queue_restarts.specs.Ready as readying
 use Rattle.queue_restarts.specs.Reset.{reset_queue, sum_of}
 use Rattle.queue_sending.specs.Produce.{produce_next}
-use Rattle.packets.specs.declared.packet.PacketFilled.{PacketFilled}
-use Rattle.packets.specs.declared.packet.PacketFilled.TheVariants as packet
+use Rattle.packets.specs.PacketFilled.{PacketFilled}
+use Rattle.packets.specs.PacketFilled as packet
 use Rattle.packets.specs.Filling.{fill_packet}
 use Rattle.packets.proofs.Refused.{fill_refused_lem}
-use Rattle.queue_sending.specs.declared.data.Produced.{Produced}
-use Rattle.queue_sending.specs.declared.data.Produced.TheVariants as produced
+use Rattle.queue_sending.specs.Produced.{Produced}
+use Rattle.queue_sending.specs.Produced as produced
 use Rattle.queue_sending.proofs.Passes.{produce_refused}
 use Rattle.handover.specs.Restore as restoring
 use Rattle.queue_runs.specs.Calls.{add, produce, fill, discard, close, ready_ids, commit, rollback, reset, set_threshold, set_priority, set_interleaving, restore, ask_priority, ask_amount, ask_threshold, ask_total, ask_empty, ask_has_data, ask_streams_ready, ask_ready_count, ask_readiness, ask_room}

@@ -12,8 +12,8 @@ use Rattle.queue_model.specs.Types.{Event, Fragment, refused, done, number, flag
 use Rattle.queue_streams.specs.Events.{place_words, event_words, put_event, written}
 use Rattle.queue_restarts.specs.ReadyStreams.{ReadyStreams}
 use Rattle.queue_sending.specs.declared.data.DataToSend.{DataToSend}
-use Rattle.queue_sending.specs.declared.data.Produced.{Produced}
-use Rattle.queue_sending.specs.declared.data.Produced.TheVariants as produced
+use Rattle.queue_sending.specs.Produced.{Produced}
+use Rattle.queue_sending.specs.Produced as produced
 use Rattle.linked_sending.specs.Meaning.{expiry_of, data_of, buffer_of}
 use Rattle.linked_restarts.specs.Ids.{ready_of}
 use Rattle.linked_streams.specs.Questions.{flag_of}

@@ -13,7 +13,7 @@ use Rattle.queue_messages.specs.declared.message.Message.{Message}
 use Rattle.queue_restarts.specs.Ready.{Readied}
 use Rattle.queue_restarts.specs.ReadyStreams.{ReadyStreams}
 use Rattle.queue_sending.specs.Data.{ProducedWith}
-use Rattle.queue_sending.specs.declared.data.Produced.{Produced}
+use Rattle.queue_sending.specs.Produced.{Produced}
 use Rattle.linked_adding.specs.Add.{AddMeets}
 use Rattle.linked_dropping.specs.Meets.{DiscardMeets, CloseMeets}
 use Rattle.linked_restarts.specs.Promises.{CommitMeets, RollbackMeets, SwitchMeets, ResetMeets, ReadyMeets, CountMeets}
@@ -21,7 +21,7 @@ use Rattle.linked_restoring.specs.Restore.{RestoreMeets}
 use Rattle.linked_sending.specs.Meaning.{ProduceMeets}
 use Rattle.packets.specs.Filling.{FilledWith}
 use Rattle.packets.specs.declared.packet.Packet.{Packet}
-use Rattle.packets.specs.declared.packet.PacketFilled.{PacketFilled}
+use Rattle.packets.specs.PacketFilled.{PacketFilled}
 use Rattle.linked_packets.specs.Meaning.{FillMeets}
 use Rattle.linked_streams.specs.Questions as asked
 use Rattle.linked_streams.specs.Settings.{SetPriorityMeets, SetThresholdMeets}

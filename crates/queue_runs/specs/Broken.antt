@@ -25,7 +25,7 @@ use Rattle.queue_restarts.specs.Reset.{put_back}
 use Rattle.queue_sending.specs.Choice.{look_ahead}
 use Rattle.queue_sending.specs.Fragment.{least_of}
 use Rattle.queue_sending.specs.Produce.{produce_code}
-use Rattle.queue_sending.specs.declared.choice.Look.TheVariants as look
+use Rattle.queue_sending.specs.Look as look
 use Rattle.queue_runs.specs.Calls.{Call, add, produce, discard, close, ready_ids, commit, rollback, reset, set_threshold, set_priority, set_interleaving, ask_priority, ask_amount, ask_threshold, ask_streams_ready, ask_ready_count}
 use Rattle.queue_runs.specs.Numbers.{refusal_number}
 use Rattle.queue_runs.specs.Run.{State, step}

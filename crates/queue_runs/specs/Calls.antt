@@ -10,9 +10,9 @@ use Rattle.queue_streams.specs.Flag.{Flag}
 use Rattle.queue_streams.specs.Number.{Number}
 use Rattle.queue_messages.specs.declared.message.Message.{Message}
 use Rattle.queue_restarts.specs.ReadyStreams.{ReadyStreams}
-use Rattle.queue_sending.specs.declared.data.Produced.{Produced}
+use Rattle.queue_sending.specs.Produced.{Produced}
 use Rattle.packets.specs.declared.packet.Packet.{Packet}
-use Rattle.packets.specs.declared.packet.PacketFilled.{PacketFilled}
+use Rattle.packets.specs.PacketFilled.{PacketFilled}
 use Rattle.packets.specs.Filling.{packet_of}
 use Rattle.linked_adding.specs.Message.{message_of_words}
 

@@ -12,8 +12,8 @@ use Rattle.queue_model.specs.Closing.{half_sent, alone, unsent, FurtherOn, Pendi
 use Rattle.queue_model.specs.Waiting.{is_waiting}
 use Rattle.queue_model.specs.FairTurns.{Open}
 use Rattle.queue_questions.specs.Questions.{total_of}
-use Rattle.queue_sending.specs.declared.data.Produced.{Produced}
-use Rattle.queue_sending.specs.declared.data.Produced.TheVariants as produced
+use Rattle.queue_sending.specs.Produced.{Produced}
+use Rattle.queue_sending.specs.Produced as produced
 use Rattle.queue_runs.specs.Calls.{NotFilling, Call, produce, discard, close, ready_ids, reset, Typed, Answer, called, sent, filled, readied, number, flag, count, truth, Shown}
 use Rattle.queue_runs.specs.Run.{State, step, run, after}
 use Rattle.queue_runs.specs.Meaning.{queue_of, AllTyped}

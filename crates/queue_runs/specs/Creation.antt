@@ -9,12 +9,12 @@ use Rattle.queue_streams.specs.Flag.{Flag}
 use Rattle.queue_streams.specs.Flag as flag_answer
 use Rattle.queue_streams.specs.Number.{Number}
 use Rattle.queue_streams.specs.Number as number_answer
-use Rattle.queue_sending.specs.declared.data.Produced.{Produced}
-use Rattle.queue_sending.specs.declared.data.Produced.TheVariants as produced
+use Rattle.queue_sending.specs.Produced.{Produced}
+use Rattle.queue_sending.specs.Produced as produced
 use Rattle.queue_messages.specs.Create.{create}
 use Rattle.linked_adding.specs.Create.{options_for}
-use Rattle.packets.specs.declared.packet.PacketFilled.{PacketFilled}
-use Rattle.packets.specs.declared.packet.PacketFilled.TheVariants as packet
+use Rattle.packets.specs.PacketFilled.{PacketFilled}
+use Rattle.packets.specs.PacketFilled as packet
 use Rattle.queue_runs.specs.Calls.{Answer, called, sent, filled, readied, number, flag, count, truth, Shown}
 use Rattle.queue_runs.specs.Run.{State, state}
 

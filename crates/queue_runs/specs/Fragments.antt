@@ -1,8 +1,8 @@
 -- The fragments that calls show. Assumes nothing.
 use Rattle.std.specs.Prelude.{List, [], ◌∷◌}
 use Rattle.queue_sending.specs.declared.data.DataToSend.{DataToSend}
-use Rattle.queue_sending.specs.declared.data.Produced.{Produced}
-use Rattle.queue_sending.specs.declared.data.Produced.TheVariants as produced
+use Rattle.queue_sending.specs.Produced.{Produced}
+use Rattle.queue_sending.specs.Produced as produced
 use Rattle.queue_runs.specs.Calls.{Answer, called, sent, filled, readied, number, flag, count, truth}
 
 -- The fragment in an answer, if it is one.

@@ -12,7 +12,7 @@ use Rattle.queue_model.specs.Restore.{half_sent_first}
 use Rattle.queue_model.specs.Waiting.{is_waiting}
 use Rattle.queue_model.specs.MidMessage.{AtMostOne}
 use Rattle.queue_sending.specs.declared.data.DataToSend.{DataToSend}
-use Rattle.queue_sending.specs.declared.data.Produced.TheVariants as produced
+use Rattle.queue_sending.specs.Produced as produced
 use Rattle.queue_runs.specs.Calls.{Call, add, produce, fill, discard, close, ready_ids, commit, rollback, reset, set_threshold, set_priority, set_interleaving, restore, ask_priority, ask_amount, ask_threshold, ask_total, ask_empty, ask_has_data, ask_streams_ready, ask_ready_count, ask_readiness, ask_room, Typed, sent}
 use Rattle.queue_runs.specs.Run.{State, step}
 use Rattle.queue_runs.specs.Meaning.{queue_of}

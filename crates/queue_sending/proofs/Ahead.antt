@@ -32,8 +32,8 @@ use Rattle.message_chains.proofs.Goes.{head_may}
 use Rattle.queue_sending.specs.Choice.{expired_by, look_at_words, look_in, look_for_words, look_peeked, look_ahead}
 use Rattle.queue_sending.specs.Fragment.{send_code}
 use Rattle.queue_sending.specs.Own.{Unbroken}
-use Rattle.queue_sending.specs.declared.choice.Look.{Look}
-use Rattle.queue_sending.specs.declared.choice.Look.TheVariants as look
+use Rattle.queue_sending.specs.Look.{Look}
+use Rattle.queue_sending.specs.Look as look
 
 -- ---- a fragment that may be sent
 

@@ -29,10 +29,10 @@ use Rattle.queue_sending.specs.Fragment.{least_of, send_code, written_sent, sent
 use Rattle.queue_sending.specs.Numbers.{numbered_item, numbered_stream}
 use Rattle.payload_store.specs.Reading.{read_part}
 use Rattle.queue_sending.specs.Produce.{produce_code, past_from, expired_dropped, after_look, after_drop, pass_over_words, settled_as, settled, produced_past, produced_after, produce_next}
-use Rattle.queue_sending.specs.declared.choice.Look.{Look}
-use Rattle.queue_sending.specs.declared.choice.Look.TheVariants as look
-use Rattle.queue_sending.specs.declared.data.Produced.{Produced}
-use Rattle.queue_sending.specs.declared.data.Produced.TheVariants as produced
+use Rattle.queue_sending.specs.Look.{Look}
+use Rattle.queue_sending.specs.Look as look
+use Rattle.queue_sending.specs.Produced.{Produced}
+use Rattle.queue_sending.specs.Produced as produced
 
 -- ------------------------------------------------------------------ the list stays as long as it is
 

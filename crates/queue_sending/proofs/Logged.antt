@@ -25,8 +25,8 @@ use Rattle.undo_log.proofs.Steps.{kept_step, keeping_before}
 use Rattle.queue_sending.specs.Choice.{look_ahead}
 use Rattle.queue_sending.specs.Passing.{Kept}
 use Rattle.queue_sending.specs.Produce.{expired_dropped}
-use Rattle.queue_sending.specs.declared.choice.Look.{Look}
-use Rattle.queue_sending.specs.declared.choice.Look.TheVariants as look
+use Rattle.queue_sending.specs.Look.{Look}
+use Rattle.queue_sending.specs.Look as look
 use Rattle.queue_sending.proofs.Counts.{Fits, Wrote, wrote_none, wrote_dropped}
 use Rattle.queue_sending.proofs.Passes.{over_again}
 

@@ -27,12 +27,12 @@ use Rattle.queue_sending.specs.Fragment.{least_of, send_code, sent, chosen_code,
 use Rattle.queue_sending.specs.Next.{sent_next, refused_next, next_found, next_passed, FromRow, Leads}
 use Rattle.queue_sending.specs.Passing.{Kept}
 use Rattle.queue_sending.specs.Produce.{passed, sent_found, sent_chosen, sent_after, refusal, copied, past_from, produced_past}
-use Rattle.queue_sending.specs.declared.choice.Look.{Look}
-use Rattle.queue_sending.specs.declared.choice.Look.TheVariants as look
+use Rattle.queue_sending.specs.Look.{Look}
+use Rattle.queue_sending.specs.Look as look
 use Rattle.queue_sending.specs.declared.data.DataToSend.{DataToSend}
-use Rattle.queue_sending.specs.declared.data.Produced.TheVariants as produced
-use Rattle.queue_sending.specs.declared.next.Next.{Next}
-use Rattle.queue_sending.specs.declared.next.Next.TheVariants as next
+use Rattle.queue_sending.specs.Produced as produced
+use Rattle.queue_sending.specs.NextStep.{Next}
+use Rattle.queue_sending.specs.NextStep as next
 use Rattle.queue_sending.proofs.Ahead.{chosen_row}
 use Rattle.queue_sending.proofs.Passes.{true_false, expired_found, both_parts, past_refused, past_kept, logged_refused, logged_kept, found_past}
 

@@ -29,11 +29,11 @@ use Rattle.queue_sending.specs.Fragment.{least_of, send_code, written_sent, sent
 use Rattle.queue_sending.specs.Numbers.{numbered_item, numbered_stream}
 use Rattle.queue_sending.specs.Produce.{produce_code, expired_dropped, after_look, after_drop, after_call, pass_over_words, after_choice, after_turn, after_dropped, passed, sent_found, sent_chosen, sent_after, refusal, copied, settled_as, settled, past_from, produced_past, produced_after, produce_next}
 use Rattle.queue_sending.proofs.Counts.{behind, pass_behind}
-use Rattle.queue_sending.specs.declared.choice.Look.{Look}
-use Rattle.queue_sending.specs.declared.choice.Look.TheVariants as look
+use Rattle.queue_sending.specs.Look.{Look}
+use Rattle.queue_sending.specs.Look as look
 use Rattle.queue_sending.specs.declared.data.DataToSend.{DataToSend}
-use Rattle.queue_sending.specs.declared.data.Produced.{Produced}
-use Rattle.queue_sending.specs.declared.data.Produced.TheVariants as produced
+use Rattle.queue_sending.specs.Produced.{Produced}
+use Rattle.queue_sending.specs.Produced as produced
 
 pub true_false : true ≡ false → ⊥
 true_false e = let z : ◌≡◌ {A = ℕ} 0 1 = cc in omega arith

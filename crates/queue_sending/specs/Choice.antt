@@ -13,8 +13,8 @@ use Rattle.queue_words.specs.declared.known.Found.TheVariants as found
 use Rattle.stream_scheduler.specs.Words.{peek_words}
 use Rattle.stream_scheduler.specs.declared.Peeked.{Peeked}
 use Rattle.stream_scheduler.specs.declared.Peeked.TheVariants as peeked
-use Rattle.queue_sending.specs.declared.choice.Look.{Look}
-use Rattle.queue_sending.specs.declared.choice.Look.TheVariants as look
+use Rattle.queue_sending.specs.Look.{Look}
+use Rattle.queue_sending.specs.Look as look
 
 -- "A message expires exactly if its time is at or before now".
 abbrev pub is_past : Expiry → ℕ → Bool

@@ -7,8 +7,8 @@ use Rattle.queue_words.specs.declared.items.Item.{Item}
 use Rattle.message_chains.specs.Amounts.{rest}
 use Rattle.queue_sending.specs.declared.data.Data.{Data}
 use Rattle.queue_sending.specs.declared.data.DataToSend.{DataToSend}
-use Rattle.queue_sending.specs.declared.data.Produced.{Produced}
-use Rattle.queue_sending.specs.declared.data.Produced.TheVariants as produced
+use Rattle.queue_sending.specs.Produced.{Produced}
+use Rattle.queue_sending.specs.Produced as produced
 
 -- "Only the last fragment shows the lifecycle id."
 unfoldable pub shown_lifecycle : Item → Bool → ℕ

@@ -19,7 +19,7 @@ use Rattle.message_chains.specs.Heads.{head_code, released, without_head, sent_n
 use Rattle.queue_sending.specs.Data.{data_to_send, ProducedWith, produced_with, refused_with}
 use Rattle.queue_sending.specs.Numbers.{numbered_item, numbered_stream, moved_on_words}
 use Rattle.queue_sending.specs.Progress.{put_progress}
-use Rattle.queue_sending.specs.declared.data.Produced.TheVariants as produced
+use Rattle.queue_sending.specs.Produced as produced
 
 unfoldable pub least_of : ℕ → ℕ → ℕ
 least_of a b = pick (ltb a b) a b

@@ -1,4 +1,7 @@
 -- What the next fragment is and what it leaves, for every input. Assumes nothing.
+pub mod Produced
+pub mod Look
+pub mod NextStep
 pub mod Data
 pub mod Numbers
 pub mod Choice

@@ -8,11 +8,11 @@ use Rattle.queue_sending.specs.Choice.{look_ahead}
 use Rattle.queue_sending.specs.Data.{ProducedWith, produced_with, refused_with}
 use Rattle.queue_sending.specs.Fragment.{chosen_code, handed_out_words}
 use Rattle.queue_sending.specs.Produce.{refusal}
-use Rattle.queue_sending.specs.declared.choice.Look.{Look}
-use Rattle.queue_sending.specs.declared.choice.Look.TheVariants as look
-use Rattle.queue_sending.specs.declared.data.Produced.TheVariants as produced
-use Rattle.queue_sending.specs.declared.next.Next.{Next}
-use Rattle.queue_sending.specs.declared.next.Next.TheVariants as next
+use Rattle.queue_sending.specs.Look.{Look}
+use Rattle.queue_sending.specs.Look as look
+use Rattle.queue_sending.specs.Produced as produced
+use Rattle.queue_sending.specs.NextStep.{Next}
+use Rattle.queue_sending.specs.NextStep as next
 
 -- What doing it leaves.
 abbrev pub sent_next : List ℕ → List ℕ → List ℕ → List ℕ → ℕ → Next → ProducedWith

@@ -1,9 +1,9 @@
 -- A look where the words are not broken. Assumes nothing.
 use Rattle.std.specs.Prelude.{◌≡◌}
-use Rattle.queue_sending.specs.declared.choice.Look.{Look}
-use Rattle.queue_sending.specs.declared.choice.Look.TheVariants as look
-use Rattle.queue_sending.specs.declared.own.Ahead.{Ahead}
-use Rattle.queue_sending.specs.declared.own.Ahead.TheVariants as ahead
+use Rattle.queue_sending.specs.Look.{Look}
+use Rattle.queue_sending.specs.Look as look
+use Rattle.queue_sending.specs.declared.choice.Ahead.{Ahead}
+use Rattle.queue_sending.specs.declared.choice.Ahead.TheVariants as ahead
 
 -- The same as the checked look shows it.
 abbrev pub look_of : Ahead → Look

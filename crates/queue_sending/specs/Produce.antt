@@ -12,10 +12,10 @@ use Rattle.message_chains.specs.Dropping.{dropped_in_state}
 use Rattle.queue_sending.specs.Choice.{look_ahead}
 use Rattle.queue_sending.specs.Data.{ProducedWith, produced_with, refused_with}
 use Rattle.queue_sending.specs.Fragment.{handed_out_words}
-use Rattle.queue_sending.specs.declared.choice.Look.{Look}
-use Rattle.queue_sending.specs.declared.choice.Look.TheVariants as look
-use Rattle.queue_sending.specs.declared.data.Produced.{Produced}
-use Rattle.queue_sending.specs.declared.data.Produced.TheVariants as produced
+use Rattle.queue_sending.specs.Look.{Look}
+use Rattle.queue_sending.specs.Look as look
+use Rattle.queue_sending.specs.Produced.{Produced}
+use Rattle.queue_sending.specs.Produced as produced
 
 -- The refusals that what is lent and asked for decides. 3: "the event list has fewer than 2,305 places." 4: "A time or lifetime is above
 -- 4,611,686,018,427,387,903."

@@ -3,7 +3,7 @@ ghost use Rattle.std.specs.Prelude.{◌≡◌, ◌<◌, length};
 ghost use Rattle.payload_store.specs.Dropping.{drop_code_words};
 ghost use Rattle.stream_scheduler.specs.Own.{HasRow};
 ghost use Rattle.queue_sending.specs.Data.{produced_with};
-ghost use Rattle.queue_sending.specs.declared.data.Produced.TheVariants.{Fragment};
+ghost use Rattle.queue_sending.specs.Produced.{Fragment};
 ghost use Rattle.queue_sending.specs.Fragment.{least_of, send_code, next_first, finished, went_on_words, went_further, written_sent, sent, chosen_code, handed_out_words};
 
 use crate::data::{DataToSend, Produced, data_to_send};

@@ -5,7 +5,7 @@ ghost use Rattle.queue_sending.specs.Choice.{look_ahead};
 ghost use Rattle.queue_sending.specs.Data.{produced_with};
 ghost use Rattle.queue_sending.specs.Next.{sent_next, FromRow, Leads};
 ghost use Rattle.queue_sending.specs.Produce.{lent_code, produce_code, produced_past, after_look, produced_after, produce_next};
-ghost use Rattle.queue_sending.specs.declared.choice.Look.TheVariants.{Expired};
+ghost use Rattle.queue_sending.specs.Look.{Expired};
 
 use crate::choice::{Look, look_ahead};
 use crate::data::Produced;

@@ -5,7 +5,7 @@ ghost use Rattle.queue_streams.specs.Settings.{called_with};
 ghost use Rattle.queue_sending.specs.Choice.{look_ahead};
 ghost use Rattle.queue_sending.specs.Passing.{Kept};
 ghost use Rattle.queue_sending.specs.Produce.{expired_dropped, passed};
-ghost use Rattle.queue_sending.specs.declared.choice.Look.TheVariants.{Expired};
+ghost use Rattle.queue_sending.specs.Look.{Expired};
 
 use crate::choice::{Look, look_ahead};
 use message_chains::dropping::drop_first;

@@ -5,7 +5,7 @@ ghost use Rattle.undo_log.specs.Log.{undone};
 ghost use Rattle.queue_sending.specs.Choice.{look_ahead};
 ghost use Rattle.queue_sending.specs.Next.{next_found, Leads};
 ghost use Rattle.queue_sending.specs.Produce.{copied, past_from};
-ghost use Rattle.queue_sending.specs.declared.choice.Look.TheVariants.{Expired};
+ghost use Rattle.queue_sending.specs.Look.{Expired};
 
 use crate::choice::Look;
 use crate::next::{Next, handed_on, is_refused, next_found, next_passed};

@@ -14,8 +14,8 @@ use Rattle.receiver_model.proofs.Lists.{Value, yes_is, no_is, value}
 use Rattle.chunks.specs.declared.chunk.Chunk.{Chunk}
 use Rattle.chunks.specs.declared.chunk.ChunkKind.{ChunkKind}
 use Rattle.chunks.specs.declared.chunk.ChunkKind.TheVariants as kind
-use Rattle.chunks.specs.declared.chunk.ChunkRead.{ChunkRead}
-use Rattle.chunks.specs.declared.chunk.ChunkRead.TheVariants.{Read, Refused}
+use Rattle.chunks.specs.ChunkRead.{ChunkRead}
+use Rattle.chunks.specs.ChunkRead.{Read, Refused}
 use Rattle.chunks.specs.Layout.{header_size}
 use Rattle.chunks.specs.Reading.{chunk_at, read_as, read_typed, read_chunk}
 

@@ -11,8 +11,8 @@ use Rattle.queue_words.specs.Flags.{pick}
 use Rattle.chunks.specs.declared.chunk.Chunk.{Chunk}
 use Rattle.chunks.specs.declared.chunk.ChunkKind.{ChunkKind}
 use Rattle.chunks.specs.declared.chunk.ChunkKind.TheVariants as kind
-use Rattle.chunks.specs.declared.chunk.ChunkRead.{ChunkRead}
-use Rattle.chunks.specs.declared.chunk.ChunkRead.TheVariants as read
+use Rattle.chunks.specs.ChunkRead.{ChunkRead}
+use Rattle.chunks.specs.ChunkRead as read
 use Rattle.std.specs.Prelude.{if◌then◌else◌}
 use Rattle.queue_model.specs.Chunks.{chunk_type, padded}
 use Rattle.big_endian.specs.Numbers.{number_at}

@@ -5,8 +5,8 @@ use Rattle.queue_words.specs.Flags.{pick}
 use Rattle.chunks.specs.declared.chunk.Chunk.{Chunk}
 use Rattle.chunks.specs.declared.chunk.ChunkKind.{ChunkKind}
 use Rattle.chunks.specs.declared.chunk.ChunkKind.TheVariants as kind
-use Rattle.chunks.specs.declared.chunk.ChunkRead.{ChunkRead}
-use Rattle.chunks.specs.declared.chunk.ChunkRead.TheVariants as read
+use Rattle.chunks.specs.ChunkRead.{ChunkRead}
+use Rattle.chunks.specs.ChunkRead as read
 use Rattle.chunks.specs.Reading.{read_chunk, payload_of}
 use Rattle.receiver_words.specs.Tables.{Header, word_at}
 use Rattle.receiver_words.specs.declared.fragments.Fragment.{Fragment}

@@ -16,7 +16,7 @@ use Rattle.queue_model.specs.Types.{Fragment}
 use Rattle.queue_model.specs.Chunks.{padded}
 use Rattle.queue_sending.specs.declared.data.DataToSend.{DataToSend}
 use Rattle.chunks.specs.declared.chunk.ChunkKind.{ChunkKind}
-use Rattle.chunks.specs.declared.chunk.ChunkWritten.TheVariants as answer
+use Rattle.chunks.specs.ChunkWritten as answer
 use Rattle.chunks.specs.Layout.{header_size, chunk_bytes}
 use Rattle.chunks.specs.Carried.{carried}
 use Rattle.chunks.specs.Reading.{chunk}

@@ -13,8 +13,8 @@ use Rattle.queue_sending.specs.declared.data.Data.{Data}
 use Rattle.chunks.specs.declared.chunk.Chunk as read
 use Rattle.chunks.specs.declared.chunk.ChunkKind.{ChunkKind}
 use Rattle.chunks.specs.declared.chunk.ChunkKind.TheVariants as kind
-use Rattle.chunks.specs.declared.chunk.ChunkRead.{ChunkRead}
-use Rattle.chunks.specs.declared.chunk.ChunkRead.TheVariants as reading
+use Rattle.chunks.specs.ChunkRead.{ChunkRead}
+use Rattle.chunks.specs.ChunkRead as reading
 use Rattle.chunks.specs.Layout.{is_iData}
 use Rattle.chunks.specs.Carried.{only_data, carried_data}
 use Rattle.chunks.specs.Reading.{chunk, read_chunk, payload_of}

@@ -1,8 +1,8 @@
 -- What the calls on a receiver mean: the model's calls, its receiver and its answers. Assumes nothing.
 use Rattle.std.specs.Prelude.{ℕ, ◌≡◌, Bool, false, List, [], ◌∷◌, map, eqb, length}
 use Rattle.std.proofs.Math.Option.{Option, none, some}
-use Rattle.chunks.specs.declared.chunk.ChunkRead.{ChunkRead}
-use Rattle.chunks.specs.declared.chunk.ChunkRead.TheVariants as read
+use Rattle.chunks.specs.ChunkRead.{ChunkRead}
+use Rattle.chunks.specs.ChunkRead as read
 use Rattle.chunks.specs.Layout.{is_iData}
 use Rattle.chunks.specs.Reading.{read_chunk, payload_of}
 use Rattle.receiver_model.specs.Types as model

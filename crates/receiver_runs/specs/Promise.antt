@@ -2,8 +2,8 @@
 use Rattle.std.specs.Prelude.{ℕ, ◌+◌, ◌%◌, ◌^◌, ◌<◌, ◌≡◌, Bool, List, [], ◌∷◌, map, length, take, get_or}
 use Rattle.queue_model.specs.Types as plain
 use Rattle.queue_model.specs.Streams.{waiting}
-use Rattle.chunks.specs.declared.chunk.ChunkWritten.{ChunkWritten}
-use Rattle.chunks.specs.declared.chunk.ChunkWritten.TheVariants as write
+use Rattle.chunks.specs.ChunkWritten.{ChunkWritten}
+use Rattle.chunks.specs.ChunkWritten as write
 use Rattle.chunks.specs.Writing.{Outcome, write_chunk}
 use Rattle.packets.specs.Filling as packets
 use Rattle.linked_sending.specs.Meaning.{data_of}

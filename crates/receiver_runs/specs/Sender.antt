@@ -4,8 +4,8 @@ use Rattle.queue_words.specs.Flags.{pick}
 use Rattle.queue_model.specs.Types as plain
 use Rattle.queue_streams.specs.Call as call
 use Rattle.queue_sending.specs.declared.data.DataToSend.{DataToSend}
-use Rattle.queue_sending.specs.declared.data.Produced.{Produced}
-use Rattle.queue_sending.specs.declared.data.Produced.TheVariants as produced
+use Rattle.queue_sending.specs.Produced.{Produced}
+use Rattle.queue_sending.specs.Produced as produced
 use Rattle.linked_adding.specs.Message.{message_of_words}
 use Rattle.queue_runs.specs.Calls.{Call, add, produce, fill, discard, close, ready_ids, commit, rollback, reset, set_threshold, set_priority, set_interleaving, restore, ask_priority, ask_amount, ask_threshold, ask_total, ask_empty, ask_has_data, ask_streams_ready, ask_ready_count, ask_readiness, ask_room, Answer, called, sent, filled, readied, number, flag, count, truth, Shown}
 

@@ -10,8 +10,8 @@ use Rattle.queue_restarts.specs.ReadyStreams.{ReadyStreams}
 use Rattle.chunks.specs.Writing.{outcome, write_chunk}
 use Rattle.chunks.specs.declared.chunk.ChunkKind.{ChunkKind}
 use Rattle.queue_sending.specs.declared.data.DataToSend.{DataToSend}
-use Rattle.chunks.specs.declared.chunk.ChunkRead.{ChunkRead}
-use Rattle.chunks.specs.declared.chunk.ChunkWritten.{ChunkWritten}
+use Rattle.chunks.specs.ChunkRead.{ChunkRead}
+use Rattle.chunks.specs.ChunkWritten.{ChunkWritten}
 use Rattle.queue_streams.specs.Answers.{call_number, number_number, flag_number}
 pub use Rattle.host_numbers.proofs.Gives.{gives, gives_events, gives_store, gives_fragment, gives_image}
 use Rattle.send_queue_c.specs.Numbers.{number_out, flag_out, ready_number, ready_ids, ready_out, planned_places}

@@ -4,10 +4,10 @@ use Rattle.types.specs.Keys.{key_of}
 use Rattle.queue_sending.specs.declared.data.DataToSend.{DataToSend}
 use Rattle.chunks.specs.declared.chunk.ChunkKind.{ChunkKind}
 use Rattle.chunks.specs.declared.chunk.ChunkKind.TheVariants as kind
-use Rattle.chunks.specs.declared.chunk.ChunkRead.{ChunkRead}
-use Rattle.chunks.specs.declared.chunk.ChunkRead.TheVariants as read
-use Rattle.chunks.specs.declared.chunk.ChunkWritten.{ChunkWritten}
-use Rattle.chunks.specs.declared.chunk.ChunkWritten.TheVariants as written
+use Rattle.chunks.specs.ChunkRead.{ChunkRead}
+use Rattle.chunks.specs.ChunkRead as read
+use Rattle.chunks.specs.ChunkWritten.{ChunkWritten}
+use Rattle.chunks.specs.ChunkWritten as written
 use Rattle.chunks.specs.Carried.{only_data}
 use Rattle.send_queue_c.specs.Numbers.{is_yes, shown}
 

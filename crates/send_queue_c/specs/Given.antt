@@ -5,7 +5,7 @@ use Rattle.queue_streams.specs.Number.{Number}
 use Rattle.priority_plan.specs.declared.plan.PlannedPriorities.{PlannedPriorities}
 use Rattle.queue_restarts.specs.Ready.{Readied}
 use Rattle.chunks.specs.Writing.{Outcome}
-use Rattle.chunks.specs.declared.chunk.ChunkRead.{ChunkRead}
+use Rattle.chunks.specs.ChunkRead.{ChunkRead}
 use Rattle.queue_streams.specs.Answers.{call_number, number_number, flag_number}
 pub use Rattle.host_numbers.specs.Given.{Gives, GivesEvents, GivesStore, GivesFragment, GivesImage}
 use Rattle.send_queue_c.specs.Numbers.{number_out, flag_out, ready_number, ready_ids, ready_out, planned_places}

@@ -3,7 +3,7 @@
 use mathlib.Core.Path.{◌≡◌}
 use lib.ListN.{length}
 use Rattle.queue_sending.specs.Choice.{look_ahead}
-use Rattle.queue_sending.specs.declared.choice.Look.TheVariants as look
+use Rattle.queue_sending.specs.Look as look
 use Rattle.queue_sending.proofs.Logged.{Going}
 use Rattle.queue_sending.proofs.passing.pass_some.Given as goal
 
