@@ -12,11 +12,7 @@ pub(crate) fn last(length: usize, n: u64) -> usize
 }
 
 pub(crate) fn put_all(bytes: &mut [u8], b: u8) {
-    let mut i = 0;
-    while i < bytes.len() {
-        bytes[i] = b;
-        i += 1;
-    }
+    bytes.fill(b);
 }
 
 pub(crate) fn clear_last(store: &mut [u8], n: u64) {

@@ -18,10 +18,8 @@ fn mix(s: u64, word: u64) -> u64 {
 
 fn sum_words(head: &[u64; RECEIVER_WORDS]) -> u64 {
     let mut s = FIRST;
-    let mut i = 0;
-    while i < RECEIVER_WORDS {
-        s = mix(s, head[i]);
-        i += 1;
+    for word in head {
+        s = mix(s, *word);
     }
     s
 }
