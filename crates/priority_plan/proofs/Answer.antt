@@ -13,7 +13,7 @@ use Rattle.queue_model.specs.Logic.{outside, any, is_nil}
 use Rattle.queue_model.specs.Refusals.{limit_wrong, ◌when◌, first_refusal, max_payload}
 use Rattle.queue_model.proofs.Tests.{holds}
 use Rattle.queue_model.proofs.Checks.{or_left, or_right, not_less}
-use Rattle.priority_plan.specs.declared.plan.PlannedPriorities.{PlannedPriorities}
+use Rattle.priority_plan.specs.PlannedPriorities.{PlannedPriorities}
 use Rattle.queue_streams.specs.Answers.{call_number}
 use Rattle.queue_streams.specs.Call.{Accepted, Refused}
 use Rattle.priority_plan.specs.Works.{PlannedStream, planned_streams, All, Works, max_priority}

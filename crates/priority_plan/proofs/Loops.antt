@@ -17,7 +17,7 @@ use Rattle.queue_model.specs.Logic.{outside, any, is_nil}
 use Rattle.queue_model.specs.Refusals.{limit_wrong, ◌when◌, first_refusal, max_payload}
 use Rattle.queue_model.proofs.Tests.{ltb_true, ltb_false, eqb_true, eqb_false, holds}
 use Rattle.queue_model.proofs.Checks.{or_left, or_right, not_less}
-use Rattle.priority_plan.specs.declared.plan.PlannedPriorities.{PlannedPriorities}
+use Rattle.priority_plan.specs.PlannedPriorities.{PlannedPriorities}
 use Rattle.queue_streams.specs.Call.{Accepted}
 use Rattle.priority_plan.specs.Works.{PlannedStream, planned_streams, first_entry, max_priority}
 use Rattle.priority_plan.specs.Least.{no_bound, bound, least_priority, least_set, max_limit, full_cost, bound_before}

@@ -22,7 +22,7 @@ use Rattle.queue_model.specs.Demands.{AllTyped, Created}
 use Rattle.queue_model.proofs.Tests.{holds, leb_false, eqb_true, eqb_false, less, same, more, tri}
 use Rattle.queue_model.proofs.Table.{put_end, put_later, put_here, put_before}
 use Rattle.queue_model.proofs.Checks.{or_left, or_right, checked_past}
-use Rattle.priority_plan.specs.declared.plan.PlannedPriorities.{PlannedPriorities}
+use Rattle.priority_plan.specs.PlannedPriorities.{PlannedPriorities}
 use Rattle.priority_plan.specs.Works.{PlannedStream, planned_streams, All, IsPriority, LeastSet, max_priority}
 use Rattle.priority_plan.specs.Least.{least_set}
 use Rattle.priority_plan.specs.Lists.{named_twice, list_wrong, max_planned}

@@ -4,7 +4,7 @@ use Rattle.std.proofs.Math.Option.{none}
 use Rattle.queue_model.specs.Types.{Options}
 use Rattle.queue_model.specs.Streams.{new_queue}
 use Rattle.queue_model.specs.Run.{run, after}
-use Rattle.priority_plan.specs.declared.plan.PlannedPriorities.{PlannedPriorities}
+use Rattle.priority_plan.specs.PlannedPriorities.{PlannedPriorities}
 use Rattle.priority_plan.specs.Works.{planned_streams, All}
 use Rattle.priority_plan.specs.Plan.{refused_plan, made_plan, planned}
 use Rattle.priority_plan.specs.Jobs.{Setting, interleaving, Adding, Later, ask, later_call, loaded}

@@ -3,6 +3,7 @@
 pub mod Works
 pub mod Least
 pub mod Lists
+pub mod PlannedPriorities
 pub mod Plan
 pub mod Request
 pub mod Jobs

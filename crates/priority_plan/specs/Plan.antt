@@ -1,11 +1,14 @@
 -- What the planner's call answers. Assumes nothing.
-use Rattle.std.specs.Prelude.{Bool, List, [], ◌∷◌, ◌++◌, ℕ, ◌-◌, ltb, length, replicate}
+use Rattle.std.specs.Prelude.{Bool, List, [], ◌∷◌, ◌++◌, ℕ, ◌-◌, ltb, length, replicate, Result, Ok, Err}
 use Rattle.std.proofs.Math.Option.{Option, none, some}
 use Rattle.std.specs.Prelude.{if◌then◌else◌}
 use Rattle.queue_model.specs.Logic.{any}
 use Rattle.queue_model.specs.Refusals.{Check, ◌when◌, first_refusal, limit_wrong}
+use Rattle.types.specs.Refusal.{refusal_number}
+use Rattle.types.specs.declared.refusal.Refusal.{Refusal}
 use Rattle.queue_streams.specs.Call.{Accepted, Refused}
-use Rattle.priority_plan.specs.declared.plan.PlannedPriorities.{PlannedPriorities}
+use Rattle.priority_plan.specs.PlannedPriorities.{PlannedPriorities}
+use Rattle.priority_plan.specs.declared.plan.PlannedPriorities as code
 use Rattle.priority_plan.specs.Works.{PlannedStream, planned_streams, max_priority}
 use Rattle.priority_plan.specs.Least.{least_set}
 use Rattle.priority_plan.specs.Lists.{max_planned, list_wrong}
@@ -22,6 +25,11 @@ abbrev pub plan_checks : ℕ → List ℕ → List ℕ → List Check
 plan_checks limit ids sizes = limit_wrong limit ∷ (28 when list_wrong ids sizes) ∷ (29 when none_works limit (planned_streams ids sizes)) ∷ []
 
 -- ------------------------------------------------------------------ the answer
+
+-- What the code answers, with the documents' numbers: the priorities, or a refusal and no priority.
+abbrev pub as_plan : Result code.PlannedPriorities Refusal → PlannedPriorities
+as_plan (Ok p) = record { answer = Accepted 0; count = p.count; values = p.values }
+as_plan (Err r) = record { answer = Refused (refusal_number r); count = 0; values = replicate max_planned 0 }
 
 -- A refusal's number, and no priority.
 abbrev pub refused_plan : ℕ → PlannedPriorities

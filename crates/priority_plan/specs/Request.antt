@@ -3,7 +3,7 @@ use Rattle.std.specs.Prelude.{◌≡◌, ◌↔◌, true, false, List, ℕ}
 use Rattle.std.proofs.Math.Option.{get_or}
 use Rattle.queue_model.specs.Refusals.{first_refusal, limit_wrong}
 use Rattle.queue_streams.specs.Answers.{call_number}
-use Rattle.priority_plan.specs.declared.plan.PlannedPriorities.{PlannedPriorities}
+use Rattle.priority_plan.specs.PlannedPriorities.{PlannedPriorities}
 use Rattle.priority_plan.specs.Works.{PlannedStream, planned_streams, Works, LeastSet}
 use Rattle.priority_plan.specs.Lists.{list_wrong}
 use Rattle.priority_plan.specs.Plan.{none_works, plan_checks, refused_plan, made_plan, planned}

@@ -22,7 +22,7 @@ use Rattle.queue_runs.specs.Run.{State}
 use Rattle.queue_runs.specs.Meaning.{AllTyped}
 use Rattle.queue_runs.specs.Creation.{Arguments, options_with, Creates}
 use Rattle.queue_runs.proofs.Translates.{places_words, zero_bytes}
-use Rattle.priority_plan.specs.declared.plan.PlannedPriorities.{PlannedPriorities}
+use Rattle.priority_plan.specs.PlannedPriorities.{PlannedPriorities}
 use Rattle.priority_plan.specs.Works.{All, Works, PlannedStream, planned_streams}
 use Rattle.priority_plan.specs.Lists.{list_wrong, named_twice}
 use Rattle.priority_plan.specs.Plan.{planned, refused_plan}

@@ -4,7 +4,7 @@ use mathlib.Core.Path.{◌≡◌, refl}
 use mathlib.Core.List.{List}
 use Rattle.queue_streams.specs.Flag.{Flag}
 use Rattle.queue_streams.specs.Number.{Number}
-use Rattle.priority_plan.specs.declared.plan.PlannedPriorities.{PlannedPriorities}
+use Rattle.priority_plan.specs.PlannedPriorities.{PlannedPriorities}
 use Rattle.queue_restarts.specs.Ready.{Readied, readied}
 use Rattle.queue_restarts.specs.ReadyStreams.{ReadyStreams}
 use Rattle.chunks.specs.Writing.{outcome, write_chunk}

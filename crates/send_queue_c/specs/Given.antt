@@ -2,7 +2,7 @@
 use Rattle.std.specs.Prelude.{ℕ, ◌≡◌, List}
 use Rattle.queue_streams.specs.Flag.{Flag}
 use Rattle.queue_streams.specs.Number.{Number}
-use Rattle.priority_plan.specs.declared.plan.PlannedPriorities.{PlannedPriorities}
+use Rattle.priority_plan.specs.PlannedPriorities.{PlannedPriorities}
 use Rattle.queue_restarts.specs.Ready.{Readied}
 use Rattle.chunks.specs.Writing.{Outcome}
 use Rattle.chunks.specs.ChunkRead.{ChunkRead}

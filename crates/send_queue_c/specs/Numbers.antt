@@ -10,7 +10,7 @@ use Rattle.queue_streams.specs.Flag.{Flag}
 use Rattle.queue_streams.specs.Flag as flag
 use Rattle.queue_streams.specs.Number.{Number}
 use Rattle.queue_streams.specs.Number as number
-use Rattle.priority_plan.specs.declared.plan.PlannedPriorities.{PlannedPriorities}
+use Rattle.priority_plan.specs.PlannedPriorities.{PlannedPriorities}
 use Rattle.queue_restarts.specs.ReadyStreams.{ReadyStreams}
 pub use Rattle.host_numbers.specs.Numbers.{is_yes, message_of_words, call_out, with_first, shown, produced_out}
 pub use Rattle.queue_restarts.specs.Ready.{ready_number}

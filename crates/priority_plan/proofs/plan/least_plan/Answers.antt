@@ -1,5 +1,5 @@
 -- `priority_plan::plan::least_plan` meets its contract: the streams from place i on have their priorities (`State`). Assumes nothing.
-use mathlib.Core.Path.{refl, ◌∙◌}
+use mathlib.Core.Path.{refl}
 use native.Mathlib.Omega.{arith}
 use Rattle.priority_plan.proofs.Loops.{state_start, state_none, state_next, state_end}
 use Rattle.priority_plan.specs.Least.{least_priority}
@@ -10,7 +10,7 @@ pub loop-at-init : goal.loop-at-init
 loop-at-init c = state_start _ _ _ c.requires
 
 pub returns-then-priority-gt-MAX_PRIORITY : goal.returns-then-priority-gt-MAX_PRIORITY
-returns-then-priority-gt-MAX_PRIORITY c = c.refused.ensures ∙ state_none _ _ _ c.requires _ _ _ _ _ _ _ _ _ c.loop-at.invariant c.loop-at-test.true refl refl refl c.bound_before-bound.ensures c.least_priority-priority.ensures (omega (arith, c.if-priority-gt-MAX_PRIORITY.true))
+returns-then-priority-gt-MAX_PRIORITY c = state_none _ _ _ c.requires _ _ _ _ _ _ _ _ _ c.loop-at.invariant c.loop-at-test.true refl refl refl c.bound_before-bound.ensures c.least_priority-priority.ensures (omega (arith, c.if-priority-gt-MAX_PRIORITY.true))
 
 pub finish_time-finish-requires : goal.finish_time-finish-requires
 unfolding least_priority
