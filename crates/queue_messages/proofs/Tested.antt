@@ -8,6 +8,7 @@ use native.Mathlib.Omega.{arith}
 use borrow.Author.Tests.{le-ltb, ne_eqb, ltb-false, ltb-true}
 use lib.Dec.{ltb}
 use lib.ListN.{length}
+use Rattle.std.specs.Prelude.{Ok}
 use Rattle.queue_words.specs.Flags.{pick}
 use Rattle.queue_words.specs.Header.{options_at, totals_at, scheduler_at}
 use Rattle.queue_words.specs.Items.{item_at, put_item}
@@ -17,7 +18,11 @@ use Rattle.queue_words.specs.declared.streams.OutgoingStream.{OutgoingStream}
 use Rattle.queue_words.proofs.ChainLaws.{scheduler_put_chain}
 use Rattle.queue_words.proofs.Laws
 use Rattle.payload_store.specs.Words.{place_of, size_of, used_of, gaps_of}
-use Rattle.payload_store.specs.Putting.{row_fits_words, fits_to, all_fit, put_code, put_payload}
+use Rattle.payload_store.specs.Putting.{no_room_number, put_number, row_fits_words, fits_to, all_fit, put_code, put_payload}
+use Rattle.payload_store.specs.declared.NoRoom.{NoRoom}
+use Rattle.payload_store.specs.declared.NoRoom.TheVariants.{StoreFull, Broken}
+use Rattle.payload_store.specs.declared.Room.{Room}
+use Rattle.payload_store.specs.declared.Room.TheVariants.{KnownGap, Elsewhere}
 use Rattle.payload_store.proofs.Cases.{pick_else, pick_then, false_true}
 use Rattle.payload_store.proofs.Frames.{put_frame}
 use Rattle.queue_streams.specs.Known.{new_stream_words}
@@ -30,6 +35,15 @@ use Rattle.queue_messages.specs.Message.{nanoseconds}
 use Rattle.queue_messages.specs.declared.message.Message.{Message}
 
 -- ------------------------------------------------------------------ what the test says
+
+-- the numbers of a payload that has room are below those of one that has none
+pub put_goes : (a : Room) → ltb 1 (put_number (Ok a)) ≡ false
+put_goes KnownGap = refl
+put_goes Elsewhere = refl
+
+pub put_stays : (e : NoRoom) → ltb 1 (no_room_number e) ≡ true
+put_stays StoreFull = refl
+put_stays Broken = refl
 
 -- 7, 8 and 16 do not apply, so 16 does not
 broken_not : (ws : List ℕ) (len : ℕ) (s : OutgoingStream) (n : ℕ) → message_code ws len s n ≡ 0 → broken_code ws len s n ≡ 0

@@ -1,5 +1,10 @@
 // Adding a message (Rust: add).
 ghost use Rattle.std.specs.Prelude.{◌≡◌, true, ◌<◌, ◌≤◌, length};
+ghost use Rattle.types.specs.Refusal.{refusal_number, check_number, broken_number};
+ghost use Rattle.types.specs.declared.refusal.Refusal.{Refusal};
+ghost use Rattle.queue_streams.specs.Answers.{as_call};
+ghost use Rattle.queue_streams.specs.Known.{placed, as_place};
+ghost use Rattle.queue_streams.specs.declared.known.Place.{Place};
 ghost use Rattle.queue_messages.specs.Message.{nanoseconds};
 ghost use Rattle.queue_messages.specs.Add.{asked_code, arguments_code, full_code, may_start, starts, has_room_words, places_code, broken_code, message_code, lost_code, refused_place};
 ghost use Rattle.queue_messages.specs.Add.{HasLast, linked_last, counted, started, stored, appended, MayAppend};
@@ -8,7 +13,6 @@ ghost use Rattle.queue_messages.specs.Add.{HasPlace, stream_for, row_for, made_k
 use crate::message::{Lifetime, Message, nanoseconds, new_item};
 use message_chains::amounts::{minus, plus};
 use payload_store::{put_code, put_own};
-use queue_streams::answers::Call;
 use queue_streams::known::{Place, insert_stream, look_up, new_stream};
 use queue_streams::waiting::parameters_for;
 use queue_words::header::{load_options, load_scheduler_state, load_totals, store_totals};
@@ -17,51 +21,59 @@ use queue_words::limits::{LAST_MESSAGE, MAX_PAYLOAD, MAX_TIME, NO_MESSAGE, STREA
 use queue_words::streams::{OutgoingStream, PauseState, load_stream, store_chain};
 use queue_words::{QUEUE_WORDS, whole};
 use stream_scheduler::own::begin_own;
+use types::Refusal;
+use types::refusal::Broken;
 
-// The refusals that what is asked for decides: 4, 4, 5, or 0.
-pub fn asked_code(time: u64, lifetime: Lifetime, n: u64) -> u8
-    ensures { result ≡ asked_code time lifetime n }
+// The refusals that what is asked for decides: of the time, then of the payload.
+pub fn asked_code(time: u64, lifetime: Lifetime, n: u64) -> Result<(), Refusal>
+    ensures { check_number result ≡ asked_code time lifetime n }
 {
     if time > MAX_TIME {
-        return 4;
+        return Err(Refusal::TimeLate);
     }
     let l = nanoseconds(lifetime);
     if l > MAX_TIME {
-        return 4;
+        return Err(Refusal::TimeLate);
     }
     if n == 0 {
-        return 5;
+        return Err(Refusal::PayloadWrong);
     }
     if n > MAX_PAYLOAD {
-        return 5;
+        return Err(Refusal::PayloadWrong);
     }
-    0
+    Ok(())
 }
 
-// The refusals that the arguments decide: 2, 4, 4, 5, or 0.
-fn arguments_code(queue: &[u64; QUEUE_WORDS], len: u64, time: u64, lifetime: Lifetime, n: u64) -> u8
-    ensures { result ≡ arguments_code queue.now len time lifetime n }
+// The refusals that the arguments decide: of the store, then of what is asked for.
+fn arguments_code(
+    queue: &[u64; QUEUE_WORDS],
+    len: u64,
+    time: u64,
+    lifetime: Lifetime,
+    n: u64,
+) -> Result<(), Refusal>
+    ensures { check_number result ≡ arguments_code queue.now len time lifetime n }
 {
     let o = load_options(queue);
     if o.store_length != len {
-        return 2;
+        return Err(Refusal::StoreWrong);
     }
     asked_code(time, lifetime, n)
 }
 
-// 7 or 8 where no message more fits, else 0.
-pub fn full_code(queue: &[u64; QUEUE_WORDS], len: u64, n: u64) -> u8
-    ensures { result ≡ full_code queue.now len n }
+// Refused where no message more fits.
+pub fn full_code(queue: &[u64; QUEUE_WORDS], len: u64, n: u64) -> Result<(), Refusal>
+    ensures { check_number result ≡ full_code queue.now len n }
 {
     let t = load_totals(queue);
     if t.waiting > LAST_MESSAGE {
-        return 7;
+        return Err(Refusal::MessagesFull);
     }
     let free = minus(len, t.used);
     if n > free {
-        return 8;
+        return Err(Refusal::StoreFull);
     }
-    0
+    Ok(())
 }
 
 // "messages added to a paused or resetting stream do not start it".
@@ -100,78 +112,81 @@ fn has_room(queue: &[u64; QUEUE_WORDS], s: OutgoingStream) -> bool
     true
 }
 
-// The places that the message's row and its chain need: 0, else 16.
-fn places_code(queue: &[u64; QUEUE_WORDS], s: OutgoingStream, free: u64) -> u8
-    ensures { result ≡ places_code queue.now s free }
+// The places that the message's row and its chain need.
+fn places_code(queue: &[u64; QUEUE_WORDS], s: OutgoingStream, free: u64) -> Result<(), Broken>
+    ensures { broken_number result ≡ places_code queue.now s free }
 {
     if free > LAST_MESSAGE {
-        return 16;
+        return Err(Broken);
     }
     let next = load_next(queue, free as usize);
     if next > NO_MESSAGE {
-        return 16;
+        return Err(Broken);
     }
     if s.first > NO_MESSAGE {
-        return 16;
+        return Err(Broken);
     }
     if s.first == NO_MESSAGE {
-        return 0;
+        return Ok(());
     }
     if s.last > LAST_MESSAGE {
-        return 16;
+        return Err(Broken);
     }
-    0
+    Ok(())
 }
 
-// 16 where an amount would pass 2^64 - 1 or a place lies outside its table, else 0.
-fn broken_code(queue: &[u64; QUEUE_WORDS], len: u64, s: OutgoingStream, n: u64) -> u8
-    ensures { result ≡ broken_code queue.now len s n }
+// Refused where an amount would pass 2^64 - 1 or a place lies outside its table.
+fn broken_code(
+    queue: &[u64; QUEUE_WORDS],
+    len: u64,
+    s: OutgoingStream,
+    n: u64,
+) -> Result<(), Broken>
+    ensures { broken_number result ≡ broken_code queue.now len s n }
 {
     let t = load_totals(queue);
     if n > u64::MAX - t.total {
-        return 16;
+        return Err(Broken);
     }
     if n > u64::MAX - s.buffered_amount {
-        return 16;
+        return Err(Broken);
     }
-    let places = places_code(queue, s, t.free);
-    if places > 0 {
-        return 16;
-    }
+    places_code(queue, s, t.free)?;
     let room = has_room(queue, s);
-    if room {
-        let put = put_code(queue, len, t.free as usize, n);
-        if put > 1 {
-            return 16;
-        }
-        return 0;
+    if !room {
+        return Err(Broken);
     }
-    16
+    match put_code(queue, len, t.free as usize, n) {
+        Ok(_) => Ok(()),
+        Err(_) => Err(Broken),
+    }
 }
 
-// 7, 8 or 16, the first that applies, else 0.
-fn message_code(queue: &[u64; QUEUE_WORDS], len: u64, s: OutgoingStream, n: u64) -> u8
-    ensures { result ≡ message_code queue.now len s n }
+// The first refusal that applies: no message more fits, or the words are damaged.
+fn message_code(
+    queue: &[u64; QUEUE_WORDS],
+    len: u64,
+    s: OutgoingStream,
+    n: u64,
+) -> Result<(), Refusal>
+    ensures { check_number result ≡ message_code queue.now len s n }
 {
-    let full = full_code(queue, len, n);
-    if full > 0 {
-        return full;
-    }
-    broken_code(queue, len, s, n)
+    full_code(queue, len, n)?;
+    broken_code(queue, len, s, n)?;
+    Ok(())
 }
 
-// The refusal of a stream that cannot be found: 6 comes before 7 and 8, 16 after them.
-fn lost_code(queue: &[u64; QUEUE_WORDS], len: u64, n: u64, code: u8) -> u8
-    ensures { result ≡ lost_code queue.now len n code }
+// The refusal of a stream that cannot be found: that of a 257th stream comes before those of a full queue, that of damaged words after them.
+fn lost_code(queue: &[u64; QUEUE_WORDS], len: u64, n: u64, lost: Refusal) -> Refusal
+    ensures { refusal_number result ≡ lost_code queue.now len n (refusal_number lost) }
 {
-    if code == 6 {
-        return 6;
+    if lost == Refusal::StreamsFull {
+        return lost;
     }
-    let full = full_code(queue, len, n);
-    if full > 0 {
-        return full;
+    match full_code(queue, len, n) {
+        Ok(()) => lost,
+        Err(full) => full,
     }
-    code
 }
 
 // Hangs a message's place to the end of a stream's chain.
@@ -259,16 +274,12 @@ pub fn append(
 
 // The stream's row as it is, or that of a stream that the message makes known.
 pub fn stream_for(queue: &[u64; QUEUE_WORDS], place: Place) -> OutgoingStream
-    requires { HasPlace queue.now place }
-    ensures { result ≡ stream_for queue.now place }
+    requires { HasPlace queue.now (placed place) }
+    ensures { result ≡ stream_for queue.now (placed place) }
 {
     match place {
         Place::Row(row) => load_stream(queue, row),
         Place::New(_) => {
-            let o = load_options(queue);
-            new_stream(o)
-        }
-        Place::Refused(_) => {
             let o = load_options(queue);
             new_stream(o)
         }
@@ -277,8 +288,8 @@ pub fn stream_for(queue: &[u64; QUEUE_WORDS], place: Place) -> OutgoingStream
 
 // The number of that row.
 pub fn row_for(queue: &[u64; QUEUE_WORDS], place: Place) -> usize
-    requires { HasPlace queue.now place }
-    ensures { result ≡ row_for queue.now place }
+    requires { HasPlace queue.now (placed place) }
+    ensures { result ≡ row_for queue.now (placed place) }
 {
     match place {
         Place::Row(row) => row,
@@ -286,14 +297,13 @@ pub fn row_for(queue: &[u64; QUEUE_WORDS], place: Place) -> usize
             let t = load_totals(queue);
             t.known as usize
         }
-        Place::Refused(_) => 0,
     }
 }
 
 // Makes the stream known, if it is not.
 pub fn make_known(queue: &mut [u64; QUEUE_WORDS], place: Place, id: u16)
-    requires { HasPlace queue.old place }
-    ensures { queue.new ≡ made_known queue.old id place }
+    requires { HasPlace queue.old (placed place) }
+    ensures { queue.new ≡ made_known queue.old id (placed place) }
 {
     match place {
         Place::Row(_) => {}
@@ -302,7 +312,6 @@ pub fn make_known(queue: &mut [u64; QUEUE_WORDS], place: Place, id: u16)
             let s = new_stream(o);
             insert_stream(queue, position, id, s);
         }
-        Place::Refused(_) => {}
     }
 }
 
@@ -314,30 +323,31 @@ fn add_to(
     m: Message,
     payload: &[u8],
     place: Place,
-) -> Call
-    requires { HasPlace queue.old place × (time ≤ 4611686018427387903) × (nanoseconds m.lifetime ≤ 4611686018427387903) }
-    ensures { added result queue.new store.new ≡ add_to queue.old store.old time m payload.now place }
+) -> Result<usize, Refusal>
+    requires { HasPlace queue.old (placed place) × (time ≤ 4611686018427387903) × (nanoseconds m.lifetime ≤ 4611686018427387903) }
+    ensures { added (as_call result) queue.new store.new ≡ add_to queue.old store.old time m payload.now (placed place) }
 {
     whole(&*queue);
     let s = stream_for(&*queue, place);
-    let code = message_code(&*queue, store.len() as u64, s, payload.len() as u64);
-    if code > 0 {
-        return Call::Refused(code);
-    }
+    message_code(&*queue, store.len() as u64, s, payload.len() as u64)?;
     let row = row_for(&*queue, place);
     make_known(queue, place, m.stream_id.0);
     append(queue, store, time, m, payload, row, s);
-    Call::Accepted(0)
+    Ok(0)
 }
 
-// The refusal of a stream that has no place, 0 for none.
-fn refused_place(queue: &[u64; QUEUE_WORDS], len: u64, n: u64, place: Place) -> u8
-    ensures { result ≡ refused_place queue.now len n place }
+// The place that a stream has, or the refusal of one that has none.
+fn refused_place(
+    queue: &[u64; QUEUE_WORDS],
+    len: u64,
+    n: u64,
+    found: Result<Place, Refusal>,
+) -> Result<Place, Refusal>
+    ensures { (check_number result ≡ refused_place queue.now len n (as_place found)) × ((place : Place) → result ≡ Ok place → found ≡ Ok place) }
 {
-    match place {
-        Place::Row(_) => 0,
-        Place::New(_) => 0,
-        Place::Refused(lost) => lost_code(queue, len, n, lost),
+    match found {
+        Ok(place) => Ok(place),
+        Err(lost) => Err(lost_code(queue, len, n, lost)),
     }
 }
 
@@ -348,20 +358,14 @@ pub fn add(
     time: u64,
     m: Message,
     payload: &[u8],
-) -> Call
-    ensures { added result queue.new store.new ≡ add queue.old store.old time m payload.now }
+) -> Result<usize, Refusal>
+    ensures { added (as_call result) queue.new store.new ≡ add queue.old store.old time m payload.now }
 {
     let len = store.len() as u64;
     let n = payload.len() as u64;
     let lifetime = m.lifetime;
-    let code = arguments_code(&*queue, len, time, lifetime, n);
-    if code > 0 {
-        return Call::Refused(code);
-    }
-    let place = look_up(&*queue, m.stream_id.0);
-    let lost = refused_place(&*queue, len, n, place);
-    if lost > 0 {
-        return Call::Refused(lost);
-    }
+    arguments_code(&*queue, len, time, lifetime, n)?;
+    let found = look_up(&*queue, m.stream_id.0);
+    let place = refused_place(&*queue, len, n, found)?;
     add_to(queue, store, time, m, payload, place)
 }

@@ -1,9 +1,10 @@
 // Creating a queue in lent words.
 ghost use Rattle.std.specs.Prelude.{◌≡◌, length};
+ghost use Rattle.types.specs.Refusal.{check_number};
+ghost use Rattle.queue_streams.specs.Answers.{as_call};
 ghost use Rattle.queue_streams.specs.Settings.{called};
 ghost use Rattle.queue_messages.specs.Create.{create_code, freed, new_words, create};
 
-use queue_streams::answers::Call;
 use queue_words::QUEUE_WORDS;
 use queue_words::header::{
     Gaps, Options, RestartRule, SchedulerState, Totals, store_options, store_scheduler_state,
@@ -11,25 +12,25 @@ use queue_words::header::{
 };
 use queue_words::items::{store_length, store_next, store_place};
 use queue_words::limits::{MAX_PAYLOAD_LIMIT, MAX_STORE, MESSAGE_ROWS};
-use types::OutgoingMessageId;
+use types::{OutgoingMessageId, Refusal};
 
-// Creation's refusal, 0 for none.
-fn create_code(payload_limit: u64, store_length: u64) -> u8
-    ensures { result ≡ create_code payload_limit store_length }
+// Creation's refusals.
+fn create_code(payload_limit: u64, store_length: u64) -> Result<(), Refusal>
+    ensures { check_number result ≡ create_code payload_limit store_length }
 {
     if payload_limit == 0 {
-        return 1;
+        return Err(Refusal::PayloadLimitWrong);
     }
     if payload_limit > MAX_PAYLOAD_LIMIT {
-        return 1;
+        return Err(Refusal::PayloadLimitWrong);
     }
     if store_length == 0 {
-        return 2;
+        return Err(Refusal::StoreWrong);
     }
     if store_length > MAX_STORE {
-        return 2;
+        return Err(Refusal::StoreWrong);
     }
-    0
+    Ok(())
 }
 
 // All places are free, chained in their order; none has a payload, and none points past the store.
@@ -88,14 +89,11 @@ pub fn create(
     total_threshold: u64,
     handover_with_data: bool,
     restart_rule: RestartRule,
-) -> Call
-    ensures { called result queue.new ≡ create queue.old (length store.now) payload_limit default_priority default_threshold total_threshold handover_with_data restart_rule }
+) -> Result<usize, Refusal>
+    ensures { called (as_call result) queue.new ≡ create queue.old (length store.now) payload_limit default_priority default_threshold total_threshold handover_with_data restart_rule }
 {
     let len = store.len() as u64;
-    let code = create_code(payload_limit, len);
-    if code > 0 {
-        return Call::Refused(code);
-    }
+    create_code(payload_limit, len)?;
     let strict = restart_rule.is_strict();
     write_new(
         queue,
@@ -109,5 +107,5 @@ pub fn create(
             strict_restart: strict,
         },
     );
-    Call::Accepted(0)
+    Ok(0)
 }

@@ -1,4 +1,6 @@
 use borrow.Author.Tests.{le-ltb, lt-ltb}
+use Rattle.std.proofs.lemmas.Result.{err_from_is_err_and}
+use Rattle.queue_messages.proofs.Tested.{put_goes, put_stays}
 use Rattle.queue_messages.specs.Add.{broken_code}
 use Rattle.queue_messages.proofs.adding.broken_code.Goals as goal
 
@@ -21,56 +23,56 @@ returns-then-n-s c =
       lt-ltb _ _ c.if-n-s.true,
     )
 
-pub returns-then-places-gt0 : goal.returns-then-places-gt0
+pub returns-in_err-places_code : goal.returns-in_err-places_code
 unfolding broken_code
-returns-then-places-gt0 c =
+returns-in_err-places_code c =
+    let p = err_from_is_err_and c.from_residual.result c.from_residual.ensures.1 in
     rw (
+      p.1,
       ← c.load_totals-t.ensures,
       le-ltb _ _ c.if-n-t.false,
       le-ltb _ _ c.if-n-s.false,
-      ← c.places_code-places.ensures,
-      lt-ltb _ _ c.if-places-gt0.true,
+      ← c.in_err-places_code.ensures,
     )
 
-pub returns-then-put-gt1 : goal.returns-then-put-gt1
+pub returns-then-not-room : goal.returns-then-not-room
 unfolding broken_code
-returns-then-put-gt1 c =
+returns-then-not-room c =
     rw (
       ← c.load_totals-t.ensures,
       le-ltb _ _ c.if-n-t.false,
       le-ltb _ _ c.if-n-s.false,
-      ← c.places_code-places.ensures,
-      le-ltb _ _ c.if-places-gt0.false,
+      ← c.in_ok-places_code.ensures,
       ← c.has_room-room.ensures,
-      c.if-room.true,
-      ← c.put_code-put.ensures,
-      lt-ltb _ _ c.if-put-gt1.true,
+      c.if-not-room.true,
     )
 
-pub returns-then-room : goal.returns-then-room
+pub returns-in-Ok : goal.returns-in-Ok
 unfolding broken_code
-returns-then-room c =
+returns-in-Ok c =
     rw (
       ← c.load_totals-t.ensures,
       le-ltb _ _ c.if-n-t.false,
       le-ltb _ _ c.if-n-s.false,
-      ← c.places_code-places.ensures,
-      le-ltb _ _ c.if-places-gt0.false,
+      ← c.in_ok-places_code.ensures,
       ← c.has_room-room.ensures,
-      c.if-room.true,
-      ← c.put_code-put.ensures,
-      le-ltb _ _ c.if-put-gt1.false,
+      c.if-not-room.false,
+      ← c.put_code.ensures,
+      c.in-Ok.is,
+      put_goes _,
     )
 
-pub returns : goal.returns
+pub returns-in-Err : goal.returns-in-Err
 unfolding broken_code
-returns c =
+returns-in-Err c =
     rw (
       ← c.load_totals-t.ensures,
       le-ltb _ _ c.if-n-t.false,
       le-ltb _ _ c.if-n-s.false,
-      ← c.places_code-places.ensures,
-      le-ltb _ _ c.if-places-gt0.false,
+      ← c.in_ok-places_code.ensures,
       ← c.has_room-room.ensures,
-      c.if-room.false,
+      c.if-not-room.false,
+      ← c.put_code.ensures,
+      c.in-Err.is,
+      put_stays _,
     )
