@@ -34,7 +34,7 @@ use Rattle.receiver_store.specs.Words.{used_of}
 use Rattle.receiver_store.specs.Putting.{room_code}
 use Rattle.receiver_store.proofs.Packs.{used_in}
 use Rattle.receiver_store.proofs.Laws.{room_law, room_full}
-use Rattle.receiver_fragments.specs.declared.answers.Received.TheVariants.{Refused, Repeated}
+use Rattle.receiver_fragments.specs.Received.{Refused, Repeated}
 use Rattle.receiver_fragments.specs.Checks.{last_of, held_code, repeats, admit_code}
 use Rattle.receiver_fragments.specs.Receiving.{Outcome, received, receive_new, receive_fragment}
 use Rattle.receiver_fragments.specs.Receiving as words

@@ -26,7 +26,7 @@ use Rattle.receiver_messages.specs.Keys.{interleaved_of}
 use Rattle.receiver_messages.specs.Readiness.{leave_ready}
 use Rattle.receiver_store.specs.Words.{size_of, used_of}
 use Rattle.receiver_fragments.specs.declared.freeing.Measure.{Measure}
-use Rattle.receiver_fragments.specs.declared.answers.Fetched.TheVariants as answer
+use Rattle.receiver_fragments.specs.Fetched as answer
 use Rattle.receiver_fragments.specs.Freeing.{measure, measured, HandedOut, hand_out}
 use Rattle.receiver_fragments.specs.Fetching.{Outcome, fetched, delivery, take_out, size_by, fetch_first, fetch}
 use Rattle.linked_receiver.specs.Good.{Ghost, GoodReceiver, chunk_in, message_in, stands}

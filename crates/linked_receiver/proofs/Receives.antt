@@ -33,7 +33,7 @@ use Rattle.receiver_fragments.specs.Checks.{last_of}
 use Rattle.receiver_fragments.specs.Holding.{Kept, kept, hold, pass_tsn, settle}
 use Rattle.receiver_fragments.specs.Receiving.{Outcome, received, receive_fragment}
 use Rattle.receiver_fragments.specs.Receiving as words
-use Rattle.receiver_fragments.specs.declared.answers.Received.TheVariants.{Refused, Repeated}
+use Rattle.receiver_fragments.specs.Received.{Refused, Repeated}
 use Rattle.linked_receiver.specs.Good.{Ghost, Carried, GoodReceiver, chunk_in, stands}
 use Rattle.linked_receiver.specs.Promise.{Represents}
 use Rattle.linked_receiver.specs.Receives.{answer_of, Receives}

@@ -2,8 +2,8 @@
 use Rattle.std.specs.Prelude.{◌≡◌, List, ℕ, length, take, drop}
 use Rattle.receiver_model.specs.Types.{Receiver, Answer, refused, none_ready, fetched}
 use Rattle.receiver_model.specs.Fetch as model
-use Rattle.receiver_fragments.specs.declared.answers.Fetched.{Fetched}
-use Rattle.receiver_fragments.specs.declared.answers.Fetched.TheVariants as answer
+use Rattle.receiver_fragments.specs.Fetched.{Fetched}
+use Rattle.receiver_fragments.specs.Fetched as answer
 use Rattle.receiver_fragments.specs.Fetching.{Outcome}
 use Rattle.linked_receiver.specs.Promise.{Represents}
 

@@ -5,8 +5,8 @@ use Rattle.receiver_model.specs.Types.{Receiver, Answer, refused, accepted, repe
 use Rattle.receiver_model.specs.Receive.{receive}
 use Rattle.receiver_words.specs.Chunks.{chunk_of}
 use Rattle.receiver_words.specs.declared.fragments.Fragment.{Fragment}
-use Rattle.receiver_fragments.specs.declared.answers.Received.{Received}
-use Rattle.receiver_fragments.specs.declared.answers.Received.TheVariants as answer
+use Rattle.receiver_fragments.specs.Received.{Received}
+use Rattle.receiver_fragments.specs.Received as answer
 use Rattle.receiver_fragments.specs.Receiving.{Outcome}
 use Rattle.linked_receiver.specs.Promise.{Represents}
 

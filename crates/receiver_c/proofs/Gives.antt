@@ -2,8 +2,8 @@
 use mathlib.Core.Path.{◌≡◌, ap, ◌∙◌}
 use mathlib.Core.List.{List}
 use Prim.Native.Nat.{ℕ}
-use Rattle.receiver_fragments.specs.declared.answers.Received.{Received}
-use Rattle.receiver_fragments.specs.declared.answers.Fetched.{Fetched}
+use Rattle.receiver_fragments.specs.Received.{Received}
+use Rattle.receiver_fragments.specs.Fetched.{Fetched}
 use Rattle.receiver_fragments.specs.Creating as creating
 use Rattle.receiver_fragments.specs.Receiving as receiving
 use Rattle.receiver_fragments.specs.Fetching as fetching

@@ -3,10 +3,10 @@
 use Rattle.std.specs.Prelude.{ℕ, List, set}
 use Rattle.queue_words.specs.Flags.{bit}
 use Rattle.receiver_fragments.specs.declared.answers.Delivery.{Delivery}
-use Rattle.receiver_fragments.specs.declared.answers.Received.{Received}
-use Rattle.receiver_fragments.specs.declared.answers.Received.TheVariants as received
-use Rattle.receiver_fragments.specs.declared.answers.Fetched.{Fetched}
-use Rattle.receiver_fragments.specs.declared.answers.Fetched.TheVariants as fetched
+use Rattle.receiver_fragments.specs.Received.{Received}
+use Rattle.receiver_fragments.specs.Received as received
+use Rattle.receiver_fragments.specs.Fetched.{Fetched}
+use Rattle.receiver_fragments.specs.Fetched as fetched
 
 -- 1 for accepted, 0 for a repeat
 abbrev pub received_out : List ℕ → Received → List ℕ

@@ -32,10 +32,10 @@ use Rattle.receiver_store.specs.Putting.{room_code}
 use Rattle.receiver_store.specs.Reading.{same_code}
 use Rattle.receiver_messages.specs.Keys.{interleaved_of}
 use Rattle.receiver_fragments.specs.declared.answers.Delivery.{Delivery}
-use Rattle.receiver_fragments.specs.declared.answers.Received.{Received}
-use Rattle.receiver_fragments.specs.declared.answers.Received.TheVariants as received
-use Rattle.receiver_fragments.specs.declared.answers.Fetched.{Fetched}
-use Rattle.receiver_fragments.specs.declared.answers.Fetched.TheVariants as fetched
+use Rattle.receiver_fragments.specs.Received.{Received}
+use Rattle.receiver_fragments.specs.Received as received
+use Rattle.receiver_fragments.specs.Fetched.{Fetched}
+use Rattle.receiver_fragments.specs.Fetched as fetched
 use Rattle.receiver_fragments.specs.Checks.{last_of, same_fields, held_code, repeats, admit_code}
 use Rattle.receiver_fragments.specs.Creating as creating
 use Rattle.receiver_fragments.specs.Creating.{new_tables, new_header, create}

@@ -1,10 +1,10 @@
 -- "If an answer is an enum, a definition states this paper's number and values for each case of the enum." The number: 0 where a call is not refused, else the refusal's of
 -- document 01 or 02. Assumes nothing.
 use Rattle.std.specs.Prelude.{ℕ}
-use Rattle.receiver_fragments.specs.declared.answers.Received.{Received}
-use Rattle.receiver_fragments.specs.declared.answers.Received.TheVariants as received
-use Rattle.receiver_fragments.specs.declared.answers.Fetched.{Fetched}
-use Rattle.receiver_fragments.specs.declared.answers.Fetched.TheVariants as fetched
+use Rattle.receiver_fragments.specs.Received.{Received}
+use Rattle.receiver_fragments.specs.Received as received
+use Rattle.receiver_fragments.specs.Fetched.{Fetched}
+use Rattle.receiver_fragments.specs.Fetched as fetched
 
 -- receiving a chunk
 abbrev pub received_number : Received → ℕ

@@ -3,8 +3,8 @@
 -- number of document 01's list", to which document 02's numbers join. Assumes nothing.
 use Rattle.std.specs.Prelude.{ℕ, ◌<◌, ◌≡◌, Bool, true, List, [], ◌∷◌}
 use Rattle.receiver_model.specs.Lists.{member}
-use Rattle.receiver_fragments.specs.declared.answers.Received.TheVariants as received
-use Rattle.receiver_fragments.specs.declared.answers.Fetched.TheVariants as fetched
+use Rattle.receiver_fragments.specs.Received as received
+use Rattle.receiver_fragments.specs.Fetched as fetched
 use Rattle.receiver_fragments.specs.Creating.{create}
 use Rattle.receiver_fragments.specs.Fetching.{fetch}
 use Rattle.receiver_calls.specs.Receiving.{receive}

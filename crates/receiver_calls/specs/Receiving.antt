@@ -11,7 +11,7 @@ use Rattle.chunks.specs.Reading.{read_chunk, payload_of}
 use Rattle.receiver_words.specs.Tables.{Header, word_at}
 use Rattle.receiver_words.specs.declared.fragments.Fragment.{Fragment}
 use Rattle.receiver_messages.specs.Keys.{interleaved_of}
-use Rattle.receiver_fragments.specs.declared.answers.Received.TheVariants.{Refused}
+use Rattle.receiver_fragments.specs.Received.{Refused}
 use Rattle.receiver_fragments.specs.Receiving.{Outcome, received, receive_fragment}
 
 -- the fields read of a chunk

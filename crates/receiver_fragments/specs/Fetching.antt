@@ -7,8 +7,8 @@ use Rattle.receiver_messages.specs.Keys.{interleaved_of}
 use Rattle.receiver_messages.specs.Readiness.{leave_ready}
 use Rattle.receiver_fragments.specs.declared.freeing.Measure.{Measure}
 use Rattle.receiver_fragments.specs.declared.answers.Delivery.{Delivery}
-use Rattle.receiver_fragments.specs.declared.answers.Fetched.{Fetched}
-use Rattle.receiver_fragments.specs.declared.answers.Fetched.TheVariants as answer
+use Rattle.receiver_fragments.specs.Fetched.{Fetched}
+use Rattle.receiver_fragments.specs.Fetched as answer
 use Rattle.receiver_fragments.specs.Freeing.{measured, hand_out}
 
 -- the answer, the words and the lent buffer; the store is only read

@@ -6,8 +6,8 @@ use Rattle.receiver_words.specs.Tables.{Header, word_at}
 use Rattle.receiver_words.specs.Index.{find_row}
 use Rattle.receiver_words.specs.Search.{find_turn}
 use Rattle.receiver_words.specs.declared.fragments.Fragment.{Fragment}
-use Rattle.receiver_fragments.specs.declared.answers.Received.{Received}
-use Rattle.receiver_fragments.specs.declared.answers.Received.TheVariants.{Refused, Repeated, Accepted}
+use Rattle.receiver_fragments.specs.Received.{Received}
+use Rattle.receiver_fragments.specs.Received.{Refused, Repeated, Accepted}
 use Rattle.receiver_fragments.specs.Checks.{last_of, held_code, repeats, admit_code}
 use Rattle.receiver_fragments.specs.Holding.{Kept, kept, hold, pass_tsn, settle}
 

@@ -34,7 +34,7 @@ use Rattle.receiver_words.specs.Fragments.{FitsFragment}
 use Rattle.receiver_words.specs.Chunks.{kind_of, chunk_of}
 use Rattle.receiver_words.specs.declared.fragments.Fragment.{Fragment}
 use Rattle.receiver_messages.specs.Keys.{interleaved_of}
-use Rattle.receiver_fragments.specs.declared.answers.Received.TheVariants as answer
+use Rattle.receiver_fragments.specs.Received as answer
 use Rattle.receiver_fragments.specs.Receiving.{Outcome, received, receive_fragment}
 use Rattle.receiver_calls.specs.Receiving.{fragment_of, of_kind, receive_read, receive_as}
 use Rattle.receiver_calls.specs.Receiving as calls

@@ -23,8 +23,8 @@ use Rattle.receiver_model.specs.Claim.{Move, arrivals, as_call, AllAccepted, Onl
 use Rattle.receiver_model.specs.Sender.{model_chunk_of, sent_by, queued_by, Undisturbed, Arrived}
 use Rattle.receiver_model.proofs.Delivery.{delivers}
 use Rattle.receiver_words.specs.Chunks.{kind_of}
-use Rattle.receiver_fragments.specs.declared.answers.Fetched.{Fetched}
-use Rattle.receiver_fragments.specs.declared.answers.Fetched.TheVariants as fetch_answer
+use Rattle.receiver_fragments.specs.Fetched.{Fetched}
+use Rattle.receiver_fragments.specs.Fetched as fetch_answer
 use Rattle.receiver_fragments.specs.Fetching as words
 use Rattle.linked_receiver.specs.Fetches.{answer_of}
 use Rattle.linked_receiver.proofs.Fetches.{fetch_represents}

@@ -14,8 +14,8 @@ use Rattle.receiver_model.specs.Types.{Receiver}
 use Rattle.receiver_model.specs.Receive.{create_refusal, new_receiver}
 use Rattle.receiver_model.specs.Run as run
 use Rattle.receiver_words.specs.Chunks.{kind_of}
-use Rattle.receiver_fragments.specs.declared.answers.Received.TheVariants as answer
-use Rattle.receiver_fragments.specs.declared.answers.Fetched.TheVariants as fetch_answer
+use Rattle.receiver_fragments.specs.Received as answer
+use Rattle.receiver_fragments.specs.Fetched as fetch_answer
 use Rattle.receiver_fragments.specs.Creating as creating
 use Rattle.receiver_fragments.specs.Receiving as receiving
 use Rattle.receiver_fragments.specs.Fetching as fetching

@@ -1,7 +1,7 @@
 -- The calls on a receiver, with their arguments, and what they show. Assumes nothing.
 use Rattle.std.specs.Prelude.{ℕ, ◌≡◌, List, [], ◌∷◌, length}
-use Rattle.receiver_fragments.specs.declared.answers.Received.{Received}
-use Rattle.receiver_fragments.specs.declared.answers.Fetched.{Fetched}
+use Rattle.receiver_fragments.specs.Received.{Received}
+use Rattle.receiver_fragments.specs.Fetched.{Fetched}
 use Rattle.queue_runs.specs.Calls.{Bytes}
 
 -- The store that a call is lent: "with the store as left", or another.

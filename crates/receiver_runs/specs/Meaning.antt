@@ -10,8 +10,8 @@ use Rattle.receiver_model.specs.Types.{Chunk}
 use Rattle.receiver_model.specs.Receive.{new_receiver}
 use Rattle.receiver_model.specs.Run as run
 use Rattle.receiver_words.specs.Chunks.{kind_of, chunk_of}
-use Rattle.receiver_fragments.specs.declared.answers.Received.TheVariants as answer
-use Rattle.receiver_fragments.specs.declared.answers.Fetched.TheVariants as fetch_answer
+use Rattle.receiver_fragments.specs.Received as answer
+use Rattle.receiver_fragments.specs.Fetched as fetch_answer
 use Rattle.receiver_calls.specs.Receiving.{fragment_of}
 use Rattle.linked_receiver.specs.Promise.{Represents}
 use Rattle.linked_receiver.specs.Receives as receiving

@@ -13,7 +13,7 @@ use Rattle.receiver_model.specs.Claim as model
 use Rattle.receiver_model.specs.Claim.{Move, arrivals, AllAccepted, AllArrive}
 use Rattle.receiver_model.specs.Sender.{no_fragment, Undisturbed, Arrived}
 use Rattle.receiver_words.specs.Chunks.{kind_of}
-use Rattle.receiver_fragments.specs.declared.answers.Fetched.TheVariants as fetch_answer
+use Rattle.receiver_fragments.specs.Fetched as fetch_answer
 use Rattle.queue_runs.specs.Calls as queue
 use Rattle.queue_runs.specs.Calls.{Bytes}
 use Rattle.queue_runs.specs.Run.{State}
