@@ -9,7 +9,7 @@ use Rattle.queue_messages.specs.Add.{Added, added}
 use Rattle.queue_sending.specs.Data.{ProducedWith, produced_with, produced_number}
 use Rattle.queue_sending.specs.Produced.{Produced}
 use Rattle.saving.specs.Save.{SavedAs, saved_as, saved_number}
-use Rattle.saving.specs.declared.image.Saved.{Saved}
+use Rattle.saving.specs.Saved.{Saved}
 use Rattle.host_numbers.specs.Numbers.{call_out, produced_out, saved_out}
 use Rattle.host_numbers.specs.Given.{Gives, GivesEvents, GivesStore, GivesFragment, GivesImage}
 

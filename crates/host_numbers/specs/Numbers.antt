@@ -14,8 +14,8 @@ use Rattle.queue_messages.specs.declared.message.Message.{Message}
 use Rattle.queue_sending.specs.declared.data.DataToSend.{DataToSend}
 use Rattle.queue_sending.specs.Produced.{Produced}
 use Rattle.queue_sending.specs.Produced as produced
-use Rattle.saving.specs.declared.image.Saved.{Saved}
-use Rattle.saving.specs.declared.image.Saved.TheVariants as saved
+use Rattle.saving.specs.Saved.{Saved}
+use Rattle.saving.specs.Saved as saved
 pub use Rattle.out_array.specs.Flag.{is_yes}
 
 -- ------------------------------------------------------------------ what is given

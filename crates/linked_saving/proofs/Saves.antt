@@ -19,8 +19,8 @@ use Rattle.queue_state.specs.Model.{stream_in, streams_in, model}
 use Rattle.queue_state.specs.Good.{Good}
 use Rattle.queue_state.proofs.Tabs.{tab_same}
 use Rattle.big_endian.specs.Numbers.{wrote}
-use Rattle.saving.specs.declared.image.Saved.{Saved}
-use Rattle.saving.specs.declared.image.Saved.TheVariants.{Image, Refused}
+use Rattle.saving.specs.Saved.{Saved}
+use Rattle.saving.specs.Saved.{Image, Refused}
 use Rattle.saving.specs.declared.measuring.Tally.{Tally}
 use Rattle.saving.specs.Measure.{tally_queue}
 use Rattle.saving.specs.Bytes.{streams_from, messages_from, trailer_bytes, image_bytes_words, image_size}

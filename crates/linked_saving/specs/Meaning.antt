@@ -4,8 +4,8 @@ use Rattle.queue_model.specs.Answers.{saving_number, saving_length}
 use Rattle.queue_model.specs.Image as image
 use Rattle.queue_state.specs.Model.{model}
 use Rattle.queue_state.specs.Good.{Good}
-use Rattle.saving.specs.declared.image.Saved.{Saved}
-use Rattle.saving.specs.declared.image.Saved.TheVariants.{Image, Refused}
+use Rattle.saving.specs.Saved.{Saved}
+use Rattle.saving.specs.Saved.{Image, Refused}
 use Rattle.saving.specs.Save.{SavedAs, saved_as, saved_number, saved_length, save_image}
 
 -- The model's answer and the lent buffer: the refusal's number, and the buffer as it was; or the image's length, and the image at the buffer's start,

@@ -13,8 +13,8 @@ use Rattle.queue_state.specs.Model.{model}
 use Rattle.queue_runs.specs.Run.{State}
 use Rattle.queue_runs.specs.Meaning.{GoodState}
 use Rattle.saving.specs.Save.{saved_number, save_image}
-use Rattle.saving.specs.declared.image.Saved.{Saved}
-use Rattle.saving.specs.declared.image.Saved.TheVariants as saved
+use Rattle.saving.specs.Saved.{Saved}
+use Rattle.saving.specs.Saved as saved
 use Rattle.linked_saving.proofs.Saves.{save_meets}
 use Rattle.no_sixteen.specs.Shows.{sixteen_saved, save_shows}
 

@@ -1,8 +1,8 @@
 -- Whether a call shows refusal 16: of saving, of the handler's calls, of creation; the queue's other calls: queue_runs, specs/Creation. Assumes nothing.
 use Rattle.std.specs.Prelude.{ℕ, ◌≡◌, Bool, false, List, [], ◌∷◌, eqb}
 use Rattle.saving.specs.Save.{save_image}
-use Rattle.saving.specs.declared.image.Saved.{Saved}
-use Rattle.saving.specs.declared.image.Saved.TheVariants as saved
+use Rattle.saving.specs.Saved.{Saved}
+use Rattle.saving.specs.Saved as saved
 use Rattle.queue_runs.specs.Calls as calls
 use Rattle.queue_runs.specs.Calls.{Call, Typed}
 use Rattle.queue_runs.specs.Run.{State, step}

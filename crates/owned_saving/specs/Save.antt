@@ -1,6 +1,6 @@
 -- "If an answer is an enum, a definition states this paper's number and values for each case of the enum." Of saving an owned queue, as the checked call says it; 16 is none of them. Assumes nothing.
-use Rattle.saving.specs.declared.image.Saved as checked
-use Rattle.saving.specs.declared.image.Saved.TheVariants as checked_is
+use Rattle.saving.specs.Saved as checked
+use Rattle.saving.specs.Saved as checked_is
 use Rattle.owned_saving.specs.declared.Saved.{Saved}
 use Rattle.owned_saving.specs.declared.Saved.TheVariants as own
 

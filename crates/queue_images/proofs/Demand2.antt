@@ -23,7 +23,7 @@ use Rattle.queue_model.proofs.Checks.{all_passed, not_less}
 use Rattle.queue_model.proofs.Demand2.Bytes.{image_is_bytes}
 use Rattle.queue_model.proofs.Demand2.Images.{demand2_images, demand2_rust}
 use Rattle.saving.specs.Save.{SavedAs, saved_as}
-use Rattle.saving.specs.declared.image.Saved.TheVariants as saved
+use Rattle.saving.specs.Saved as saved
 use Rattle.linked_saving.specs.Meaning.{saved_of}
 use Rattle.linked_saving.proofs.Saves.{save_is}
 use Rattle.queue_runs.specs.Calls.{restore, set_interleaving, Shown}

@@ -17,7 +17,7 @@ use Rattle.queue_runs.specs.Refusals.{call_refused}
 use Rattle.saving.specs.Bytes.{image_size}
 use Rattle.saving.specs.Measure.{tally_queue}
 use Rattle.saving.specs.Save.{SavedAs, saved_as, save_with, save_image}
-use Rattle.saving.specs.declared.image.Saved.TheVariants.{Image, Refused}
+use Rattle.saving.specs.Saved.{Image, Refused}
 use Rattle.saving.specs.declared.measuring.Tally.{Tally}
 use Rattle.queue_images.specs.Refusals.{saved_refused}
 use Rattle.queue_images.specs.Numbers.{saved_number, SaveRefusalsListed, SaveOtherStore, CreateRefusals}

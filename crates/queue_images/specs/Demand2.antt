@@ -5,7 +5,7 @@ use Rattle.queue_model.specs.Demands.{fresh, forget_plain, Matched}
 use Rattle.queue_model.specs.RustHandover.{HandoverState, handover_state, restore_from_state, restore_remembering}
 use Rattle.queue_streams.specs.Call.{Accepted}
 use Rattle.saving.specs.Save.{saved_as, save_image}
-use Rattle.saving.specs.declared.image.Saved.TheVariants.{Image}
+use Rattle.saving.specs.Saved.{Image}
 use Rattle.queue_runs.specs.Calls.{restore, set_interleaving, called}
 use Rattle.queue_runs.specs.Creation.{Arguments, options_with, new_state, Creates}
 use Rattle.queue_runs.specs.Demand3.{Reached}

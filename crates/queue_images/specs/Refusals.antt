@@ -2,8 +2,8 @@
 -- Assumes nothing.
 use Rattle.std.specs.Prelude.{ℕ, ◌≡◌, Bool, true, false, List}
 use Rattle.saving.specs.Save.{save_image}
-use Rattle.saving.specs.declared.image.Saved.{Saved}
-use Rattle.saving.specs.declared.image.Saved.TheVariants.{Image, Refused}
+use Rattle.saving.specs.Saved.{Saved}
+use Rattle.saving.specs.Saved.{Image, Refused}
 
 abbrev pub saved_refused : Saved → Bool
 saved_refused (Image n) = false

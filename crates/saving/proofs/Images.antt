@@ -23,7 +23,7 @@ use Rattle.saving.specs.declared.measuring.Tally.{Tally}
 use Rattle.saving.specs.Measure.{counts_of, tally_queue, Small, Few}
 use Rattle.saving.specs.Sound.{StreamOk}
 use Rattle.saving.specs.Bytes.{streams_from, messages_from, trailer_bytes, image_bytes_words, counts_size, image_size}
-use Rattle.saving.specs.declared.image.Saved.TheVariants.{Image, Refused}
+use Rattle.saving.specs.Saved.{Image, Refused}
 use Rattle.saving.specs.Save.{saved_as, save_with, save_image}
 use Rattle.saving.proofs.Lengths.{trailer_long}
 use Rattle.saving.proofs.Passing.{small_queue, queue_streams}

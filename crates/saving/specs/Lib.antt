@@ -3,4 +3,5 @@ pub mod Measure
 pub mod Sound
 pub mod Records
 pub mod Bytes
+pub mod Saved
 pub mod Save

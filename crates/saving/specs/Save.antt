@@ -3,8 +3,8 @@ use Rattle.std.specs.Prelude.{ℕ, List, ltb, eqb, length}
 use Rattle.queue_words.specs.Flags.{pick}
 use Rattle.queue_words.specs.Header.{options_at}
 use Rattle.big_endian.specs.Numbers.{wrote}
-use Rattle.saving.specs.declared.image.Saved.{Saved}
-use Rattle.saving.specs.declared.image.Saved.TheVariants.{Image, Refused}
+use Rattle.saving.specs.Saved.{Saved}
+use Rattle.saving.specs.Saved.{Image, Refused}
 use Rattle.saving.specs.declared.measuring.Tally.{Tally}
 use Rattle.saving.specs.Measure.{tally_queue}
 use Rattle.saving.specs.Bytes.{image_bytes_words, image_size}
