@@ -334,13 +334,8 @@ pub fn answer_plain(
 fn put_ids(output: &mut Answers, ids: &[u16; 256], count: usize) {
     put_text(output, b"g 0");
     put_number(output, count as u64);
-    let mut i = 0;
-    while i < 256 {
-        if i >= count {
-            break;
-        }
-        put_number(output, wide16(ids[i]));
-        i += 1;
+    for id in &ids[..count.min(256)] {
+        put_number(output, wide16(*id));
     }
     put_byte(output, b'\n');
 }
