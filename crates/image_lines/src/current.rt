@@ -39,13 +39,8 @@ pub fn answer_change(image: &mut [u8; IMAGE], output: &mut Answers, state: &[u64
 }
 
 fn zeros(image: &mut [u8; IMAGE], from: usize, to: usize) {
-    if to > 2100000 {
-        return;
-    }
-    let mut i = from;
-    while i < to {
-        image[i] = 0;
-        i += 1;
+    if from < to && to <= 2100000 {
+        image[from..to].fill(0);
     }
 }
 
