@@ -28,17 +28,10 @@ fn count_at(state: &[u64; STATE], at: usize) -> usize
 
 // Whether so many ids are in their range.
 fn ids_fit(state: &[u64; STATE], n: usize) -> bool {
-    let mut i = 0;
-    while i < LISTED {
-        if i >= n {
-            break;
-        }
-        if state[IDS + 1 + i] > BITS16 {
-            return false;
-        }
-        i += 1;
-    }
-    true
+    let from = IDS + 1;
+    state[from..from + n.min(LISTED)]
+        .iter()
+        .all(|id| *id <= BITS16)
 }
 
 // Whether the numbers of the line are a limit and two lists, each with its count before it.
@@ -61,20 +54,14 @@ pub fn is_plan(state: &[u64; STATE]) -> bool {
 }
 
 fn take_ids(state: &[u64; STATE], ids: &mut [u16; LISTED]) {
-    let mut i = 0;
-    while i < LISTED {
+    for i in 0..LISTED {
         ids[i] = low16(state[IDS + 1 + i]);
-        i += 1;
     }
 }
 
 fn take_sizes(state: &[u64; STATE], sizes: &mut [u64; LISTED]) {
     let from = IDS + 2 + count_at(state, IDS);
-    let mut i = 0;
-    while i < LISTED {
-        sizes[i] = state[from + i];
-        i += 1;
-    }
+    sizes.copy_from_slice(&state[from..from + LISTED]);
 }
 
 fn too_short() -> PlannedPriorities {
@@ -116,13 +103,8 @@ fn plan(state: &[u64; STATE]) -> PlannedPriorities {
 
 fn put_priorities(output: &mut Answers, values: &[u16; MAX_PLANNED], count: usize) {
     put_text(output, b"P 0");
-    let mut i = 0;
-    while i < MAX_PLANNED {
-        if i >= count {
-            break;
-        }
-        put_number(output, wide16(values[i]));
-        i += 1;
+    for value in &values[..count.min(MAX_PLANNED)] {
+        put_number(output, wide16(*value));
     }
     put_byte(output, b'\n');
 }
