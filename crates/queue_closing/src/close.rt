@@ -5,6 +5,7 @@ ghost use Rattle.queue_words.specs.Known.{known_count};
 ghost use Rattle.payload_store.specs.Dropping.{drop_code_words};
 ghost use Rattle.message_chains.specs.Notes.{notes};
 ghost use Rattle.queue_streams.specs.Known.{new_stream_words, inserted};
+ghost use Rattle.queue_streams.specs.Answers.{as_call};
 ghost use Rattle.queue_streams.specs.Settings.{called_with};
 ghost use Rattle.queue_closing.specs.Walk.{walk_failed, may_go, walk_item, walk, may_sweep};
 ghost use Rattle.queue_closing.specs.Sweep.{swept, sweep_notes, sweep_item_words, sweep, sweep_from, Goes};
@@ -14,7 +15,6 @@ ghost use Rattle.queue_streams.specs.Call.{Accepted};
 use message_chains::amounts::{minus, remaining};
 use message_chains::heads::release;
 use message_chains::notes::{lifecycle_events, low_event};
-use queue_streams::answers::Call;
 use queue_streams::events::EVENT_WORDS;
 use queue_streams::known::{Place, insert_stream, look_up, new_stream};
 use queue_words::QUEUE_WORDS;
@@ -23,6 +23,7 @@ use queue_words::items::{Item, load_item, store_next};
 use queue_words::limits::{LAST_MESSAGE, MESSAGE_ROWS, NO_MESSAGE};
 use queue_words::streams::{OutgoingStream, PauseState, load_stream, store_stream, with_pause};
 use stream_scheduler::remove_stream;
+use types::Refusal;
 
 // A test of a chain half done: whether the messages so far may go, the place of the next one, and what would be left.
 #[derive(Clone, Copy)]
@@ -230,19 +231,19 @@ fn close_whole(
     id: u16,
     row: usize,
     s: OutgoingStream,
-) -> Call
+) -> Result<usize, Refusal>
     requires { row < 256 }
-    ensures { called_with result queue.new events.new ≡ close_whole queue.old events.old id row s }
+    ensures { called_with (as_call result) queue.new events.new ≡ close_whole queue.old events.old id row s }
 {
     let sweeps = may_sweep(&*queue, s.first, s.buffered_amount);
     if sweeps {
         let stopped = remove_stream(queue, id);
         if stopped {
             let k = sweep_whole(queue, events, id, row, s);
-            return Call::Accepted(k);
+            return Ok(k);
         }
     }
-    Call::Refused(16)
+    Err(Refusal::WordsBroken)
 }
 
 // The messages behind a half-sent head dropped: pending. The events written.
@@ -284,16 +285,16 @@ fn close_behind(
     row: usize,
     s: OutgoingStream,
     next: u64,
-) -> Call
+) -> Result<usize, Refusal>
     requires { (row < 256) × (s.first < 1024) }
-    ensures { called_with result queue.new events.new ≡ close_behind queue.old events.old id row s next }
+    ensures { called_with (as_call result) queue.new events.new ≡ close_behind queue.old events.old id row s next }
 {
     let sweeps = may_sweep(&*queue, next, s.buffered_amount);
     if sweeps {
         let k = sweep_behind(queue, events, id, row, s, next);
-        return Call::Accepted(k);
+        return Ok(k);
     }
-    Call::Refused(16)
+    Err(Refusal::WordsBroken)
 }
 
 // An open stream closed: "It drops every message at offset 0; a remaining half-sent one makes the stream pending, none makes it
@@ -304,17 +305,17 @@ fn close_open(
     id: u16,
     row: usize,
     s: OutgoingStream,
-) -> Call
+) -> Result<usize, Refusal>
     requires { row < 256 }
-    ensures { called_with result queue.new events.new ≡ close_open_words queue.old events.old id row s }
+    ensures { called_with (as_call result) queue.new events.new ≡ close_open_words queue.old events.old id row s }
 {
     if s.first > NO_MESSAGE {
-        return Call::Refused(16);
+        return Err(Refusal::WordsBroken);
     }
     if s.first == NO_MESSAGE {
         let o = with_pause(s, PauseState::Paused);
         store_stream(queue, row, o);
-        return Call::Accepted(0);
+        return Ok(0);
     }
     let m = load_item(&*queue, s.first as usize);
     if m.offset > 0 {
@@ -324,9 +325,14 @@ fn close_open(
 }
 
 // "Closing changes nothing unless the stream is open."
-fn close_in(queue: &mut [u64; QUEUE_WORDS], events: &mut [u64], id: u16, row: usize) -> Call
+fn close_in(
+    queue: &mut [u64; QUEUE_WORDS],
+    events: &mut [u64],
+    id: u16,
+    row: usize,
+) -> Result<usize, Refusal>
     requires { row < 256 }
-    ensures { called_with result queue.new events.new ≡ close_in queue.old events.old id row }
+    ensures { called_with (as_call result) queue.new events.new ≡ close_in queue.old events.old id row }
 {
     let s = load_stream(&*queue, row);
     let state = s.pause_state;
@@ -334,7 +340,7 @@ fn close_in(queue: &mut [u64; QUEUE_WORDS], events: &mut [u64], id: u16, row: us
     if open {
         return close_open(queue, events, id, row, s);
     }
-    Call::Accepted(0)
+    Ok(0)
 }
 
 // A stream that is not known becomes known and paused.
@@ -349,19 +355,22 @@ pub fn close_new(queue: &mut [u64; QUEUE_WORDS], id: u16, position: usize)
 }
 
 // Closes a stream; one that is not known becomes known and paused.
-pub fn prepare_reset_stream(queue: &mut [u64; QUEUE_WORDS], events: &mut [u64], id: u16) -> Call
-    ensures { called_with result queue.new events.new ≡ close queue.old events.old id }
+pub fn prepare_reset_stream(
+    queue: &mut [u64; QUEUE_WORDS],
+    events: &mut [u64],
+    id: u16,
+) -> Result<usize, Refusal>
+    ensures { called_with (as_call result) queue.new events.new ≡ close queue.old events.old id }
 {
     if events.len() < EVENT_WORDS {
-        return Call::Refused(3);
+        return Err(Refusal::EventListShort);
     }
-    let place = look_up(&*queue, id);
+    let place = look_up(&*queue, id)?;
     match place {
         Place::Row(row) => close_in(queue, events, id, row),
         Place::New(position) => {
             close_new(queue, id, position);
-            Call::Accepted(0)
+            Ok(0)
         }
-        Place::Refused(n) => Call::Refused(n),
     }
 }

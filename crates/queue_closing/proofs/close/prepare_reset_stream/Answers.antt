@@ -1,4 +1,6 @@
-use mathlib.Core.Path.{sym}
+use mathlib.Core.Path.{sym, ap, ◌∙◌}
+use Rattle.std.proofs.lemmas.Result.{err_from_is_err_and}
+use Rattle.queue_streams.specs.Known.{placed}
 use Rattle.queue_streams.proofs.Exits.{look_row, look_new}
 use Rattle.queue_closing.proofs.Exits.{closed_few, closed_row, closed_new, closed_refused}
 use Rattle.std.proofs.Common.{refl}
@@ -9,16 +11,18 @@ pub returns-then-events-lt-EVENT_WORDS : goal.returns-then-events-lt-EVENT_WORDS
 returns-then-events-lt-EVENT_WORDS c = closed_few _ _ _ c.if-events-lt-EVENT_WORDS.true
 
 pub close_in-requires : goal.close_in-requires
-close_in-requires c = look_row _ _ _ (sym c.in-Row.ensures)
+close_in-requires c = look_row _ _ _ (sym (ap placed (sym c.in-Row.is) ∙ c.in_ok-place.ensures))
 
 pub close_new-requires : goal.close_new-requires
-close_new-requires c = look_new _ _ _ (sym c.in-New.ensures)
+close_new-requires c = look_new _ _ _ (sym (ap placed (sym c.in-New.is) ∙ c.in_ok-place.ensures))
 
 pub returns-in-Row : goal.returns-in-Row
-returns-in-Row c = closed_row _ _ _ c.if-events-lt-EVENT_WORDS.false _ c.in-Row.ensures _ _ refl c.close_in.ensures
+returns-in-Row c = closed_row _ _ _ c.if-events-lt-EVENT_WORDS.false _ (ap placed (sym c.in-Row.is) ∙ c.in_ok-place.ensures) _ _ refl c.close_in.ensures
 
 pub returns-in-New : goal.returns-in-New
-returns-in-New c = closed_new _ _ _ c.if-events-lt-EVENT_WORDS.false _ c.in-New.ensures _ _ refl c.close_new.ensures
+returns-in-New c = closed_new _ _ _ c.if-events-lt-EVENT_WORDS.false _ (ap placed (sym c.in-New.is) ∙ c.in_ok-place.ensures) _ _ refl c.close_new.ensures
 
-pub returns-in-Refused : goal.returns-in-Refused
-returns-in-Refused c = closed_refused _ _ _ c.if-events-lt-EVENT_WORDS.false _ c.in-Refused.ensures _ refl
+pub returns-in_err-place : goal.returns-in_err-place
+returns-in_err-place c =
+    let p = err_from_is_err_and c.from_residual.result c.from_residual.ensures.1 in
+    rw (p.1, p.2) (closed_refused _ _ _ c.if-events-lt-EVENT_WORDS.false _ c.in_err-place.ensures _ refl)
