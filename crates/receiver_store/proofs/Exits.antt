@@ -4,10 +4,13 @@ use mathlib.Core.Bool.{Bool, true, false}
 use mathlib.Core.List.{List}
 use Prim.Native.Nat.{ℕ, zero, suc, ◌+◌, ◌-◌, ◌≤◌, ◌<◌}
 use native.Mathlib.Omega.{arith}
-use borrow.Author.Tests.{le-leb, lt-leb, lt-ltb, le-ltb, eq-eqb, ne_eqb, ltb-false, leb-false, leb-true}
+use borrow.Author.Tests.{le-leb, lt-leb, eq-eqb, ne_eqb, ltb-false, leb-false, leb-true}
 use lib.Dec.{ltb, leb, eqb}
 use lib.ListN.{length, take, drop, length-drop}
 use lib.Seq.{length-take-le}
+use Rattle.types.specs.Refusal.{refusal_number}
+use Rattle.types.specs.declared.refusal.Refusal.{Refusal}
+use Rattle.types.proofs.Refusals.{refusal_above}
 use Rattle.queue_words.specs.Flags.{pick}
 use Rattle.payload_store.specs.Moving.{moved, Pack, pack}
 use Rattle.payload_store.specs.Putting.{Outcome, outcome, written}
@@ -175,30 +178,30 @@ room_ok ws len n e =
       ltb-false len (end_of ws) t3.0,
     )
 
-pub put_room : (ws : List ℕ) (len n code : ℕ) → code ≡ room_code ws len n → code ≤ 0 → (used_of ws + n ≤ len) × (end_of ws ≤ len)
-put_room ws len n code ec h = room_ok ws len n (omega arith)
+pub put_room : (ws : List ℕ) (len n : ℕ) → 0 ≡ room_code ws len n → (used_of ws + n ≤ len) × (end_of ws ≤ len)
+put_room ws len n ec = room_ok ws len n (sym ec)
 
-module _ (ws st bs : List ℕ) (i code : ℕ) (ec : code ≡ room_code ws (length st) (length bs)) where
-  pub put_refused : 0 < code → outcome code ws st ≡ put_payload ws st i bs
+pub put_refused : (ws st bs : List ℕ) (i : ℕ) (r : Refusal) → refusal_number r ≡ room_code ws (length st) (length bs) → outcome (refusal_number r) ws st ≡ put_payload ws st i bs
+unfolding put_payload
+put_refused ws st bs i r er = rw (← er, refusal_above r)
+
+module _ (ws st bs : List ℕ) (i : ℕ) (ec : 0 ≡ room_code ws (length st) (length bs)) where
+  pub put_at_end : (o : Outcome) (end : ℕ) → end ≡ end_of ws → length bs ≤ length st - end → o ≡ placed ws st i bs → o ≡ put_payload ws st i bs
   unfolding put_payload
-  put_refused h = rw (← ec, lt-ltb 0 code h)
+  put_at_end o end ee a eo = rw (← ec, ← ee, le-leb (length bs) (length st - end) a) eo
 
-  pub put_at_end : (o : Outcome) (end : ℕ) → code ≤ 0 → end ≡ end_of ws → length bs ≤ length st - end → o ≡ placed ws st i bs → o ≡ put_payload ws st i bs
-  unfolding put_payload
-  put_at_end o end h ee a eo = rw (← ec, le-ltb 0 code h, ← ee, le-leb (length bs) (length st - end) a) eo
-
-  pub put_packed : (o : Outcome) (end : ℕ) (ws1 st1 : List ℕ) → code ≤ 0 → end ≡ end_of ws → length st - end < length bs → outcome 0 ws1 st1 ≡ packed ws st (length bs) → o ≡ placed ws1 st1 i bs
+  pub put_packed : (o : Outcome) (end : ℕ) (ws1 st1 : List ℕ) → end ≡ end_of ws → length st - end < length bs → outcome 0 ws1 st1 ≡ packed ws st (length bs) → o ≡ placed ws1 st1 i bs
       → o ≡ put_payload ws st i bs
   unfolding put_payload
-  put_packed o end ws1 st1 h ee a em eo = rw (← ec, le-ltb 0 code h, ← ee, lt-leb (length bs) (length st - end) a, ← em) eo
+  put_packed o end ws1 st1 ee a em eo = rw (← ec, ← ee, lt-leb (length bs) (length st - end) a, ← em) eo
 
 -- what place_payload asks for, at the end and after moving together
-pub sub_end : (ws : List ℕ) (len n code end : ℕ) → code ≡ room_code ws len n → code ≤ 0 → end ≡ end_of ws → end ≤ len
-sub_end ws len n code end ec h ee = rw ee (put_room ws len n code ec h).1
+pub sub_end : (ws : List ℕ) (len n end : ℕ) → 0 ≡ room_code ws len n → end ≡ end_of ws → end ≤ len
+sub_end ws len n end ec ee = rw ee (put_room ws len n ec).1
 
-pub room_at_end : (ws : List ℕ) (len n i code end : ℕ) → i < 4096 → code ≡ room_code ws len n → code ≤ 0 → end ≡ end_of ws → n ≤ len - end
+pub room_at_end : (ws : List ℕ) (len n i end : ℕ) → i < 4096 → 0 ≡ room_code ws len n → end ≡ end_of ws → n ≤ len - end
     → (i < 4096) × (end_of ws + n ≤ len) × (used_of ws + n ≤ len)
-room_at_end ws len n i code end hi ec h ee a = (hi, omega (arith, (put_room ws len n code ec h).1, ee), (put_room ws len n code ec h).0)
+room_at_end ws len n i end hi ec ee a = (hi, omega (arith, (put_room ws len n ec).1, ee), (put_room ws len n ec).0)
 
 -- a start is found where there is room, and not at the end
 pub room_found : (ws : List ℕ) (len n : ℕ) → room_code ws len n ≡ 0 → len - end_of ws < n → (start_of ws len n).found ≡ true
@@ -210,14 +213,14 @@ room_found ws len n e a =
     let t4 : ◌≡◌ {A = ℕ} (pick (start_of ws len n).found 0 16) 0 = rw (lt-leb n (len - end_of ws) a) at t3.1 in
     pick_then (start_of ws len n).found 0 16 0 (λ z. omega arith) t4
 
-pub room_packed : (ws st bs ws1 st1 : List ℕ) (i code end : ℕ) → i < 4096 → length ws ≡ 83472 → code ≡ room_code ws (length st) (length bs) → code ≤ 0 → end ≡ end_of ws → length st - end < length bs
+pub room_packed : (ws st bs ws1 st1 : List ℕ) (i end : ℕ) → i < 4096 → length ws ≡ 83472 → 0 ≡ room_code ws (length st) (length bs) → end ≡ end_of ws → length st - end < length bs
     → outcome 0 ws1 st1 ≡ packed ws st (length bs) → (i < 4096) × (end_of ws1 + length bs ≤ length st1) × (used_of ws1 + length bs ≤ length st1)
 unfolding start_of
-room_packed ws st bs ws1 st1 i code end hi l ec h ee a em =
+room_packed ws st bs ws1 st1 i end hi l ec ee a em =
     let t = together_amounts ws st ws1 st1 (length bs) em l in
     let b = together_kept ws st ws1 st1 (length bs) em in
-    let r = put_room ws (length st) (length bs) code ec h in
-    let f = room_found ws (length st) (length bs) (omega arith) (rw ee at a) in
+    let r = put_room ws (length st) (length bs) ec in
+    let f = room_found ws (length st) (length bs) (sym ec) (rw ee at a) in
     let g = start_ends ws (goal_of (used_of ws) (length st) (length bs)) 4097 (newest ws) 4096 (end_of ws) 0 f in
     let w = goal_room (used_of ws) (length st) (length bs) r.0 in
     (hi, omega (arith, t.0, b.1, g, w), omega (arith, t.1, b.1, r.0))
@@ -240,18 +243,19 @@ pub part_long : (st : List ℕ) (place size : ℕ) → place + size ≤ length s
 part_long st place size h =
     ap length (part_of st place size) ∙ length-take-le size (drop place st) (simp length-drop (omega arith))
 
-pub read_held : (ws : List ℕ) (len i room at code place size : ℕ) → code ≡ read_code ws len i room at → code ≤ 0 → place ≡ place_of ws i → size ≡ size_of ws i
+pub read_held : (ws : List ℕ) (len i room at place size : ℕ) → 0 ≡ read_code ws len i room at → place ≡ place_of ws i → size ≡ size_of ws i
     → (place + size ≤ len) × (at + size ≤ room)
-read_held ws len i room at code place size ec h ep es = rw (ep, es) (read_ok ws len i room at (omega arith))
+read_held ws len i room at place size ec ep es = rw (ep, es) (read_ok ws len i room at (sym ec))
 
-module _ (ws st dst : List ℕ) (i at code : ℕ) (ec : code ≡ read_code ws (length st) i (length dst) at) where
-  pub read_refused : 0 < code → (code ≡ read_code ws (length st) i (length dst) at) × (dst ≡ read_payload ws st i dst at)
-  unfolding read_payload
-  read_refused h = (ec, rw (ne_eqb (read_code ws (length st) i (length dst) at) 0 (λ z. omega arith)))
+pub read_refused : (ws st dst : List ℕ) (i at : ℕ) → 16 ≡ read_code ws (length st) i (length dst) at
+    → (16 ≡ read_code ws (length st) i (length dst) at) × (dst ≡ read_payload ws st i dst at)
+unfolding read_payload
+read_refused ws st dst i at er = (er, rw (← er))
 
-  module _ (place size : ℕ) (h : code ≤ 0) (ep : place ≡ place_of ws i) (es : size ≡ size_of ws i) where
+module _ (ws st dst : List ℕ) (i at : ℕ) (ec : 0 ≡ read_code ws (length st) i (length dst) at) where
+  module _ (place size : ℕ) (ep : place ≡ place_of ws i) (es : size ≡ size_of ws i) where
     held : (place + size ≤ length st) × (at + size ≤ length dst)
-    held = read_held ws (length st) i (length dst) at code place size ec h ep es
+    held = read_held ws (length st) i (length dst) at place size ec ep es
 
     pub read_fits : at + length (take (place + size - place) (drop place st)) ≤ length dst
     read_fits = omega (arith, part_long st place size held.0, held.1)
@@ -261,9 +265,7 @@ module _ (ws st dst : List ℕ) (i at code : ℕ) (ec : code ≡ read_code ws (l
 
     pub read_done : (dst1 : List ℕ) → dst1 ≡ written dst at (take (place + size - place) (drop place st)) → (0 ≡ read_code ws (length st) i (length dst) at) × (dst1 ≡ read_payload ws st i dst at)
     unfolding read_payload payload_of
-    read_done dst1 e =
-        let z : read_code ws (length st) i (length dst) at ≡ 0 = omega arith in
-        (sym z, rw (eq-eqb (read_code ws (length st) i (length dst) at) 0 z, ← es, ← ep) (e ∙ ap (λ (bs : List ℕ). written dst at bs) (part_of st place size)))
+    read_done dst1 e = (ec, rw (← ec, ← es, ← ep) (e ∙ ap (λ (bs : List ℕ). written dst at bs) (part_of st place size)))
 
 -- ------------------------------------------------------------------ same_code
 
@@ -288,15 +290,15 @@ pub drop_ok : (ws : List ℕ) (i : ℕ) → drop_code_words ws i ≡ 0 → size_
 unfolding drop_code_words
 drop_ok ws i e = ltb-false (used_of ws) (size_of ws i) (pick_else (ltb (used_of ws) (size_of ws i)) 16 0 0 (λ z. omega arith) e).0
 
-module _ (ws : List ℕ) (i code : ℕ) (ec : code ≡ drop_code_words ws i) where
-  pub drop_refused : 0 < code → (code ≡ drop_code_words ws i) × (ws ≡ drop_payload ws i)
-  unfolding drop_payload
-  drop_refused h = (ec, rw (← ec, lt-ltb 0 code h))
+pub drop_refused : (ws : List ℕ) (i : ℕ) → 16 ≡ drop_code_words ws i → (16 ≡ drop_code_words ws i) × (ws ≡ drop_payload ws i)
+unfolding drop_payload
+drop_refused ws i er = (er, rw (← er))
 
-  pub drop_held : (size used : ℕ) → code ≤ 0 → size ≡ size_of ws i → used ≡ used_of ws → size ≤ used
-  drop_held size used h es eu = rw (es, eu) (drop_ok ws i (omega arith))
+module _ (ws : List ℕ) (i : ℕ) (ec : 0 ≡ drop_code_words ws i) where
+  pub drop_held : (size used : ℕ) → size ≡ size_of ws i → used ≡ used_of ws → size ≤ used
+  drop_held size used es eu = rw (es, eu) (drop_ok ws i (sym ec))
 
-  pub drop_done : (size used end : ℕ) (ws1 ws2 : List ℕ) → code ≤ 0 → size ≡ size_of ws i → used ≡ used_of ws → end ≡ held_end ws → ws1 ≡ put_word Header ws 0 5 (used - size)
+  pub drop_done : (size used end : ℕ) (ws1 ws2 : List ℕ) → size ≡ size_of ws i → used ≡ used_of ws → end ≡ held_end ws → ws1 ≡ put_word Header ws 0 5 (used - size)
       → ws2 ≡ put_word Header ws1 0 6 end → (0 ≡ drop_code_words ws i) × (ws2 ≡ drop_payload ws i)
   unfolding drop_payload released
-  drop_done size used end ws1 ws2 h es eu ee e1 e2 = (omega arith, rw (← ec, le-ltb 0 code h, ← es, ← eu, ← ee, ← e1) e2)
+  drop_done size used end ws1 ws2 es eu ee e1 e2 = (ec, rw (← ec, ← es, ← eu, ← ee, ← e1) e2)

@@ -6,6 +6,7 @@ use native.Mathlib.Omega.{arith}
 use borrow.Author.Tests.{lt-ltb, le-ltb, le-leb, lt-leb, eq-eqb}
 use lib.ListN.{length, get_or, drop, length-drop}
 use lib.Seq.{length-take-le}
+use Rattle.types.specs.declared.refusal.Refusal.TheVariants.{ReceiverFull}
 use Rattle.queue_words.specs.Flags.{pick}
 use Rattle.payload_store.specs.Putting.{Outcome, outcome, written}
 use Rattle.payload_store.proofs.Puts.{written_length, written_below, written_part}
@@ -177,15 +178,15 @@ module _ (ws st held : List ℕ) (l : Laid ws st held) (aged : Aged ws held) (on
       (λ a. let q = packed_law ws st held l aged once short (length bs) fits in
       let m = packed ws st (length bs) in
       subst (λ (o : Outcome). Put ws st held i bs o)
-      (put_packed ws st bs i 0 (sym code) (placed m.words m.store i bs) (end_of ws) m.words m.store (omega arith) refl a (ap (λ (k : ℕ). outcome k m.words m.store) (sym q.accepted)) refl)
+      (put_packed ws st bs i (sym code) (placed m.words m.store i bs) (end_of ws) m.words m.store refl a (ap (λ (k : ℕ). outcome k m.words m.store) (sym q.accepted)) refl)
       (after_packing ws st held i bs m (placed m.words m.store i bs) q
       (placed_law m.words m.store held i bs q.laid rows hi new (omega (arith, q.roomy, q.same))) rows))
-      (λ a. subst (λ (o : Outcome). Put ws st held i bs o) (put_at_end ws st bs i 0 (sym code) (placed ws st i bs) (end_of ws) (omega arith) refl a refl)
+      (λ a. subst (λ (o : Outcome). Put ws st held i bs o) (put_at_end ws st bs i (sym code) (placed ws st i bs) (end_of ws) refl a refl)
       (placed_law ws st held i bs l rows hi new (omega (arith, a, l.end_in))))
 
   -- and one for which the free bytes do not suffice is refused, and changes nothing
   pub put_full : (i : ℕ) (bs : List ℕ) → length st < used_of ws + length bs → put_payload ws st i bs ≡ outcome 23 ws st
-  put_full i bs full = sym (put_refused ws st bs i 23 (sym (room_full (length bs) full)) (omega arith))
+  put_full i bs full = sym (put_refused ws st bs i ReceiverFull (sym (room_full (length bs) full)))
 
 -- ------------------------------------------------------------------ reading and comparing
 

@@ -1,5 +1,6 @@
 // Moving the payloads together, towards 0: as many of the newest rows as it takes, along the age chain.
 ghost use Rattle.std.specs.Prelude.{◌≡◌, ◌+◌, ◌<◌, ◌≤◌, length};
+ghost use Rattle.types.specs.Refusal.{broken_number};
 ghost use Rattle.payload_store.specs.Moving.{pack};
 ghost use Rattle.payload_store.specs.Putting.{outcome};
 ghost use Rattle.receiver_store.specs.Words.{used_of};
@@ -12,6 +13,7 @@ use receiver_words::cells::{
     END, LENGTH, NEWER, NEWEST, NO_ROW, OLDER, PLACE, USED, load_header, load_link, store_header,
     store_link,
 };
+use types::refusal::Broken;
 
 // One more than the rows of the table: a chain that has not ended then goes in a circle.
 const TURNS: usize = 4097;
@@ -96,16 +98,16 @@ fn start_of(receiver: &[u64; RECEIVER_WORDS], len: u64, n: u64) -> Start
     find_start(receiver, goal, newest, end)
 }
 
-// May the payloads be moved together for one of n bytes in a store of len bytes: 0, else 16. Reads only.
-pub fn pack_code(receiver: &[u64; RECEIVER_WORDS], len: u64, n: u64) -> u8
+// May the payloads be moved together for one of n bytes in a store of len bytes. Reads only.
+pub fn pack_code(receiver: &[u64; RECEIVER_WORDS], len: u64, n: u64) -> Result<(), Broken>
     requires { used_of receiver.now + n ≤ len }
-    ensures { result ≡ pack_code receiver.now len n }
+    ensures { broken_number result ≡ pack_code receiver.now len n }
 {
     let s = start_of(receiver, len, n);
     if s.found {
-        return 0;
+        return Ok(());
     }
-    16
+    Err(Broken)
 }
 
 // Row i's payload goes down to the cursor. Answers where it ends then.
