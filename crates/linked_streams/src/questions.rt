@@ -1,27 +1,28 @@
 // The questions: "the calls that only ask".
 ghost use Rattle.queue_model.specs.Questions.{free_store, waiting_messages, known_streams};
+ghost use Rattle.queue_streams.specs.Answers.{as_flag, as_number};
 ghost use Rattle.linked_streams.specs.Questions.{PriorityMeets, AmountMeets, ThresholdMeets, TotalMeets, EmptyMeets, DataMeets, ReadyMeets, ReadinessMeets, RoomMeets};
 
-use queue_streams::{Flag, Number};
 use queue_words::QUEUE_WORDS;
+use types::Refusal;
 
 // "A call of its own answers the priority last set or restored, the default where there is none, and changes nothing."
-pub fn get_priority(queue: &[u64; QUEUE_WORDS], id: u16) -> Number
-    ensures { PriorityMeets queue.now id result }
+pub fn get_priority(queue: &[u64; QUEUE_WORDS], id: u16) -> Result<u64, Refusal>
+    ensures { PriorityMeets queue.now id (as_number result) }
 {
     queue_questions::get_priority(queue, id)
 }
 
 // A stream's amount.
-pub fn buffered_amount(queue: &[u64; QUEUE_WORDS], id: u16) -> Number
-    ensures { AmountMeets queue.now id result }
+pub fn buffered_amount(queue: &[u64; QUEUE_WORDS], id: u16) -> Result<u64, Refusal>
+    ensures { AmountMeets queue.now id (as_number result) }
 {
     queue_questions::buffered_amount(queue, id)
 }
 
 // A stream's threshold.
-pub fn buffered_amount_low_threshold(queue: &[u64; QUEUE_WORDS], id: u16) -> Number
-    ensures { ThresholdMeets queue.now id result }
+pub fn buffered_amount_low_threshold(queue: &[u64; QUEUE_WORDS], id: u16) -> Result<u64, Refusal>
+    ensures { ThresholdMeets queue.now id (as_number result) }
 {
     queue_questions::buffered_amount_low_threshold(queue, id)
 }
@@ -40,15 +41,15 @@ pub fn is_empty(queue: &[u64; QUEUE_WORDS]) -> bool
 }
 
 // Whether a stream waits.
-pub fn has_data_to_send(queue: &[u64; QUEUE_WORDS]) -> Flag
-    ensures { DataMeets queue.now result }
+pub fn has_data_to_send(queue: &[u64; QUEUE_WORDS]) -> Result<bool, Refusal>
+    ensures { DataMeets queue.now (as_flag result) }
 {
     queue_questions::has_data_to_send(queue)
 }
 
 // Whether a stream is paused.
-pub fn has_streams_ready_to_be_reset(queue: &[u64; QUEUE_WORDS]) -> Flag
-    ensures { ReadyMeets queue.now result }
+pub fn has_streams_ready_to_be_reset(queue: &[u64; QUEUE_WORDS]) -> Result<bool, Refusal>
+    ensures { ReadyMeets queue.now (as_flag result) }
 {
     queue_questions::has_streams_ready_to_be_reset(queue)
 }
