@@ -7,6 +7,9 @@ use native.Mathlib.Omega.{arith}
 use borrow.Author.Tests.{lt-ltb, le-ltb, ltb-true, ltb-false}
 use lib.Dec.{ltb}
 use lib.ListN.{length}
+use Rattle.std.specs.Prelude.{Result, Ok, Err}
+use Rattle.std.specs.Result.{is_err}
+use Rattle.types.specs.declared.refusal.Refusal.{Refusal}
 use Rattle.queue_words.specs.Flags.{pick}
 use Rattle.queue_words.specs.Active.{active_at}
 use Rattle.queue_words.specs.Header.{totals_at}
@@ -21,6 +24,7 @@ use Rattle.queue_streams.specs.Settings.{called_with}
 use Rattle.queue_streams.specs.Call.{Call}
 use Rattle.queue_streams.specs.Call as call
 use Rattle.undo_log.specs.Log.{header, undone}
+use Rattle.queue_sending.specs.Answers.{as_next}
 use Rattle.queue_sending.specs.Choice.{look_ahead}
 use Rattle.queue_sending.specs.Data.{ProducedWith, produced_with, refused_with}
 use Rattle.queue_sending.specs.Fragment.{least_of, send_code, sent, chosen_code, handed_out_words}
@@ -33,6 +37,8 @@ use Rattle.queue_sending.specs.declared.data.DataToSend.{DataToSend}
 use Rattle.queue_sending.specs.Produced as produced
 use Rattle.queue_sending.specs.NextStep.{Next}
 use Rattle.queue_sending.specs.NextStep as next
+use Rattle.queue_sending.specs.declared.next.Next as step
+use Rattle.queue_sending.specs.declared.next.Next.TheVariants as step_is
 use Rattle.queue_sending.proofs.Ahead.{chosen_row}
 use Rattle.queue_sending.proofs.Passes.{true_false, expired_found, both_parts, past_refused, past_kept, logged_refused, logged_kept, found_past}
 
@@ -142,6 +148,12 @@ passed_leads ws st es bs time size d n e = subst (λ (x : Next). Leads x ws st e
     by (call.Refused code) = refuses code ws st es bs size
 
 -- ------------------------------------------------------------------ kept or put back
+
+-- An answer that is a refusal is one in the numbers.
+pub err_refused : (n : Result step.Next Refusal) (q : Bool) → q ≡ is_err n → q ≡ refused_next (as_next n)
+err_refused (Ok (step_is.Nothing k)) q e = e
+err_refused (Ok (step_is.Chosen k at id row)) q e = e
+err_refused (Err r) q e = e
 
 -- What is next says also whether what doing it leaves is a refusal.
 says : (n : Next) (ws st es bs : List ℕ) (size : ℕ) (p : ProducedWith) → Leads n ws st es bs size p → refused_next n ≡ refusal (sent_next ws st es bs size n).answer

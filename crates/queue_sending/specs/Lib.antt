@@ -11,3 +11,4 @@ pub mod Produce
 pub mod Next
 pub mod Passing
 pub mod Own
+pub mod Answers

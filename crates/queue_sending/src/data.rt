@@ -28,12 +28,11 @@ pub struct DataToSend {
     pub lifecycle_id: u64,
 }
 
-// The answer of the next fragment: nothing waits, or a fragment, each with so many events written; or refused.
+// The next fragment: nothing waits, or a fragment, each with so many events written.
 #[derive(Clone, Copy)]
 pub enum Produced {
     Nothing(usize),
     Fragment(usize, DataToSend),
-    Refused(u8),
 }
 
 // "Only the last fragment shows the lifecycle id."

@@ -1,7 +1,9 @@
 // Handing out a fragment of a stream's head.
 ghost use Rattle.std.specs.Prelude.{◌≡◌, ◌<◌, length};
+ghost use Rattle.types.specs.Refusal.{broken_number};
 ghost use Rattle.payload_store.specs.Dropping.{drop_code_words};
 ghost use Rattle.stream_scheduler.specs.Own.{HasRow};
+ghost use Rattle.queue_sending.specs.Answers.{as_produced};
 ghost use Rattle.queue_sending.specs.Data.{produced_with};
 ghost use Rattle.queue_sending.specs.Produced.{Fragment};
 ghost use Rattle.queue_sending.specs.Fragment.{least_of, send_code, next_first, finished, went_on_words, went_further, written_sent, sent, chosen_code, handed_out_words};
@@ -23,6 +25,8 @@ use queue_words::limits::{LAST_MESSAGE, LAST_STREAM_ROW, NO_MESSAGE};
 use queue_words::streams::{OutgoingStream, PauseState, load_stream, store_stream};
 use stream_scheduler::anew::accept_last_own;
 use stream_scheduler::own::accept_own;
+use types::Refusal;
+use types::refusal::Broken;
 
 // The most events before a fragment, which adds two at most.
 const MOST_BEFORE_FRAGMENT: usize = EVENT_PLACES - 2;
@@ -36,7 +40,7 @@ fn least(a: u64, b: u64) -> u64
     b
 }
 
-// May n bytes of the head m of the stream s be handed out: 0, else 16. Reads only.
+// May n bytes of the head m of the stream s be handed out. Reads only.
 fn send_code(
     queue: &[u64; QUEUE_WORDS],
     len: u64,
@@ -44,17 +48,14 @@ fn send_code(
     m: Item,
     n: u64,
     room: u64,
-) -> u8
-    ensures { result ≡ send_code queue.now len s m n room }
+) -> Result<(), Broken>
+    ensures { broken_number result ≡ send_code queue.now len s m n room }
 {
     let left = remaining(m);
     if n > left {
-        return 16;
+        return Err(Broken);
     }
-    let read = read_code(queue, len, s.first as usize, m.offset, n, room);
-    if read > 0 {
-        return 16;
-    }
+    read_code(queue, len, s.first as usize, m.offset, n, room)?;
     head_code(queue, s, s.first as usize, m.next, n)
 }
 
@@ -198,7 +199,7 @@ fn send(
     }
 }
 
-// May at most `size` bytes of the chosen head be handed out after k events: 0, else 16. Reads only.
+// May at most `size` bytes of the chosen head be handed out after k events. Reads only.
 pub fn chosen_code(
     queue: &[u64; QUEUE_WORDS],
     len: u64,
@@ -207,21 +208,21 @@ pub fn chosen_code(
     k: usize,
     at: usize,
     row: usize,
-) -> u8
-    ensures { result ≡ chosen_code queue.now len room size k at row }
+) -> Result<(), Broken>
+    ensures { broken_number result ≡ chosen_code queue.now len room size k at row }
 {
     if k > MOST_BEFORE_FRAGMENT {
-        return 16;
+        return Err(Broken);
     }
     if at > LAST_STREAM_ROW {
-        return 16;
+        return Err(Broken);
     }
     if row > LAST_STREAM_ROW {
-        return 16;
+        return Err(Broken);
     }
     let s = load_stream(queue, row);
     if s.first > LAST_MESSAGE {
-        return 16;
+        return Err(Broken);
     }
     let m = load_item(queue, s.first as usize);
     let a = load_active(queue, at);
@@ -264,11 +265,11 @@ pub fn hand_out(
     at: usize,
     id: u16,
     row: usize,
-) -> Produced
+) -> Result<Produced, Refusal>
     requires { HasRow queue.old at }
-    ensures { produced_with result queue.new events.new buffer.new ≡ handed_out_words queue.old store.now events.old buffer.old size k at id row }
+    ensures { produced_with (as_produced result) queue.new events.new buffer.new ≡ handed_out_words queue.old store.now events.old buffer.old size k at id row }
 {
-    let code = chosen_code(
+    chosen_code(
         &*queue,
         store.len() as u64,
         buffer.len() as u64,
@@ -276,11 +277,8 @@ pub fn hand_out(
         k,
         at,
         row,
-    );
-    if code > 0 {
-        return Produced::Refused(code);
-    }
+    )?;
     let h = hand_own(queue, store, events, buffer, size, k, at, id, row);
     let d = h.fragment;
-    Produced::Fragment(h.count, d)
+    Ok(Produced::Fragment(h.count, d))
 }

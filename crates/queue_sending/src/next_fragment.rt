@@ -1,13 +1,16 @@
 // The next fragment (Rust: produce, get_stream_to_produce_from).
 ghost use Rattle.std.specs.Prelude.{◌≡◌, ℕ, ◌≤◌, length};
+ghost use Rattle.types.specs.Refusal.{check_number};
 ghost use Rattle.queue_streams.specs.Events.{event_words};
+ghost use Rattle.queue_sending.specs.Answers.{as_next, as_produced};
 ghost use Rattle.queue_sending.specs.Choice.{look_ahead};
 ghost use Rattle.queue_sending.specs.Data.{produced_with};
 ghost use Rattle.queue_sending.specs.Next.{sent_next, FromRow, Leads};
+ghost use Rattle.queue_sending.specs.Own.{look_of};
 ghost use Rattle.queue_sending.specs.Produce.{lent_code, produce_code, produced_past, after_look, produced_after, produce_next};
 ghost use Rattle.queue_sending.specs.Look.{Expired};
 
-use crate::choice::{Look, look_ahead};
+use crate::choice::{Ahead, look_ahead};
 use crate::data::Produced;
 use crate::fragment::hand_out;
 use crate::next::Next;
@@ -16,30 +19,31 @@ use queue_streams::events::{EVENT_PLACES, EVENT_WORDS};
 use queue_words::QUEUE_WORDS;
 use queue_words::header::{load_options, load_totals};
 use queue_words::limits::{MAX_PAYLOAD, MAX_TIME, MESSAGES};
+use types::Refusal;
 
-// The refusals that what is lent and asked for decides: 3, 4, 9, 10, or 0.
-pub fn lent_code(places: u64, room: u64, time: u64, size: u64) -> u8
-    ensures { result ≡ lent_code places room time size }
+// The refusals that what is lent and asked for decides: 3, 4, 9, 10.
+pub fn lent_code(places: u64, room: u64, time: u64, size: u64) -> Result<(), Refusal>
+    ensures { check_number result ≡ lent_code places room time size }
 {
     if places < EVENT_WORDS as u64 {
-        return 3;
+        return Err(Refusal::EventListShort);
     }
     if time > MAX_TIME {
-        return 4;
+        return Err(Refusal::TimeLate);
     }
     if size == 0 {
-        return 9;
+        return Err(Refusal::SizeWrong);
     }
     if size > MAX_PAYLOAD {
-        return 9;
+        return Err(Refusal::SizeWrong);
     }
     if room < size {
-        return 10;
+        return Err(Refusal::BufferShort);
     }
-    0
+    Ok(())
 }
 
-// The refusals that the arguments decide: 2, 3, 4, 9, 10, or 0.
+// The refusals that the arguments decide: 2, 3, 4, 9, 10.
 fn produce_code(
     queue: &[u64; QUEUE_WORDS],
     len: u64,
@@ -47,12 +51,12 @@ fn produce_code(
     room: u64,
     time: u64,
     size: u64,
-) -> u8
-    ensures { result ≡ produce_code queue.now len places room time size }
+) -> Result<(), Refusal>
+    ensures { check_number result ≡ produce_code queue.now len places room time size }
 {
     let o = load_options(queue);
     if o.store_length != len {
-        return 2;
+        return Err(Refusal::StoreWrong);
     }
     lent_code(places, room, time, size)
 }
@@ -68,13 +72,13 @@ fn pass_waiting(
     k: usize,
     id: u16,
     row: usize,
-) -> Next
+) -> Result<Next, Refusal>
     requires { (event_words ≤ length events.old) × (Expired id row ≡ look_ahead queue.old time) }
-    ensures { Leads result queue.new store.now events.new buffer.now size (produced_past queue.old store.now events.old buffer.now time size k) }
+    ensures { Leads (as_next result) queue.new store.now events.new buffer.now size (produced_past queue.old store.now events.old buffer.now time size k) }
 {
     let t = load_totals(&*queue);
     if t.waiting > MESSAGES {
-        return Next::Refused(16);
+        return Err(Refusal::WordsBroken);
     }
     pass_from(
         queue,
@@ -99,23 +103,22 @@ fn next_looked(
     time: u64,
     size: u64,
     k: usize,
-    found: Look,
-) -> Next
-    requires { (event_words ≤ length events.old) × (found ≡ look_ahead queue.old time) }
-    ensures { (sent_next queue.new store.now events.new buffer.now size result ≡ after_look (λ (id row : ℕ). produced_past queue.old store.now events.old buffer.now time size k) queue.old store.now events.old buffer.now size k found) × FromRow queue.new result }
+    found: Ahead,
+) -> Result<Next, Refusal>
+    requires { (event_words ≤ length events.old) × (look_of found ≡ look_ahead queue.old time) }
+    ensures { (sent_next queue.new store.now events.new buffer.now size (as_next result) ≡ after_look (λ (id row : ℕ). produced_past queue.old store.now events.old buffer.now time size k) queue.old store.now events.old buffer.now size k (look_of found)) × FromRow queue.new (as_next result) }
 {
     match found {
-        Look::Expired(id, row) => pass_waiting(
+        Ahead::Expired(id, row) => pass_waiting(
             queue, store, events, buffer, time, size, k, id, row,
         ),
-        Look::Nothing => {
+        Ahead::Nothing => {
             if k > EVENT_PLACES {
-                return Next::Refused(16);
+                return Err(Refusal::WordsBroken);
             }
-            Next::Nothing(k)
+            Ok(Next::Nothing(k))
         }
-        Look::Broken => Next::Refused(16),
-        Look::Chosen(at, id, row) => Next::Chosen(k, at, id, row),
+        Ahead::Chosen(at, id, row) => Ok(Next::Chosen(k, at, id, row)),
     }
 }
 
@@ -129,15 +132,14 @@ pub fn produce_after(
     time: u64,
     size: u64,
     k: usize,
-) -> Produced
+) -> Result<Produced, Refusal>
     requires { event_words ≤ length events.old }
-    ensures { produced_with result queue.new events.new buffer.new ≡ produced_after queue.old store.now events.old buffer.old time size k }
+    ensures { produced_with (as_produced result) queue.new events.new buffer.new ≡ produced_after queue.old store.now events.old buffer.old time size k }
 {
-    let found = look_ahead(&*queue, time);
-    let next = next_looked(queue, store, events, &*buffer, time, size, k, found);
+    let found = look_ahead(&*queue, time)?;
+    let next = next_looked(queue, store, events, &*buffer, time, size, k, found)?;
     match next {
-        Next::Refused(n) => Produced::Refused(n),
-        Next::Nothing(j) => Produced::Nothing(j),
+        Next::Nothing(j) => Ok(Produced::Nothing(j)),
         Next::Chosen(j, at, id, row) => hand_out(
             queue, store, events, buffer, size, j, at, id, row,
         ),
@@ -152,19 +154,16 @@ pub fn produce(
     buffer: &mut [u8],
     time: u64,
     size: u64,
-) -> Produced
-    ensures { produced_with result queue.new events.new buffer.new ≡ produce_next queue.old store.now events.old buffer.old time size }
+) -> Result<Produced, Refusal>
+    ensures { produced_with (as_produced result) queue.new events.new buffer.new ≡ produce_next queue.old store.now events.old buffer.old time size }
 {
-    let code = produce_code(
+    produce_code(
         &*queue,
         store.len() as u64,
         events.len() as u64,
         buffer.len() as u64,
         time,
         size,
-    );
-    if code > 0 {
-        return Produced::Refused(code);
-    }
+    )?;
     produce_after(queue, store, events, buffer, time, size, 0)
 }

@@ -4,22 +4,13 @@ ghost use Rattle.queue_words.specs.Streams.{stream_at_words};
 ghost use Rattle.queue_sending.specs.Choice.{look_at_words, look_for_words, look_ahead};
 ghost use Rattle.queue_sending.specs.Own.{look_of, Unbroken};
 
-use crate::choice::expired;
+use crate::choice::{Ahead, expired};
 use queue_words::QUEUE_WORDS;
 use queue_words::active::load_active;
 use queue_words::items::load_item;
 use queue_words::known::row_known;
 use queue_words::streams::load_stream;
 use stream_scheduler::own::{Front, peek_own};
-
-// What a look finds: nothing waits; an expired head, by its stream's id and row; a head to send, by the scheduler's row, its stream's id
-// and row.
-#[derive(Clone, Copy)]
-pub enum Ahead {
-    Nothing,
-    Expired(u16, usize),
-    Chosen(usize, u16, usize),
-}
 
 fn look_own_at(queue: &[u64; QUEUE_WORDS], time: u64, at: usize, id: u16, row: usize) -> Ahead
     requires { (row < 256) × ((stream_at_words queue.now row).first < 1024) }

@@ -1,18 +1,21 @@
 // Passing over expired heads: by a loop that keeps in a log what each drop changes, as long as the log has room; and by one that keeps
 // nothing.
 ghost use Rattle.std.specs.Prelude.{◌≡◌, ◌*◌, ◌≤◌, length};
+ghost use Rattle.queue_streams.specs.Answers.{as_call};
 ghost use Rattle.queue_streams.specs.Settings.{called_with};
+ghost use Rattle.queue_sending.specs.Answers.{as_look};
 ghost use Rattle.queue_sending.specs.Choice.{look_ahead};
 ghost use Rattle.queue_sending.specs.Passing.{Kept};
 ghost use Rattle.queue_sending.specs.Produce.{expired_dropped, passed};
 ghost use Rattle.queue_sending.specs.Look.{Expired};
 
-use crate::choice::{Look, look_ahead};
+use crate::choice::{Ahead, look_ahead};
 use message_chains::dropping::drop_first;
-use queue_streams::answers::Call;
 use queue_words::limits::{LAST_MESSAGE, LAST_STREAM_ROW};
 use queue_words::streams::load_stream;
 use queue_words::{QUEUE_WORDS, whole};
+use types::Refusal;
+use types::refusal::Broken;
 use undo_log::keep_drop;
 
 // "An expired head of the chosen stream is dropped, half-sent or not": the events so far, or 16.
@@ -22,15 +25,15 @@ fn drop_expired(
     k: usize,
     id: u16,
     row: usize,
-) -> Call
-    ensures { called_with result queue.new events.new ≡ expired_dropped queue.old events.old k id row }
+) -> Result<usize, Refusal>
+    ensures { called_with (as_call result) queue.new events.new ≡ expired_dropped queue.old events.old k id row }
 {
     if row > LAST_STREAM_ROW {
-        return Call::Refused(16);
+        return Err(Refusal::WordsBroken);
     }
     let s = load_stream(&*queue, row);
     if s.first > LAST_MESSAGE {
-        return Call::Refused(16);
+        return Err(Refusal::WordsBroken);
     }
     drop_first(queue, events, k, id, row)
 }
@@ -43,37 +46,22 @@ pub fn pass_over(
     time: u64,
     waiting: usize,
     k: usize,
-) -> Call
-    ensures { called_with result queue.new events.new ≡ passed waiting queue.old events.old time k }
+) -> Result<usize, Refusal>
+    ensures { called_with (as_call result) queue.new events.new ≡ passed waiting queue.old events.old time k }
 {
     let mut left = waiting;
     let mut count = k;
     loop {
-        let found = look_ahead(&*queue, time);
+        let found = look_ahead(&*queue, time)?;
         match found {
-            Look::Nothing => {
-                return Call::Accepted(count);
-            }
-            Look::Broken => {
-                return Call::Refused(16);
-            }
-            Look::Chosen(_, _, _) => {
-                return Call::Accepted(count);
-            }
-            Look::Expired(id, row) => {
+            Ahead::Nothing => return Ok(count),
+            Ahead::Chosen(_, _, _) => return Ok(count),
+            Ahead::Expired(id, row) => {
                 if left == 0 {
-                    return Call::Refused(16);
+                    return Err(Refusal::WordsBroken);
                 }
-                let dropped = drop_expired(queue, events, count, id, row);
-                match dropped {
-                    Call::Accepted(k1) => {
-                        count = k1;
-                        left -= 1;
-                    }
-                    Call::Refused(code) => {
-                        return Call::Refused(code);
-                    }
-                }
+                count = drop_expired(queue, events, count, id, row)?;
+                left -= 1;
             }
         }
     }
@@ -83,7 +71,7 @@ pub fn pass_over(
 // drops are in the log.
 #[derive(Clone, Copy)]
 pub struct Passing {
-    pub found: Look,
+    pub found: Result<Ahead, Broken>,
     pub left: usize,
     pub count: usize,
     pub drops: usize,
@@ -104,7 +92,7 @@ pub fn pass_some(
     place: usize,
 ) -> Passing
     requires { (room * 20 ≤ length log.old) × (Expired first place ≡ look_ahead queue.old time) }
-    ensures { (result.found ≡ look_ahead queue.new time) × Kept room queue.old events.old time waiting k log.new queue.new events.new result.left result.count result.drops }
+    ensures { (as_look result.found ≡ look_ahead queue.new time) × Kept room queue.old events.old time waiting k log.new queue.new events.new result.left result.count result.drops }
 {
     let mut left = waiting;
     let mut count = k;
@@ -114,7 +102,7 @@ pub fn pass_some(
     loop {
         if drops >= room {
             return Passing {
-                found: Look::Expired(id, row),
+                found: Ok(Ahead::Expired(id, row)),
                 left,
                 count,
                 drops,
@@ -122,7 +110,7 @@ pub fn pass_some(
         }
         if left == 0 {
             return Passing {
-                found: Look::Expired(id, row),
+                found: Ok(Ahead::Expired(id, row)),
                 left,
                 count,
                 drops,
@@ -131,51 +119,27 @@ pub fn pass_some(
         whole(&*queue);
         keep_drop(log, drops, &*queue, id, row);
         let dropped = drop_expired(queue, events, count, id, row);
-        match dropped {
-            Call::Accepted(k1) => {
-                count = k1;
-                left -= 1;
-                drops += 1;
-                let found = look_ahead(&*queue, time);
-                match found {
-                    Look::Expired(i, r) => {
-                        id = i;
-                        row = r;
-                    }
-                    Look::Nothing => {
-                        return Passing {
-                            found,
-                            left,
-                            count,
-                            drops,
-                        };
-                    }
-                    Look::Broken => {
-                        return Passing {
-                            found,
-                            left,
-                            count,
-                            drops,
-                        };
-                    }
-                    Look::Chosen(_, _, _) => {
-                        return Passing {
-                            found,
-                            left,
-                            count,
-                            drops,
-                        };
-                    }
-                }
-            }
-            Call::Refused(_) => {
-                return Passing {
-                    found: Look::Expired(id, row),
-                    left,
-                    count,
-                    drops,
-                };
-            }
-        }
+        let Ok(k1) = dropped else {
+            return Passing {
+                found: Ok(Ahead::Expired(id, row)),
+                left,
+                count,
+                drops,
+            };
+        };
+        count = k1;
+        left -= 1;
+        drops += 1;
+        let found = look_ahead(&*queue, time);
+        let Ok(Ahead::Expired(i, r)) = found else {
+            return Passing {
+                found,
+                left,
+                count,
+                drops,
+            };
+        };
+        id = i;
+        row = r;
     }
 }

@@ -2,16 +2,19 @@
 ghost use Rattle.std.specs.Prelude.{◌≡◌, ◌*◌, ◌≤◌, length};
 ghost use Rattle.queue_streams.specs.Events.{event_words};
 ghost use Rattle.undo_log.specs.Log.{undone};
+ghost use Rattle.queue_sending.specs.Answers.{as_look, as_next};
 ghost use Rattle.queue_sending.specs.Choice.{look_ahead};
 ghost use Rattle.queue_sending.specs.Next.{next_found, Leads};
+ghost use Rattle.queue_sending.specs.Own.{look_of};
 ghost use Rattle.queue_sending.specs.Produce.{copied, past_from};
 ghost use Rattle.queue_sending.specs.Look.{Expired};
 
-use crate::choice::Look;
-use crate::next::{Next, handed_on, is_refused, next_found, next_passed};
+use crate::choice::Ahead;
+use crate::next::{Next, handed_on, next_found, next_passed};
 use crate::passing::{Passing, pass_over, pass_some};
 use queue_streams::events::{EVENT_WORDS, PLACE_WORDS};
 use queue_words::QUEUE_WORDS;
+use types::Refusal;
 use undo_log::{ENTRY, HEADER, undo};
 
 // The events that one drop writes at most, and their words.
@@ -56,9 +59,9 @@ fn pass_copied(
     size: u64,
     waiting: usize,
     k: usize,
-) -> Next
+) -> Result<Next, Refusal>
     requires { event_words ≤ length events.old }
-    ensures { Leads result queue.new store.now events.new buffer.now size (past_from queue.old store.now events.old buffer.now time size waiting k) }
+    ensures { Leads (as_next result) queue.new store.now events.new buffer.now size (past_from queue.old store.now events.old buffer.now time size waiting k) }
 {
     let words = *queue;
     let mut saved = [0u64; EVENT_WORDS];
@@ -72,7 +75,7 @@ fn pass_copied(
         size,
         passed,
     );
-    let refused = is_refused(n);
+    let refused = n.is_err();
     if refused {
         *queue = words;
         copy_words(events, &saved, EVENT_WORDS);
@@ -99,16 +102,22 @@ fn put_back(
 }
 
 // What follows where passing over has come to an end.
-fn next_here(queue: &[u64; QUEUE_WORDS], store: &[u8], buffer: &[u8], size: u64, p: Passing) -> Next
-    ensures { result ≡ next_found queue.now (length store.now) (length buffer.now) size p.count p.found }
+fn next_here(
+    queue: &[u64; QUEUE_WORDS],
+    store: &[u8],
+    buffer: &[u8],
+    size: u64,
+    k: usize,
+    found: Ahead,
+) -> Result<Next, Refusal>
+    ensures { as_next result ≡ next_found queue.now (length store.now) (length buffer.now) size k (look_of found) }
 {
-    let found = p.found;
     next_found(
         queue,
         store.len() as u64,
         buffer.len() as u64,
         size,
-        p.count,
+        k,
         found,
     )
 }
@@ -122,19 +131,18 @@ fn next_many(
     time: u64,
     size: u64,
     p: Passing,
-) -> Next
-    requires { (event_words ≤ length events.old) × (p.found ≡ look_ahead queue.old time) }
-    ensures { Leads result queue.new store.now events.new buffer.now size (past_from queue.old store.now events.old buffer.now time size p.left p.count) }
+) -> Result<Next, Refusal>
+    requires { (event_words ≤ length events.old) × (as_look p.found ≡ look_ahead queue.old time) }
+    ensures { Leads (as_next result) queue.new store.now events.new buffer.now size (past_from queue.old store.now events.old buffer.now time size p.left p.count) }
 {
-    let found = p.found;
+    let found = p.found?;
     match found {
-        Look::Expired(_, _) => {
+        Ahead::Expired(_, _) => {
             let n = pass_copied(queue, store, events, buffer, time, size, p.left, p.count);
             handed_on(n)
         }
-        Look::Nothing => next_here(&*queue, store, buffer, size, p),
-        Look::Broken => next_here(&*queue, store, buffer, size, p),
-        Look::Chosen(_, _, _) => next_here(&*queue, store, buffer, size, p),
+        Ahead::Nothing => next_here(&*queue, store, buffer, size, p.count, found),
+        Ahead::Chosen(_, _, _) => next_here(&*queue, store, buffer, size, p.count, found),
     }
 }
 
@@ -150,9 +158,9 @@ fn pass_many(
     k: usize,
     id: u16,
     row: usize,
-) -> Next
+) -> Result<Next, Refusal>
     requires { (event_words ≤ length events.old) × ((k ≤ 68) × (Expired id row ≡ look_ahead queue.old time)) }
-    ensures { Leads result queue.new store.now events.new buffer.now size (past_from queue.old store.now events.old buffer.now time size waiting k) }
+    ensures { Leads (as_next result) queue.new store.now events.new buffer.now size (past_from queue.old store.now events.old buffer.now time size waiting k) }
 {
     let mut header = [0u64; HEADER];
     copy_words(&mut header, &*queue, HEADER);
@@ -161,7 +169,7 @@ fn pass_many(
     let mut log = [0u64; MANY_LOG];
     let p = pass_some(queue, events, &mut log, MANY, time, waiting, k, id, row);
     let n = next_many(queue, store, events, buffer, time, size, p);
-    let refused = is_refused(n);
+    let refused = n.is_err();
     if refused {
         put_back(queue, events, &log, p.drops, &header, &saved);
         return n;
@@ -182,9 +190,9 @@ fn pass_on(
     k: usize,
     id: u16,
     row: usize,
-) -> Next
+) -> Result<Next, Refusal>
     requires { (event_words ≤ length events.old) × (Expired id row ≡ look_ahead queue.old time) }
-    ensures { Leads result queue.new store.now events.new buffer.now size (past_from queue.old store.now events.old buffer.now time size waiting k) }
+    ensures { Leads (as_next result) queue.new store.now events.new buffer.now size (past_from queue.old store.now events.old buffer.now time size waiting k) }
 {
     if k > MANY_BEFORE {
         let n = pass_copied(queue, store, events, buffer, time, size, waiting, k);
@@ -204,21 +212,20 @@ fn next_more(
     time: u64,
     size: u64,
     p: Passing,
-) -> Next
-    requires { (event_words ≤ length events.old) × (p.found ≡ look_ahead queue.old time) }
-    ensures { Leads result queue.new store.now events.new buffer.now size (past_from queue.old store.now events.old buffer.now time size p.left p.count) }
+) -> Result<Next, Refusal>
+    requires { (event_words ≤ length events.old) × (as_look p.found ≡ look_ahead queue.old time) }
+    ensures { Leads (as_next result) queue.new store.now events.new buffer.now size (past_from queue.old store.now events.old buffer.now time size p.left p.count) }
 {
-    let found = p.found;
+    let found = p.found?;
     match found {
-        Look::Expired(id, row) => {
+        Ahead::Expired(id, row) => {
             let n = pass_on(
                 queue, store, events, buffer, time, size, p.left, p.count, id, row,
             );
             handed_on(n)
         }
-        Look::Nothing => next_here(&*queue, store, buffer, size, p),
-        Look::Broken => next_here(&*queue, store, buffer, size, p),
-        Look::Chosen(_, _, _) => next_here(&*queue, store, buffer, size, p),
+        Ahead::Nothing => next_here(&*queue, store, buffer, size, p.count, found),
+        Ahead::Chosen(_, _, _) => next_here(&*queue, store, buffer, size, p.count, found),
     }
 }
 
@@ -234,9 +241,9 @@ fn pass_more(
     k: usize,
     id: u16,
     row: usize,
-) -> Next
+) -> Result<Next, Refusal>
     requires { (event_words ≤ length events.old) × ((k ≤ 4) × (Expired id row ≡ look_ahead queue.old time)) }
-    ensures { Leads result queue.new store.now events.new buffer.now size (past_from queue.old store.now events.old buffer.now time size waiting k) }
+    ensures { Leads (as_next result) queue.new store.now events.new buffer.now size (past_from queue.old store.now events.old buffer.now time size waiting k) }
 {
     let mut header = [0u64; HEADER];
     copy_words(&mut header, &*queue, HEADER);
@@ -245,7 +252,7 @@ fn pass_more(
     let mut log = [0u64; MORE_LOG];
     let p = pass_some(queue, events, &mut log, MORE, time, waiting, k, id, row);
     let n = next_more(queue, store, events, buffer, time, size, p);
-    let refused = is_refused(n);
+    let refused = n.is_err();
     if refused {
         put_back(queue, events, &log, p.drops, &header, &saved);
         return n;
@@ -262,13 +269,13 @@ fn next_past(
     time: u64,
     size: u64,
     p: Passing,
-) -> Next
-    requires { (event_words ≤ length events.old) × (p.found ≡ look_ahead queue.old time) }
-    ensures { Leads result queue.new store.now events.new buffer.now size (past_from queue.old store.now events.old buffer.now time size p.left p.count) }
+) -> Result<Next, Refusal>
+    requires { (event_words ≤ length events.old) × (as_look p.found ≡ look_ahead queue.old time) }
+    ensures { Leads (as_next result) queue.new store.now events.new buffer.now size (past_from queue.old store.now events.old buffer.now time size p.left p.count) }
 {
-    let found = p.found;
+    let found = p.found?;
     match found {
-        Look::Expired(id, row) => {
+        Ahead::Expired(id, row) => {
             if p.count > MORE_BEFORE {
                 let n = pass_on(
                     queue, store, events, buffer, time, size, p.left, p.count, id, row,
@@ -279,9 +286,8 @@ fn next_past(
                 queue, store, events, buffer, time, size, p.left, p.count, id, row,
             )
         }
-        Look::Nothing => next_here(&*queue, store, buffer, size, p),
-        Look::Broken => next_here(&*queue, store, buffer, size, p),
-        Look::Chosen(_, _, _) => next_here(&*queue, store, buffer, size, p),
+        Ahead::Nothing => next_here(&*queue, store, buffer, size, p.count, found),
+        Ahead::Chosen(_, _, _) => next_here(&*queue, store, buffer, size, p.count, found),
     }
 }
 
@@ -297,9 +303,9 @@ fn pass_first(
     waiting: usize,
     id: u16,
     row: usize,
-) -> Next
+) -> Result<Next, Refusal>
     requires { (event_words ≤ length events.old) × (Expired id row ≡ look_ahead queue.old time) }
-    ensures { Leads result queue.new store.now events.new buffer.now size (past_from queue.old store.now events.old buffer.now time size waiting 0) }
+    ensures { Leads (as_next result) queue.new store.now events.new buffer.now size (past_from queue.old store.now events.old buffer.now time size waiting 0) }
 {
     let mut header = [0u64; HEADER];
     copy_words(&mut header, &*queue, HEADER);
@@ -308,7 +314,7 @@ fn pass_first(
     let mut log = [0u64; ENTRY];
     let p = pass_some(queue, events, &mut log, 1, time, waiting, 0, id, row);
     let n = next_past(queue, store, events, buffer, time, size, p);
-    let refused = is_refused(n);
+    let refused = n.is_err();
     if refused {
         put_back(queue, events, &log, p.drops, &header, &saved);
         return n;
@@ -328,9 +334,9 @@ pub fn pass_from(
     k: usize,
     id: u16,
     row: usize,
-) -> Next
+) -> Result<Next, Refusal>
     requires { (event_words ≤ length events.old) × (Expired id row ≡ look_ahead queue.old time) }
-    ensures { Leads result queue.new store.now events.new buffer.now size (past_from queue.old store.now events.old buffer.now time size waiting k) }
+    ensures { Leads (as_next result) queue.new store.now events.new buffer.now size (past_from queue.old store.now events.old buffer.now time size waiting k) }
 {
     if k > MORE_BEFORE {
         let n = pass_on(

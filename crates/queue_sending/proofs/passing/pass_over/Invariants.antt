@@ -6,8 +6,8 @@ use lib.ListN.{length}
 use Rattle.queue_sending.specs.Produce.{passed}
 use Rattle.queue_sending.proofs.passing.pass_over.Given as goal
 
-abbrev pub invariant-loop-id : goal.invariant-loop-id
-invariant-loop-id l = (length l.events ≡ length l.initial.events) × (passed l.left l.queue l.events l.time l.count ≡ passed l.waiting l.initial.queue l.initial.events l.time l.k)
+abbrev pub invariant-loop-found : goal.invariant-loop-found
+invariant-loop-found l = (length l.events ≡ length l.initial.events) × (passed l.left l.queue l.events l.time l.count ≡ passed l.waiting l.initial.queue l.initial.events l.time l.k)
 
-abbrev pub decreases-loop-id : goal.decreases-loop-id
-decreases-loop-id l = l.left
+abbrev pub decreases-loop-found : goal.decreases-loop-found
+decreases-loop-found l = l.left
