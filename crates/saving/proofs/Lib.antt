@@ -5,3 +5,4 @@ pub mod Rests
 pub mod Loops
 pub mod Passed
 pub mod Images
+pub mod Givens

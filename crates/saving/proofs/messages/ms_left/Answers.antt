@@ -6,6 +6,6 @@ pub returns-in-None : goal.returns-in-None
 unfolding ms_left
 returns-in-None c = rw c.in-None.is
 
-pub returns-in-At : goal.returns-in-At
+pub returns-in-Some : goal.returns-in-Some
 unfolding ms_left
-returns-in-At c = rw (c.in-At.is, ← c.left_at.ensures)
+returns-in-Some c = rw (c.in-Some.is, ← c.left_at.ensures)
