@@ -2,10 +2,12 @@
 // is the model's step.
 #![tactic(auto)]
 
+ghost use Rattle.queue_sending.specs.Answers.{as_produced};
 ghost use Rattle.linked_sending.specs.Meaning.{ProduceMeets};
 
 use queue_sending::Produced;
 use queue_words::QUEUE_WORDS;
+use types::Refusal;
 
 pub fn produce(
     queue: &mut [u64; QUEUE_WORDS],
@@ -14,8 +16,8 @@ pub fn produce(
     buffer: &mut [u8],
     time: u64,
     size: u64,
-) -> Produced
-    ensures { ProduceMeets queue.old store.now events.old buffer.old time size result queue.new events.new buffer.new }
+) -> Result<Produced, Refusal>
+    ensures { ProduceMeets queue.old store.now events.old buffer.old time size (as_produced result) queue.new events.new buffer.new }
 {
     queue_sending::produce(queue, store, events, buffer, time, size)
 }
