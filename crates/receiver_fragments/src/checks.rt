@@ -1,5 +1,6 @@
 // What is tested before a chunk is accepted; nothing here writes.
 ghost use Rattle.std.specs.Prelude.{◌≡◌, ◌<◌};
+ghost use Rattle.types.specs.Refusal.{check_number};
 ghost use Rattle.receiver_fragments.specs.Checks.{last_of, same_marks, same_fields, held_code, is_ahead, holds_place, repeats, admit_code};
 
 use receiver_store::{room_code, same_code};
@@ -9,6 +10,7 @@ use receiver_words::cells::{HELD, LAST_TSN, load_header};
 use receiver_words::fragments::{Fragment, load_fragment};
 use receiver_words::index::find_row;
 use tsn::{after, far};
+use types::refusal::Refusal;
 
 // "the last one received without a gap".
 pub fn last_tsn(receiver: &[u64; RECEIVER_WORDS]) -> u32
@@ -59,16 +61,16 @@ pub fn held_code(
     j: usize,
     f: Fragment,
     payload: &[u8],
-) -> u8
+) -> Result<(), Refusal>
     requires { j < 4096 }
-    ensures { result ≡ held_code receiver.now store.now j f payload.now }
+    ensures { check_number result ≡ held_code receiver.now store.now j f payload.now }
 {
     let g = load_fragment(receiver, j);
     let same = same_fields(g, f);
     if same {
         return same_code(receiver, store, j, payload);
     }
-    24
+    Err(Refusal::FragmentOther)
 }
 
 // "one accepted, fetched or not, that it has not yet passed".
@@ -108,20 +110,25 @@ pub fn repeats(receiver: &[u64; RECEIVER_WORDS], interleaved: bool, last: u32, f
     true
 }
 
-// "23 when the payload is longer than the free store or it would be the 4,097th held fragment or from the 257th stream"; 0 where none holds. t is the
+// "23 when the payload is longer than the free store or it would be the 4,097th held fragment or from the 257th stream"; t is the
 // stream's row.
-pub fn admit_code(receiver: &[u64; RECEIVER_WORDS], len: u64, n: u64, t: usize) -> u8
-    ensures { result ≡ admit_code receiver.now len n t }
+pub fn admit_code(
+    receiver: &[u64; RECEIVER_WORDS],
+    len: u64,
+    n: u64,
+    t: usize,
+) -> Result<(), Refusal>
+    ensures { check_number result ≡ admit_code receiver.now len n t }
 {
     let held = load_header(receiver, HELD);
     if held >= 4096 {
-        return 23;
+        return Err(Refusal::ReceiverFull);
     }
     if t > 256 {
-        return 16;
+        return Err(Refusal::WordsBroken);
     }
     if t == 256 {
-        return 23;
+        return Err(Refusal::ReceiverFull);
     }
     room_code(receiver, len, n)
 }

@@ -1,5 +1,6 @@
 // A new receiver.
 ghost use Rattle.std.specs.Prelude.{◌≡◌};
+ghost use Rattle.types.specs.Refusal.{check_number};
 ghost use Rattle.receiver_fragments.specs.Creating.{created, new_tables, new_header, create};
 
 use receiver_messages::keys::previous;
@@ -10,6 +11,7 @@ use receiver_words::cells::{
 };
 use receiver_words::chains::free_all;
 use receiver_words::creation::{clear_ahead, clear_buckets};
+use types::refusal::Refusal;
 
 // Nothing is ahead, no chain has a row, every row is free.
 fn new_tables(receiver: &mut [u64; RECEIVER_WORDS])
@@ -41,18 +43,23 @@ fn new_header(receiver: &mut [u64; RECEIVER_WORDS], i_data: bool, len: u64, star
     store_header(receiver, READY_LAST, NO_ROW);
 }
 
-// "with a starting TSN and a lent store as in 01 (else 2)": 0 where it is made.
-pub fn create(receiver: &mut [u64; RECEIVER_WORDS], store: &[u8], i_data: bool, start: u32) -> u8
-    ensures { created result receiver.new ≡ create receiver.old store.now i_data start }
+// "with a starting TSN and a lent store as in 01 (else 2)".
+pub fn create(
+    receiver: &mut [u64; RECEIVER_WORDS],
+    store: &[u8],
+    i_data: bool,
+    start: u32,
+) -> Result<(), Refusal>
+    ensures { created (check_number result) receiver.new ≡ create receiver.old store.now i_data start }
 {
     let len = store.len();
     if len < 1 {
-        return 2;
+        return Err(Refusal::StoreWrong);
     }
     if len > 2000000 {
-        return 2;
+        return Err(Refusal::StoreWrong);
     }
     new_tables(receiver);
     new_header(receiver, i_data, len as u64, start);
-    0
+    Ok(())
 }

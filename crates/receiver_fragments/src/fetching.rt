@@ -1,8 +1,10 @@
 // Fetching a message.
 ghost use Rattle.std.specs.Prelude.{◌≡◌, ◌<◌};
+ghost use Rattle.receiver_fragments.specs.Fetched.{Message};
+ghost use Rattle.receiver_fragments.specs.Answers.{as_message, as_fetched};
 ghost use Rattle.receiver_fragments.specs.Fetching.{fetched, delivery, take_out, fetch_first, fetch};
 
-use crate::answers::{Delivery, Fetched};
+use crate::answers::Delivery;
 use crate::freeing::{hand_out, measure_message};
 use receiver_messages::keys::interleaved;
 use receiver_messages::readiness::leave_ready;
@@ -10,6 +12,7 @@ use receiver_words::RECEIVER_WORDS;
 use receiver_words::cells::{READY_FIRST, STORE_LENGTH, USED, load_header};
 use receiver_words::fragments::load_fragment;
 use types::StreamId;
+use types::refusal::Refusal;
 
 // "stream, order mark, first fragment's protocol id, payload" of the message that begins with a row.
 fn delivery(receiver: &[u64; RECEIVER_WORDS], row: usize, length: u64) -> Delivery
@@ -32,15 +35,15 @@ fn take_out(
     buffer: &mut [u8],
     row: usize,
     length: u64,
-) -> Fetched
+) -> Delivery
     requires { row < 4096 }
-    ensures { fetched result receiver.new buffer.new ≡ take_out receiver.old store.now buffer.old row length }
+    ensures { fetched (Message result) receiver.new buffer.new ≡ take_out receiver.old store.now buffer.old row length }
 {
     let i_data = interleaved(&*receiver);
     let d = delivery(&*receiver, row, length);
     leave_ready(receiver, row);
     hand_out(receiver, store, buffer, i_data, row);
-    Fetched::Message(d)
+    d
 }
 
 // 16 on damaged words, "10 when its buffer is shorter", or the message.
@@ -49,9 +52,9 @@ fn fetch_first(
     store: &[u8],
     buffer: &mut [u8],
     row: usize,
-) -> Fetched
+) -> Result<Delivery, Refusal>
     requires { row < 4096 }
-    ensures { fetched result receiver.new buffer.new ≡ fetch_first receiver.old store.now buffer.old row }
+    ensures { fetched (as_message result) receiver.new buffer.new ≡ fetch_first receiver.old store.now buffer.old row }
 {
     let i_data = interleaved(&*receiver);
     let used = load_header(&*receiver, USED);
@@ -59,24 +62,29 @@ fn fetch_first(
     if m.ok {
         let length = used - m.left;
         if length > buffer.len() as u64 {
-            return Fetched::Refused(10);
+            return Err(Refusal::BufferShort);
         }
-        return take_out(receiver, store, buffer, row, length);
+        return Ok(take_out(receiver, store, buffer, row, length));
     }
-    Fetched::Refused(16)
+    Err(Refusal::WordsBroken)
 }
 
 // "A call of its own fetches and frees the message ready first [..] or says that none is, with 10 when its buffer is shorter."
-pub fn fetch(receiver: &mut [u64; RECEIVER_WORDS], store: &[u8], buffer: &mut [u8]) -> Fetched
-    ensures { fetched result receiver.new buffer.new ≡ fetch receiver.old store.now buffer.old }
+pub fn fetch(
+    receiver: &mut [u64; RECEIVER_WORDS],
+    store: &[u8],
+    buffer: &mut [u8],
+) -> Result<Option<Delivery>, Refusal>
+    ensures { fetched (as_fetched result) receiver.new buffer.new ≡ fetch receiver.old store.now buffer.old }
 {
     let len = load_header(&*receiver, STORE_LENGTH);
     if store.len() as u64 != len {
-        return Fetched::Refused(2);
+        return Err(Refusal::StoreWrong);
     }
     let row = load_header(&*receiver, READY_FIRST);
     if row >= 4096 {
-        return Fetched::NoneReady;
+        return Ok(None);
     }
-    fetch_first(receiver, store, buffer, row as usize)
+    let d = fetch_first(receiver, store, buffer, row as usize)?;
+    Ok(Some(d))
 }

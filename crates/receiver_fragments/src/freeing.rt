@@ -101,7 +101,8 @@ fn free_row(receiver: &mut [u64; RECEIVER_WORDS], interleaved: bool, f: Fragment
 {
     unindex_held(receiver, interleaved, f, i);
     unlink_row(receiver, i);
-    drop_payload(receiver, i);
+    // Refused on words that no receiver has: then the bytes stay counted.
+    let _ = drop_payload(receiver, i);
     give_free(receiver, i);
     let held = load_header(&*receiver, HELD);
     let left = less_one(held);
@@ -125,7 +126,8 @@ pub fn hand_out(
         let f = load_fragment(&*receiver, i);
         let j = part_after(&*receiver, interleaved, i);
         let size = load_link(&*receiver, i, LENGTH);
-        read_payload(&*receiver, store, i, buffer, at);
+        // Refused on words that no receiver has: then the buffer stays as it is.
+        let _ = read_payload(&*receiver, store, i, buffer, at);
         free_row(receiver, interleaved, f, i);
         if f.last {
             return;

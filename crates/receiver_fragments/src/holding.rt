@@ -54,7 +54,8 @@ pub fn hold(
     ensures { kept receiver.new store.new ≡ hold receiver.old store.old interleaved f payload.now i held }
 {
     take_free(receiver);
-    put_payload(receiver, store, i, payload);
+    // The test of its room has passed: it is not refused.
+    let _ = put_payload(receiver, store, i, payload);
     link_held(receiver, interleaved, f, i);
     store_header(receiver, HELD, held + 1);
 }

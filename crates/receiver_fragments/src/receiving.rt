@@ -1,6 +1,7 @@
 // Receiving a fragment, as 1/13's reader gives it.
 ghost use Rattle.std.specs.Prelude.{◌≡◌, ◌<◌};
 ghost use Rattle.receiver_words.specs.Tables.{Header, word_at};
+ghost use Rattle.receiver_fragments.specs.Answers.{as_received};
 ghost use Rattle.receiver_fragments.specs.Holding.{kept};
 ghost use Rattle.receiver_fragments.specs.Receiving.{received, accept, receive_new, receive_fragment};
 
@@ -13,6 +14,7 @@ use receiver_words::fragments::Fragment;
 use receiver_words::index::find_row;
 use receiver_words::search::find_turn;
 use tsn::far;
+use types::refusal::Refusal;
 
 // The fragment f is accepted into the free row i, from the stream of row t.
 fn accept(
@@ -42,26 +44,23 @@ fn receive_new(
     last: u32,
     f: Fragment,
     payload: &[u8],
-) -> Received
-    ensures { received result receiver.new store.new ≡ receive_new receiver.old store.old interleaved last f payload.now }
+) -> Result<Received, Refusal>
+    ensures { received (as_received result) receiver.new store.new ≡ receive_new receiver.old store.old interleaved last f payload.now }
 {
     let beyond = far(f.tsn, last);
     if beyond {
-        return Received::Refused(22);
+        return Err(Refusal::TsnFar);
     }
     let t = find_turn(&*receiver, f.stream.0);
     let len = store.len() as u64;
     let n = payload.len() as u64;
-    let code = admit_code(&*receiver, len, n, t);
-    if code > 0 {
-        return Received::Refused(code);
-    }
+    admit_code(&*receiver, len, n, t)?;
     let i = load_header(&*receiver, FREE);
     if i >= 4096 {
-        return Received::Refused(16);
+        return Err(Refusal::WordsBroken);
     }
     accept(receiver, store, interleaved, f, payload, i as usize, t);
-    Received::Accepted
+    Ok(Received::Accepted)
 }
 
 // A fragment of the receiver's kind: 24, repeats, then what a new one gets.
@@ -71,21 +70,18 @@ pub fn receive_fragment(
     interleaved: bool,
     f: Fragment,
     payload: &[u8],
-) -> Received
-    ensures { received result receiver.new store.new ≡ receive_fragment receiver.old store.old interleaved f payload.now }
+) -> Result<Received, Refusal>
+    ensures { received (as_received result) receiver.new store.new ≡ receive_fragment receiver.old store.old interleaved f payload.now }
 {
     let j = find_row(&*receiver, 0, f);
     if j < 4096 {
-        let code = held_code(&*receiver, &*store, j, f, payload);
-        if code > 0 {
-            return Received::Refused(code);
-        }
-        return Received::Repeated;
+        held_code(&*receiver, &*store, j, f, payload)?;
+        return Ok(Received::Repeated);
     }
     let last = last_tsn(&*receiver);
     let again = repeats(&*receiver, interleaved, last, f);
     if again {
-        return Received::Repeated;
+        return Ok(Received::Repeated);
     }
     receive_new(receiver, store, interleaved, last, f, payload)
 }

@@ -1,6 +1,7 @@
 -- `receiver_fragments::fetching::fetch` meets its contract: each return is what its definition says, by what the calls ensure and the tests taken.
 -- Assumes nothing.
 use borrow.Author.Tests.{eq-eqb, le-leb, lt-leb, ne_eqb}
+use Rattle.std.proofs.lemmas.Result.{err_from_is_err_and}
 use Rattle.receiver_fragments.specs.Fetching.{fetch}
 use Rattle.receiver_fragments.proofs.fetching.fetch.Goals as goal
 
@@ -22,6 +23,20 @@ returns-then-row-ge4096 c =
       le-leb _ _ c.if-row-ge4096.true,
     )
 
+pub returns-in_err-d : goal.returns-in_err-d
+unfolding fetch
+returns-in_err-d c =
+    let p = err_from_is_err_and c.from_residual.result c.from_residual.ensures.1 in
+    rw (
+      p.1,
+      p.2,
+      ← c.load_header-len.ensures,
+      eq-eqb _ _ c.if-store-len.false,
+      ← c.load_header-row.ensures,
+      lt-leb _ _ c.if-row-ge4096.false,
+      ← c.in_err-d.ensures,
+    )
+
 pub returns : goal.returns
 unfolding fetch
 returns c =
@@ -30,5 +45,5 @@ returns c =
       eq-eqb _ _ c.if-store-len.false,
       ← c.load_header-row.ensures,
       lt-leb _ _ c.if-row-ge4096.false,
-      ← c.fetch_first.ensures,
+      ← c.in_ok-d.ensures,
     )

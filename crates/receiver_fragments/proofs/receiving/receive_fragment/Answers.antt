@@ -1,17 +1,22 @@
 -- `receiver_fragments::receiving::receive_fragment` meets its contract: each return is what its definition says, by what the calls ensure and the tests
 -- taken. Assumes nothing.
 use borrow.Author.Tests.{le-ltb, lt-ltb}
+use Rattle.std.proofs.lemmas.Result.{err_from_is_err_and}
+use Rattle.types.proofs.Refusals.{refusal_above}
 use Rattle.receiver_fragments.specs.Receiving.{receive_fragment}
 use Rattle.receiver_fragments.proofs.receiving.receive_fragment.Goals as goal
 
-pub returns-then-code-gt0 : goal.returns-then-code-gt0
+pub returns-in_err-held_code : goal.returns-in_err-held_code
 unfolding receive_fragment
-returns-then-code-gt0 c =
+returns-in_err-held_code c =
+    let p = err_from_is_err_and c.from_residual.result c.from_residual.ensures.1 in
     rw (
+      p.1,
+      p.2,
       ← c.find_row-j.ensures,
       lt-ltb _ _ c.if-j-lt4096.true,
-      ← c.held_code-code.ensures,
-      lt-ltb _ _ c.if-code-gt0.true,
+      ← c.in_err-held_code.ensures,
+      refusal_above _,
     )
 
 pub returns-then-j-lt4096 : goal.returns-then-j-lt4096
@@ -20,8 +25,7 @@ returns-then-j-lt4096 c =
     rw (
       ← c.find_row-j.ensures,
       lt-ltb _ _ c.if-j-lt4096.true,
-      ← c.held_code-code.ensures,
-      le-ltb _ _ c.if-code-gt0.false,
+      ← c.in_ok-held_code.ensures,
     )
 
 pub returns-then-again : goal.returns-then-again
