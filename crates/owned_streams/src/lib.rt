@@ -3,10 +3,12 @@
 #![tactic(auto)]
 
 pub mod questions;
+pub mod refusals;
 pub mod settings;
 
 pub use questions::{
     buffered_amount, buffered_amount_low_threshold, count_streams_ready_to_reset, get_priority,
     has_data_to_send, has_streams_ready_to_be_reset,
 };
-pub use settings::{PrioritySet, ThresholdSet, set_buffered_amount_low_threshold, set_priority};
+pub use refusals::{StreamsFull, ThresholdRefusal};
+pub use settings::{set_buffered_amount_low_threshold, set_priority};

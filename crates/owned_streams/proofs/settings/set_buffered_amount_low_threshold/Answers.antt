@@ -1,6 +1,8 @@
 -- `owned_streams::settings::set_buffered_amount_low_threshold` meets its contract: the checked call's contract, of its own answers. Assumes nothing.
-use mathlib.Core.Path.{refl, sym}
+use mathlib.Core.Path.{refl, sym, ap, ◌∙◌}
 use Prim.Native.Nat.{◌<◌}
+use Rattle.queue_streams.specs.Known.{placed}
+use Rattle.queue_streams.specs.Owned.{placed_as}
 use Rattle.queue_streams.proofs.Exits.{look_row, look_new, threshold_few, threshold_row, threshold_new, threshold_refused}
 use Rattle.linked_streams.proofs.Sets.{set_threshold_meets}
 use Rattle.owned_streams.proofs.Own.{own_findable}
@@ -8,22 +10,38 @@ use Rattle.std.proofs.Common.{rules}
 use Rattle.owned_streams.proofs.settings.set_buffered_amount_low_threshold.Goals as goal
 
 pub returns-then-events-lt-EVENT_WORDS : goal.returns-then-events-lt-EVENT_WORDS
-returns-then-events-lt-EVENT_WORDS c = let a = c.args in let hid : a.id < 65536 = search rules in let ht : a.threshold < 18446744073709551616 = search rules in set_threshold_meets _ _ _ _ _ _ _ hid ht (threshold_few _ _ _ _ c.if-events-lt-EVENT_WORDS.true)
+returns-then-events-lt-EVENT_WORDS c =
+    let a = c.args in
+    let hid : a.id < 65536 = search rules in
+    let ht : a.threshold < 18446744073709551616 = search rules in
+    set_threshold_meets _ _ _ _ _ _ _ hid ht (threshold_few _ _ _ _ c.if-events-lt-EVENT_WORDS.true)
 
-pub look_up_own-place-requires : goal.look_up_own-place-requires
-look_up_own-place-requires c = own_findable _ c.requires _
+pub look_up_own-requires : goal.look_up_own-requires
+look_up_own-requires c = own_findable _ c.requires _
 
-pub set_threshold_in-k-requires : goal.set_threshold_in-k-requires
-set_threshold_in-k-requires c = (look_row _ _ _ (sym c.in-Row.ensures), c.if-events-lt-EVENT_WORDS.false)
+pub returns-in_default : goal.returns-in_default
+returns-in_default c =
+    let a = c.args in
+    let hid : a.id < 65536 = search rules in
+    let ht : a.threshold < 18446744073709551616 = search rules in
+    set_threshold_meets _ _ _ _ _ _ _ hid ht (threshold_refused _ _ _ _ c.if-events-lt-EVENT_WORDS.false _ (ap placed_as (sym c.in_default.is) ∙ c.look_up_own.ensures) _ refl)
+
+pub set_threshold_in-requires : goal.set_threshold_in-requires
+set_threshold_in-requires c = (look_row _ _ _ (sym (ap placed (sym c.in-Row.is) ∙ c.in-Some.ensures)), c.if-events-lt-EVENT_WORDS.false)
 
 pub set_threshold_of_new-requires : goal.set_threshold_of_new-requires
-set_threshold_of_new-requires c = look_new _ _ _ (sym c.in-New.ensures)
+set_threshold_of_new-requires c = look_new _ _ _ (sym (ap placed (sym c.in-New.is) ∙ c.in-Some.ensures))
 
 pub returns-in-Row : goal.returns-in-Row
-returns-in-Row c = let a = c.args in let hid : a.id < 65536 = search rules in let ht : a.threshold < 18446744073709551616 = search rules in set_threshold_meets _ _ _ _ _ _ _ hid ht (threshold_row _ _ _ _ c.if-events-lt-EVENT_WORDS.false _ c.in-Row.ensures _ _ _ _ refl c.set_threshold_in-k.ensures)
+returns-in-Row c =
+    let a = c.args in
+    let hid : a.id < 65536 = search rules in
+    let ht : a.threshold < 18446744073709551616 = search rules in
+    set_threshold_meets _ _ _ _ _ _ _ hid ht (threshold_row _ _ _ _ c.if-events-lt-EVENT_WORDS.false _ (ap placed (sym c.in-Row.is) ∙ c.in-Some.ensures) _ _ _ _ refl c.set_threshold_in.ensures)
 
 pub returns-in-New : goal.returns-in-New
-returns-in-New c = let a = c.args in let hid : a.id < 65536 = search rules in let ht : a.threshold < 18446744073709551616 = search rules in set_threshold_meets _ _ _ _ _ _ _ hid ht (threshold_new _ _ _ _ c.if-events-lt-EVENT_WORDS.false _ c.in-New.ensures _ _ _ _ refl refl refl c.set_threshold_of_new.ensures)
-
-pub returns-in-Full : goal.returns-in-Full
-returns-in-Full c = let a = c.args in let hid : a.id < 65536 = search rules in let ht : a.threshold < 18446744073709551616 = search rules in set_threshold_meets _ _ _ _ _ _ _ hid ht (threshold_refused _ _ _ _ c.if-events-lt-EVENT_WORDS.false _ c.in-Full.ensures _ refl)
+returns-in-New c =
+    let a = c.args in
+    let hid : a.id < 65536 = search rules in
+    let ht : a.threshold < 18446744073709551616 = search rules in
+    set_threshold_meets _ _ _ _ _ _ _ hid ht (threshold_new _ _ _ _ c.if-events-lt-EVENT_WORDS.false _ (ap placed (sym c.in-New.is) ∙ c.in-Some.ensures) _ _ _ _ refl refl refl c.set_threshold_of_new.ensures)
