@@ -8,7 +8,7 @@ use lent_calls::{
     Creation, lent_add, lent_create, lent_event_call, lent_produce, lifetime_of, plain_call,
 };
 use send_queue::{
-    Call, DataToSend, Flag, MaxRetransmissions, Message, Number, Produced, QUEUE_WORDS, StreamId,
+    Call, DataToSend, Flag, Message, Number, Produced, QUEUE_WORDS, StreamId,
     buffered_amount, buffered_amount_low_threshold, count_streams_ready_to_reset,
     get_handover_readiness, get_priority, get_streams_ready_to_reset, has_data_to_send,
     has_streams_ready_to_be_reset, is_empty, total_buffered_amount,
@@ -69,7 +69,7 @@ fn message_of(state: &[u64; STATE]) -> Message {
         ppid: 53,
         unordered: false,
         lifetime: lifetime,
-        max_retransmissions: MaxRetransmissions::Unlimited,
+        max_retransmissions: None,
         lifecycle_id: state[PRIORITY],
     }
 }

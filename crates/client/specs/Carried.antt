@@ -1,8 +1,6 @@
 -- Two messages through a queue: what goes in comes out. Assumes nothing.
-use Rattle.std.specs.Prelude.{ℕ, ◌+◌, ◌-◌, ◌≤◌, ◌<◌, ◌≡◌, Bool, true, false, List, ◌++◌, length, take}
+use Rattle.std.specs.Prelude.{ℕ, ◌+◌, ◌-◌, ◌≤◌, ◌<◌, ◌≡◌, Bool, true, false, List, ◌++◌, length, take, None}
 use Rattle.queue_streams.specs.Events.{event_words}
-use Rattle.queue_messages.specs.declared.message.Lifetime.TheVariants as lifetime
-use Rattle.queue_messages.specs.declared.message.MaxRetransmissions.TheVariants as retransmissions
 use Rattle.queue_messages.specs.declared.message.Message.{Message}
 use Rattle.queue_sending.specs.Produced.{Produced}
 use Rattle.queue_sending.specs.Produced as produced
@@ -13,8 +11,8 @@ plain_message stream = record {
   stream_id = record { 0 = stream };
   ppid = 0;
   unordered = false;
-  lifetime = lifetime.Unlimited;
-  max_retransmissions = retransmissions.Unlimited;
+  lifetime = None;
+  max_retransmissions = None;
   lifecycle_id = 0;
 }
 

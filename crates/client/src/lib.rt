@@ -6,7 +6,7 @@ ghost use Rattle.client.specs.Carried.{plain_message, is_fragment, Fits, Carried
 
 use linked_adding::{add, create};
 use linked_sending::produce;
-use queue_messages::{Lifetime, MaxRetransmissions, Message};
+use queue_messages::Message;
 use queue_sending::Produced;
 use queue_streams::answers::is_accepted;
 use queue_words::{QUEUE_WORDS, RestartRule};
@@ -20,8 +20,8 @@ fn plain_message(stream: u16) -> Message
         stream_id: StreamId(stream),
         ppid: 0,
         unordered: false,
-        lifetime: Lifetime::Unlimited,
-        max_retransmissions: MaxRetransmissions::Unlimited,
+        lifetime: None,
+        max_retransmissions: None,
         lifecycle_id: 0,
     }
 }

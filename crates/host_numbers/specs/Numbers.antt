@@ -6,10 +6,7 @@ use Rattle.queue_words.specs.Items.{Expiry}
 use Rattle.types.specs.Keys.{key_id, key_unordered}
 use Rattle.queue_streams.specs.Call.{Call}
 use Rattle.queue_streams.specs.Call.{Accepted, Refused}
-use Rattle.queue_messages.specs.declared.message.Lifetime.{Lifetime}
-use Rattle.queue_messages.specs.declared.message.Lifetime.TheVariants as life
-use Rattle.queue_messages.specs.declared.message.MaxRetransmissions.{MaxRetransmissions}
-use Rattle.queue_messages.specs.declared.message.MaxRetransmissions.TheVariants as retr
+use Rattle.queue_messages.specs.Message.{Lifetime, MaxRetransmissions}
 use Rattle.queue_messages.specs.declared.message.Message.{Message}
 use Rattle.queue_sending.specs.declared.data.DataToSend.{DataToSend}
 use Rattle.queue_sending.specs.Produced.{Produced}
@@ -21,12 +18,12 @@ pub use Rattle.out_array.specs.Flag.{is_yes}
 -- ------------------------------------------------------------------ what is given
 
 abbrev pub lifetime_of : Bool → ℕ → Lifetime
-lifetime_of true n = life.Limited n
-lifetime_of false n = life.Unlimited
+lifetime_of true n = Some n
+lifetime_of false n = None
 
 abbrev pub retransmissions_of : Bool → ℕ → MaxRetransmissions
-retransmissions_of true n = retr.Limited n
-retransmissions_of false n = retr.Unlimited
+retransmissions_of true n = Some n
+retransmissions_of false n = None
 
 -- a message by its numbers
 abbrev pub message_of_words : ℕ → ℕ → ℕ → ℕ → ℕ → ℕ → ℕ → ℕ → Message

@@ -3,27 +3,27 @@ ghost use Rattle.std.specs.Prelude.{◌≡◌};
 ghost use Rattle.host_numbers.specs.Numbers.{is_yes, lifetime_of, retransmissions_of, message_of_words};
 
 use out_array::is_yes;
-use queue_messages::{Lifetime, MaxRetransmissions, Message};
+use queue_messages::Message;
 use types::StreamId;
 
-fn lifetime_of(given: u8, nanoseconds: u64) -> Lifetime
+fn lifetime_of(given: u8, nanoseconds: u64) -> Option<u64>
     ensures { result ≡ lifetime_of (is_yes given) nanoseconds }
 {
     let yes = is_yes(given);
     if yes {
-        return Lifetime::Limited(nanoseconds);
+        return Some(nanoseconds);
     }
-    Lifetime::Unlimited
+    None
 }
 
-fn retransmissions_of(given: u8, limit: u16) -> MaxRetransmissions
+fn retransmissions_of(given: u8, limit: u16) -> Option<u16>
     ensures { result ≡ retransmissions_of (is_yes given) limit }
 {
     let yes = is_yes(given);
     if yes {
-        return MaxRetransmissions::Limited(limit);
+        return Some(limit);
     }
-    MaxRetransmissions::Unlimited
+    None
 }
 
 pub fn message_of(

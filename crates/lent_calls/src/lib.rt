@@ -3,7 +3,7 @@
 #![tactic(auto)]
 
 use send_queue::{
-    Call, Lifetime, MaxRetransmissions, Message, Produced, QUEUE_WORDS, RestartRule, Saved, add,
+    Call, Message, Produced, QUEUE_WORDS, RestartRule, Saved, add,
     commit_reset_streams, create, discard, enable_message_interleaving, prepare_reset_stream,
     produce, reset, restore, rollback_reset_streams, save, set_buffered_amount_low_threshold,
     set_priority,
@@ -47,18 +47,18 @@ pub fn lent_create(queue: &mut [u64; QUEUE_WORDS], store: &[u8], n: usize, c: Cr
     )
 }
 
-pub fn lifetime_of(given: bool, lifetime: u64) -> Lifetime {
+pub fn lifetime_of(given: bool, lifetime: u64) -> Option<u64> {
     if given {
-        return Lifetime::Limited(lifetime);
+        return Some(lifetime);
     }
-    Lifetime::Unlimited
+    None
 }
 
-pub fn retransmissions_of(given: bool, most: u16) -> MaxRetransmissions {
+pub fn retransmissions_of(given: bool, most: u16) -> Option<u16> {
     if given {
-        return MaxRetransmissions::Limited(most);
+        return Some(most);
     }
-    MaxRetransmissions::Unlimited
+    None
 }
 
 fn add_part(

@@ -50,8 +50,8 @@ use Rattle.queue_state.proofs.Inserts.{Inserted, insert_link}
 use Rattle.queue_state.proofs.Rooms.{AllKnown, all_known, rows_few, room_of, streams_rise}
 use Rattle.queue_messages.specs.Message.{new_item_words, nanoseconds, retransmissions}
 use Rattle.queue_messages.specs.Add.{arguments_code, broken_code, message_code, starts, Stored, appended, Added, added, add_to, add_in, add}
-use Rattle.queue_messages.specs.declared.message.MaxRetransmissions.{MaxRetransmissions}
-use Rattle.queue_messages.specs.declared.message.MaxRetransmissions.TheVariants as retr
+use Rattle.std.specs.Prelude.{Some, None}
+use Rattle.queue_messages.specs.Message.{MaxRetransmissions}
 use Rattle.queue_messages.specs.declared.message.Message.{Message}
 use Rattle.linked_adding.specs.Message.{message_of_words, retransmissions_of}
 use Rattle.linked_adding.proofs.Begins.{put_known, starts_none}
@@ -63,8 +63,8 @@ use Rattle.queue_words.proofs.Finds.{by_lt}
 -- ---- what is added fits its row
 
 retransmissions_fit : (r : MaxRetransmissions) → get_or (retransmissions_of r) 0 < 2 ^ 16 → retransmissions r < 65536
-retransmissions_fit retr.Unlimited h = omega arith
-retransmissions_fit (retr.Limited n) h = h
+retransmissions_fit None h = omega arith
+retransmissions_fit (Some n) h = h
 
 pub item_fits : (ws : List ℕ) (time : ℕ) (m : Message) (bs : List ℕ) → MessageTyped (message_of_words m bs) → FitsItem (new_item_words time (totals_at ws).next_message_id m)
 unfolding new_item_words

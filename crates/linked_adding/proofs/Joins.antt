@@ -37,10 +37,8 @@ use Rattle.queue_state.proofs.Frames.{row_below, stream_is}
 use Rattle.queue_state.proofs.Rooms.{AllKnown}
 use Rattle.queue_messages.specs.Message.{new_item_words, expiry, retransmissions}
 use Rattle.queue_messages.specs.Add.{with_last, linked_last, with_message_words, counted, starts, started, appended_at, appended}
-use Rattle.queue_messages.specs.declared.message.Lifetime.{Lifetime}
-use Rattle.queue_messages.specs.declared.message.Lifetime.TheVariants as life
-use Rattle.queue_messages.specs.declared.message.MaxRetransmissions.{MaxRetransmissions}
-use Rattle.queue_messages.specs.declared.message.MaxRetransmissions.TheVariants as retr
+use Rattle.std.specs.Prelude.{Some, None}
+use Rattle.queue_messages.specs.Message.{Lifetime, MaxRetransmissions}
 use Rattle.queue_messages.specs.declared.message.Message.{Message}
 use Rattle.linked_adding.specs.Message.{message_of_words, lifetime_of, retransmissions_of}
 use Rattle.linked_adding.proofs.Placed.{Placed, placed}
@@ -53,12 +51,12 @@ use Rattle.linked_adding.proofs.Begins.{Begun, begun, put_known, starts_is, star
 
 expires_is : (time : ℕ) (l : Lifetime) → expires_of (expiry time l) ≡ plain_add.expiry time (lifetime_of l)
 unfolding expiry plain_add.expiry
-expires_is time life.Unlimited = refl
-expires_is time (life.Limited n) = refl
+expires_is time None = refl
+expires_is time (Some n) = refl
 
 limit_is : (r : MaxRetransmissions) → retransmissions r ≡ get_or (retransmissions_of r) 65535
-limit_is retr.Unlimited = refl
-limit_is (retr.Limited n) = refl
+limit_is None = refl
+limit_is (Some n) = refl
 
 pub item_new : (time : ℕ) (id : OutgoingMessageId) (m : Message) (bs : List ℕ) → item_of (new_item_words time id m) bs ≡ new_item time id.0 (message_of_words m bs)
 unfolding new_item_words new_item

@@ -29,8 +29,8 @@ use Rattle.queue_state.proofs.Singles.{model_options, model_streams}
 use Rattle.queue_state.proofs.Sums.{waiting_is, occupied_is}
 use Rattle.queue_messages.specs.Message.{nanoseconds}
 use Rattle.queue_messages.specs.Add.{arguments_code, full_code, broken_code, message_code, lost_code}
-use Rattle.queue_messages.specs.declared.message.Lifetime.{Lifetime}
-use Rattle.queue_messages.specs.declared.message.Lifetime.TheVariants as life
+use Rattle.std.specs.Prelude.{Some, None}
+use Rattle.queue_messages.specs.Message.{Lifetime}
 use Rattle.queue_messages.specs.declared.message.Message.{Message}
 use Rattle.linked_adding.specs.Message.{message_of_words, lifetime_of}
 use Rattle.linked_adding.proofs.Creates.{zero_below}
@@ -83,8 +83,8 @@ first_by false false false false false false false true = refl
 first_by false false false false false false false false = refl
 
 lifetime_is : (l : Lifetime) → get_or (lifetime_of l) 0 ≡ nanoseconds l
-lifetime_is life.Unlimited = refl
-lifetime_is (life.Limited n) = refl
+lifetime_is None = refl
+lifetime_is (Some n) = refl
 
 module _ (ws st : List ℕ) (g : Good ws st) (time : ℕ) (m : Message) (bs : List ℕ) where
   abbrev q : Queue

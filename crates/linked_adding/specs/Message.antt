@@ -1,21 +1,18 @@
 -- The model's message of one that is handed over. Assumes nothing.
-use Rattle.std.specs.Prelude.{ℕ, List}
+use Rattle.std.specs.Prelude.{ℕ, List, Some, None}
 use Rattle.std.proofs.Math.Option.{Option, none, some}
 use Rattle.queue_model.specs.Types as plain
-use Rattle.queue_messages.specs.declared.message.Lifetime.{Lifetime}
-use Rattle.queue_messages.specs.declared.message.Lifetime.TheVariants as life
-use Rattle.queue_messages.specs.declared.message.MaxRetransmissions.{MaxRetransmissions}
-use Rattle.queue_messages.specs.declared.message.MaxRetransmissions.TheVariants as retr
+use Rattle.queue_messages.specs.Message.{Lifetime, MaxRetransmissions}
 use Rattle.queue_messages.specs.declared.message.Message.{Message}
 
--- "Option becomes an enum".
+-- What is given, as the model has it.
 abbrev pub retransmissions_of : MaxRetransmissions → Option ℕ
-retransmissions_of retr.Unlimited = none
-retransmissions_of (retr.Limited n) = some n
+retransmissions_of None = none
+retransmissions_of (Some n) = some n
 
 abbrev pub lifetime_of : Lifetime → Option ℕ
-lifetime_of life.Unlimited = none
-lifetime_of (life.Limited n) = some n
+lifetime_of None = none
+lifetime_of (Some n) = some n
 
 -- a message with its payload
 abbrev pub message_of_words : Message → List ℕ → plain.Message

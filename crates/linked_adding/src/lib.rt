@@ -2,12 +2,13 @@
 // model's creation and, on the words of a queue, the model's step.
 #![tactic(auto)]
 
+ghost use Rattle.queue_streams.specs.Answers.{as_call};
 ghost use Rattle.linked_adding.specs.Create.{CreateMeets};
 ghost use Rattle.linked_adding.specs.Add.{AddMeets};
 
 use queue_messages::Message;
-use queue_streams::Call;
 use queue_words::{QUEUE_WORDS, RestartRule, whole};
+use types::Refusal;
 
 // "Creation takes the payload limit, the store, the default priority, the default and total thresholds and the choice of handover
 // with waiting data; interleaving starts off." Document 02, 6/13: "Creation chooses the rule, as in the Rust or strict."
@@ -20,8 +21,8 @@ pub fn create(
     total_threshold: u64,
     handover_with_data: bool,
     restart_rule: RestartRule,
-) -> Call
-    ensures { CreateMeets queue.old store.now payload_limit default_priority default_threshold total_threshold handover_with_data restart_rule result queue.new }
+) -> Result<usize, Refusal>
+    ensures { CreateMeets queue.old store.now payload_limit default_priority default_threshold total_threshold handover_with_data restart_rule (as_call result) queue.new }
 {
     whole(&*queue);
     queue_messages::create(
@@ -43,8 +44,8 @@ pub fn add(
     time: u64,
     m: Message,
     payload: &[u8],
-) -> Call
-    ensures { AddMeets queue.old store.old time m payload.now result queue.new store.new }
+) -> Result<usize, Refusal>
+    ensures { AddMeets queue.old store.old time m payload.now (as_call result) queue.new store.new }
 {
     queue_messages::add(queue, store, time, m, payload)
 }

@@ -27,7 +27,7 @@ use Rattle.queue_state.specs.Good.{Good}
 use Rattle.queue_state.proofs.Looks.{Lookup, known_at_lem, new_at, lookup}
 use Rattle.queue_messages.specs.Add.{asked_code, arguments_code, full_code, message_code, stream_for, row_for, made_known, MayAppend, added, add_to, add, appended, stored}
 use Rattle.queue_messages.specs.Message.{nanoseconds}
-use Rattle.queue_messages.specs.declared.message.Lifetime.{Lifetime}
+use Rattle.queue_messages.specs.Message.{Lifetime}
 use Rattle.queue_messages.specs.declared.message.Message.{Message}
 use Rattle.queue_messages.proofs.Lemmas as lemmas
 use Rattle.queue_messages.proofs.Tested.{may_append}

@@ -20,9 +20,8 @@ use Rattle.queue_streams.specs.Place as place
 use Rattle.queue_streams.proofs.Exits.{look_row, look_new}
 use Rattle.queue_messages.specs.Add.{arguments_code, HasPlace, row_for}
 use Rattle.queue_messages.specs.Create.{freed}
-use Rattle.queue_messages.specs.Message.{nanoseconds}
-use Rattle.queue_messages.specs.declared.message.Lifetime.{Lifetime}
-use Rattle.queue_messages.specs.declared.message.Lifetime.TheVariants as life
+use Rattle.queue_messages.specs.Message.{Lifetime, nanoseconds}
+use Rattle.std.specs.Prelude.{Some}
 
 -- the places freed so far
 pub freed_none : (ws : List ℕ) → ws ≡ freed ws 0
@@ -68,5 +67,5 @@ row_fits ws (place.New position) h = h.1
 row_fits ws (place.Refused code) h = omega arith
 
 -- a lifetime that is given keeps the bound
-pub limited_fits : (l : Lifetime) (n : ℕ) → l ≡ life.Limited n → nanoseconds l ≤ 4611686018427387903 → n ≤ 4611686018427387903
+pub limited_fits : (l : Lifetime) (n : ℕ) → l ≡ Some n → nanoseconds l ≤ 4611686018427387903 → n ≤ 4611686018427387903
 limited_fits l n e h = subst (λ (x : Lifetime). nanoseconds x ≤ 4611686018427387903) e h

@@ -19,8 +19,7 @@ use Rattle.queue_streams.specs.Call.{Accepted, Refused}
 use Rattle.queue_streams.specs.Place.{Place}
 use Rattle.queue_streams.specs.Place as place
 use Rattle.message_chains.specs.Amounts.{sum}
-use Rattle.queue_messages.specs.Message.{nanoseconds, new_item_words}
-use Rattle.queue_messages.specs.declared.message.Lifetime.{Lifetime}
+use Rattle.queue_messages.specs.Message.{Lifetime, nanoseconds, new_item_words}
 use Rattle.queue_messages.specs.declared.message.Message.{Message}
 
 -- ------------------------------------------------------------------ refusals, in checking order; 0 for none

@@ -10,7 +10,7 @@ ghost use Rattle.queue_messages.specs.Add.{asked_code, arguments_code, full_code
 ghost use Rattle.queue_messages.specs.Add.{HasLast, linked_last, counted, started, stored, appended, MayAppend};
 ghost use Rattle.queue_messages.specs.Add.{HasPlace, stream_for, row_for, made_known, added, add_to, add};
 
-use crate::message::{Lifetime, Message, nanoseconds, new_item};
+use crate::message::{Message, nanoseconds, new_item};
 use message_chains::amounts::{minus, plus};
 use payload_store::{put_code, put_own};
 use queue_streams::known::{Place, insert_stream, look_up, new_stream};
@@ -25,7 +25,7 @@ use types::Refusal;
 use types::refusal::Broken;
 
 // The refusals that what is asked for decides: of the time, then of the payload.
-pub fn asked_code(time: u64, lifetime: Lifetime, n: u64) -> Result<(), Refusal>
+pub fn asked_code(time: u64, lifetime: Option<u64>, n: u64) -> Result<(), Refusal>
     ensures { check_number result ≡ asked_code time lifetime n }
 {
     if time > MAX_TIME {
@@ -49,7 +49,7 @@ fn arguments_code(
     queue: &[u64; QUEUE_WORDS],
     len: u64,
     time: u64,
-    lifetime: Lifetime,
+    lifetime: Option<u64>,
     n: u64,
 ) -> Result<(), Refusal>
     ensures { check_number result ≡ arguments_code queue.now len time lifetime n }

@@ -10,4 +10,4 @@ pub mod message;
 pub use adding::add;
 pub use creation::create;
 pub use discarding::discard;
-pub use message::{Lifetime, MaxRetransmissions, Message};
+pub use message::Message;

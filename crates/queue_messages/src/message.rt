@@ -6,58 +6,41 @@ use queue_words::items::Item;
 use queue_words::limits::NO_MESSAGE;
 use types::{Fsn, OutgoingMessageId, StreamId};
 
-// "Option becomes an enum".
-#[derive(Clone, Copy)]
-pub enum Lifetime {
-    Unlimited,
-    Limited(u64),
-}
-
-#[derive(Clone, Copy)]
-pub enum MaxRetransmissions {
-    Unlimited,
-    Limited(u16),
-}
-
-#[derive(Clone, Copy)]
+#[derive(Clone, Copy, Debug, PartialEq, Eq)]
 pub struct Message {
     pub stream_id: StreamId,
     pub ppid: u32,
     pub unordered: bool,
-    pub lifetime: Lifetime,
-    pub max_retransmissions: MaxRetransmissions,
+    // In nanoseconds; None for a message that does not expire.
+    pub lifetime: Option<u64>,
+    // None for no limit.
+    pub max_retransmissions: Option<u16>,
     // 0 for none.
     pub lifecycle_id: u64,
 }
 
 // "no retransmission limit given means 65,535".
-fn retransmissions(m: MaxRetransmissions) -> u16
+fn retransmissions(m: Option<u16>) -> u16
     ensures { result ≡ retransmissions m }
 {
-    match m {
-        MaxRetransmissions::Unlimited => 65535,
-        MaxRetransmissions::Limited(n) => n,
-    }
+    m.unwrap_or(65535)
 }
 
 // A lifetime's nanoseconds, 0 where there is none.
-pub fn nanoseconds(l: Lifetime) -> u64
+pub fn nanoseconds(l: Option<u64>) -> u64
     ensures { result ≡ nanoseconds l }
 {
-    match l {
-        Lifetime::Unlimited => 0,
-        Lifetime::Limited(n) => n,
-    }
+    l.unwrap_or(0)
 }
 
 // "a lifetime sets now + lifetime + 1 ms, else never".
-fn expiry(time: u64, l: Lifetime) -> Option<u64>
+fn expiry(time: u64, l: Option<u64>) -> Option<u64>
     requires { (time ≤ 4611686018427387903) × (nanoseconds l ≤ 4611686018427387903) }
     ensures { result ≡ expiry time l }
 {
     match l {
-        Lifetime::Unlimited => None,
-        Lifetime::Limited(n) => Some(time + n + 1000000),
+        None => None,
+        Some(n) => Some(time + n + 1000000),
     }
 }
 

@@ -45,7 +45,7 @@ use Rattle.queue_questions.specs.Looked as looked
 use Rattle.queue_messages.specs.Add as adding
 use Rattle.queue_messages.specs.Message.{nanoseconds}
 use Rattle.queue_messages.specs.Discard as discarding
-use Rattle.queue_messages.specs.declared.message.Lifetime.{Lifetime}
+use Rattle.queue_messages.specs.Message.{Lifetime}
 use Rattle.queue_messages.specs.declared.message.Message.{Message}
 use Rattle.queue_closing.specs.Close as closing
 use Rattle.queue_closing.specs.Walk.{may_sweep}

@@ -29,10 +29,8 @@ use Rattle.queue_model.specs.Image.{Handover}
 use Rattle.queue_model.specs.Restore as restore
 use Rattle.queue_model.proofs.Checks.{restore_of}
 use Rattle.queue_streams.specs.Events.{event_words, places_in}
-use Rattle.queue_messages.specs.declared.message.Lifetime.{Lifetime}
-use Rattle.queue_messages.specs.declared.message.Lifetime.TheVariants as life
-use Rattle.queue_messages.specs.declared.message.MaxRetransmissions.{MaxRetransmissions}
-use Rattle.queue_messages.specs.declared.message.MaxRetransmissions.TheVariants as retr
+use Rattle.std.specs.Prelude.{Some, None}
+use Rattle.queue_messages.specs.Message.{Lifetime, MaxRetransmissions}
 use Rattle.queue_messages.specs.declared.message.Message.{Message}
 use Rattle.linked_adding.specs.Message.{message_of_words, retransmissions_of, lifetime_of}
 use Rattle.packets.specs.declared.packet.Packet.{Packet}
@@ -54,12 +52,12 @@ pub data Translates (len : ℕ) (m : run.Call) : Type 0 where
 
 -- The message with these fields; its payload goes beside it.
 retransmissions_back : Option ℕ → MaxRetransmissions
-retransmissions_back none = retr.Unlimited
-retransmissions_back (some n) = retr.Limited n
+retransmissions_back none = None
+retransmissions_back (some n) = Some n
 
 lifetime_back : Option ℕ → Lifetime
-lifetime_back none = life.Unlimited
-lifetime_back (some n) = life.Limited n
+lifetime_back none = None
+lifetime_back (some n) = Some n
 
 retransmissions_back_lem : (x : Option ℕ) → retransmissions_of (retransmissions_back x) ≡ x
 unfolding retransmissions_back

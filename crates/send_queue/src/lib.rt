@@ -7,7 +7,7 @@
 
 pub use linked_adding::{add, create};
 pub use linked_dropping::discard;
-pub use queue_messages::{Lifetime, MaxRetransmissions, Message};
+pub use queue_messages::Message;
 pub use queue_words::RestartRule;
 // The next fragment.
 pub use linked_sending::produce;

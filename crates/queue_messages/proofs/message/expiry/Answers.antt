@@ -2,10 +2,10 @@
 use Rattle.queue_messages.specs.Message.{expiry}
 use Rattle.queue_messages.proofs.message.expiry.Goals as goal
 
-pub returns-in-Unlimited : goal.returns-in-Unlimited
+pub returns-in-None : goal.returns-in-None
 unfolding expiry
-returns-in-Unlimited c = rw c.in-Unlimited.is
+returns-in-None c = rw c.in-None.is
 
-pub returns-in-Limited : goal.returns-in-Limited
+pub returns-in-Some : goal.returns-in-Some
 unfolding expiry
-returns-in-Limited c = rw c.in-Limited.is
+returns-in-Some c = rw c.in-Some.is
