@@ -1,4 +1,4 @@
-// What the chunk calls take and answer, and the numbers of a chunk.
+// What the chunk calls take, what is read, and the numbers of a chunk.
 ghost use Rattle.std.specs.Prelude.{◌≡◌, ◌≤◌};
 ghost use Rattle.std.specs.Prelude.{if◌then◌else◌};
 ghost use Rattle.queue_model.specs.Chunks.{padded};
@@ -23,7 +23,7 @@ pub const DATA_HEADER: usize = 16;
 
 pub const I_DATA_HEADER: usize = 20;
 
-#[derive(Clone, Copy)]
+#[derive(Clone, Copy, Debug, PartialEq, Eq)]
 pub enum ChunkKind {
     Data,
     IData,
@@ -36,19 +36,6 @@ pub struct Chunk {
     pub tsn: u32,
     pub fragment: DataToSend,
     pub payload_at: usize,
-}
-
-#[derive(Clone, Copy)]
-pub enum ChunkRead {
-    Read(Chunk),
-    Refused(u8),
-}
-
-// The bytes written, padding included; or refused.
-#[derive(Clone, Copy)]
-pub enum ChunkWritten {
-    Bytes(usize),
-    Refused(u8),
 }
 
 pub fn header_size(kind: ChunkKind) -> usize

@@ -1,15 +1,16 @@
 // Reading a chunk from lent bytes.
 ghost use Rattle.std.specs.Prelude.{◌≡◌, ◌≤◌, ◌<◌, length};
+ghost use Rattle.chunks.specs.Answers.{as_read};
 ghost use Rattle.chunks.specs.Reading.{is_set, fragment_of, chunk_at};
 ghost use Rattle.chunks.specs.Promise.{ReadMeets};
 
 use crate::chunk::{
-    Chunk, ChunkKind, ChunkRead, DATA_HEADER, DATA_TYPE, FIRST, I_DATA_HEADER, I_DATA_TYPE, LAST,
-    UNORDERED, choose, padded,
+    Chunk, ChunkKind, DATA_HEADER, DATA_TYPE, FIRST, I_DATA_HEADER, I_DATA_TYPE, LAST, UNORDERED,
+    choose, padded,
 };
 use big_endian::{read_u8, read_u16, read_u32};
 use queue_sending::{Data, DataToSend};
-use types::{Fsn, Mid, OutgoingMessageId, Ssn, StreamId, StreamKey};
+use types::{Fsn, Mid, OutgoingMessageId, Refusal, Ssn, StreamId, StreamKey};
 
 fn is_set(flags: u8, mark: u8) -> bool
     requires { 0 < mark }
@@ -83,29 +84,29 @@ fn read_i_data(bytes: &[u8], len: u16) -> Chunk
 }
 
 // "19 when bytes read are not one such chunk with payload".
-pub fn read_chunk(bytes: &[u8]) -> ChunkRead
-    ensures { ReadMeets bytes.now result }
+pub fn read_chunk(bytes: &[u8]) -> Result<Chunk, Refusal>
+    ensures { ReadMeets bytes.now (as_read result) }
 {
     let n = bytes.len();
     if n < DATA_HEADER {
-        return ChunkRead::Refused(19);
+        return Err(Refusal::ChunkWrong);
     }
     let kind = read_u8(bytes, 0);
     let len = read_u16(bytes, 2);
     if padded(len as usize) != n {
-        return ChunkRead::Refused(19);
+        return Err(Refusal::ChunkWrong);
     }
     if kind == DATA_TYPE {
         if len <= 16 {
-            return ChunkRead::Refused(19);
+            return Err(Refusal::ChunkWrong);
         }
-        return ChunkRead::Read(read_data(bytes, len));
+        return Ok(read_data(bytes, len));
     }
     if kind == I_DATA_TYPE {
         if len <= 20 {
-            return ChunkRead::Refused(19);
+            return Err(Refusal::ChunkWrong);
         }
-        return ChunkRead::Read(read_i_data(bytes, len));
+        return Ok(read_i_data(bytes, len));
     }
-    ChunkRead::Refused(19)
+    Err(Refusal::ChunkWrong)
 }

@@ -4,16 +4,17 @@ ghost use Rattle.std.specs.Prelude.{if◌then◌else◌};
 ghost use Rattle.queue_model.specs.Bytes.{row_bytes};
 ghost use Rattle.big_endian.specs.Numbers.{wrote};
 ghost use Rattle.queue_model.specs.Chunks.{padded, last_word};
+ghost use Rattle.chunks.specs.Answers.{as_written};
 ghost use Rattle.chunks.specs.Layout.{fields_of, header_size, header_widths, flags_of, header_row, chunk_bytes};
 ghost use Rattle.chunks.specs.Promise.{WriteMeets};
 
 use crate::chunk::{
-    ChunkKind, ChunkWritten, DATA_TYPE, FIRST, I_DATA_TYPE, LAST, UNORDERED, choose, header_size,
-    padded,
+    ChunkKind, DATA_TYPE, FIRST, I_DATA_TYPE, LAST, UNORDERED, choose, header_size, padded,
 };
 use big_endian::{put_u8, put_u16, put_u32};
 use payload_store::copying::copy;
 use queue_sending::{Data, DataToSend};
+use types::Refusal;
 
 // The most payload bytes that are written into a chunk, of either kind.
 const MAX_WRITTEN: usize = 65515;
@@ -129,22 +130,22 @@ pub fn write_chunk(
     tsn: u32,
     fragment: DataToSend,
     payload: &[u8],
-) -> ChunkWritten
-    ensures { WriteMeets output.old kind tsn fragment payload.now result output.new }
+) -> Result<usize, Refusal>
+    ensures { WriteMeets output.old kind tsn fragment payload.now (as_written result) output.new }
 {
     let n = payload.len();
     if n == 0 {
-        return ChunkWritten::Refused(17);
+        return Err(Refusal::ChunkPayloadWrong);
     }
     if n > MAX_WRITTEN {
-        return ChunkWritten::Refused(17);
+        return Err(Refusal::ChunkPayloadWrong);
     }
     let size = header_size(kind);
     let end = padded(size + n);
     if output.len() < end {
-        return ChunkWritten::Refused(18);
+        return Err(Refusal::ChunkOutputShort);
     }
     let d = fragment.data;
     put_chunk(output, kind, tsn, d, payload);
-    ChunkWritten::Bytes(end)
+    Ok(end)
 }
