@@ -25,7 +25,7 @@ use Rattle.queue_state.specs.Good.{Good}
 use Rattle.queue_state.proofs.Singles.{model_options, model_interleaving}
 use Rattle.big_endian.specs.Numbers.{wrote}
 use Rattle.big_endian.proofs.Rows.{wrote_none}
-use Rattle.packets.specs.declared.filling.Filling as progress
+use Rattle.packets.specs.Filling as progress
 use Rattle.packets.specs.declared.packet.Packet.{Packet}
 use Rattle.packets.specs.PacketFilled.{PacketFilled}
 use Rattle.packets.specs.PacketFilled as packet

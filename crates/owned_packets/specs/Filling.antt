@@ -4,7 +4,7 @@ use Rattle.queue_model.specs.Fill.{common_header_length}
 use Rattle.queue_streams.specs.Events.{event_words}
 use Rattle.queue_state.specs.Good.{Good}
 use Rattle.packets.specs.Filling.{packet_code, events_code, reached}
-use Rattle.packets.specs.declared.filling.Filling as checked
+use Rattle.packets.specs.Filling as checked
 use Rattle.packets.specs.PacketFilled.{PacketFilled}
 use Rattle.packets.specs.PacketFilled as packet
 use Rattle.owned_packets.specs.declared.filling.Refusal.{Refusal}

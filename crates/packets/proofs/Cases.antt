@@ -30,10 +30,9 @@ use Rattle.chunks.specs.Layout.{header_size, header_widths, header_row, flags_of
 use Rattle.chunks.specs.declared.chunk.ChunkKind.{ChunkKind}
 use Rattle.chunks.specs.declared.chunk.ChunkKind.TheVariants as kind
 use Rattle.chunks.proofs.WriteCases.{header_length}
-use Rattle.packets.specs.declared.filling.Filling.{Filling}
 use Rattle.packets.specs.declared.packet.Packet.{Packet}
 use Rattle.packets.specs.PacketFilled.{PacketFilled}
-use Rattle.packets.specs.Filling.{kind_of, packet_code, events_code, fill_code, chunk_around, packet_after, around, one_filled, filling_with, reached, and_on_words, size_asked_words, fill_on_words, filled_with_words, finished_answer, finished_packet, finished, fill_packet}
+use Rattle.packets.specs.Filling.{Filling, kind_of, packet_code, events_code, fill_code, chunk_around, packet_after, around, one_filled, filling_with, reached, and_on_words, size_asked_words, fill_on_words, filled_with_words, finished_answer, finished_packet, finished, fill_packet}
 use Rattle.packets.proofs.Within.{after_within}
 
 -- ------------------------------------------------------------------ sizes

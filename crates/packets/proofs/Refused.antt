@@ -20,10 +20,9 @@ use Rattle.queue_sending.proofs.Passes.{after_refused}
 use Rattle.big_endian.specs.Numbers.{wrote}
 use Rattle.chunks.specs.Layout.{header_size}
 use Rattle.chunks.specs.declared.chunk.ChunkKind.{ChunkKind}
-use Rattle.packets.specs.declared.filling.Filling.{Filling}
 use Rattle.packets.specs.declared.packet.Packet.{Packet}
 use Rattle.packets.specs.PacketFilled as packet
-use Rattle.packets.specs.Filling.{packet_of, kind_of, fill_code, packet_after, one_filled, FillingWith, filling_with, reached, after_one, and_on_words, size_asked_words, fill_on_words, FilledWith, filled_with_words, finished_answer, finished_packet, finished, fill_packet}
+use Rattle.packets.specs.Filling.{Filling, packet_of, kind_of, fill_code, packet_after, one_filled, FillingWith, filling_with, reached, after_one, and_on_words, size_asked_words, fill_on_words, FilledWith, filled_with_words, finished_answer, finished_packet, finished, fill_packet}
 use Rattle.packets.proofs.Cases.{size_room, code_allows}
 use Rattle.packets.proofs.Places.{wrote_same}
 

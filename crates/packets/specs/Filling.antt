@@ -20,7 +20,6 @@ use Rattle.chunks.specs.declared.chunk.ChunkKind.TheVariants as kind
 use Rattle.packets.specs.declared.packet.Packet.{Packet}
 use Rattle.packets.specs.PacketFilled.{PacketFilled}
 use Rattle.packets.specs.PacketFilled as packet
-use Rattle.packets.specs.declared.filling.Filling.{Filling}
 
 -- The packet as the model takes it.
 abbrev pub packet_of : Packet → plain.Packet
@@ -72,6 +71,13 @@ one_filled kind st time ws es bs at k tsn size =
     around kind tsn bs at (produced_after ws st es (take size (drop (at + header_size kind) bs)) time size k)
 
 -- ------------------------------------------------------------------ all of them
+
+-- How far a filling has come: the bytes used, how many events and chunks are written, and the refusal that ended it, 0 for none.
+pub record Filling : Type 0 where
+  pub used : ℕ
+  pub events : ℕ
+  pub chunks : ℕ
+  pub code : ℕ
 
 -- What the calls leave: how far the filling has come, and the words, the events and the packet.
 pub record FillingWith : Type 0 where

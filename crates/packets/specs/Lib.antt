@@ -1,3 +1,4 @@
 -- Packets on the wire. Assumes nothing.
 pub mod PacketFilled
 pub mod Filling
+pub mod Answers

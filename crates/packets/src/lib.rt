@@ -7,4 +7,4 @@ pub mod packet;
 pub mod parts;
 
 pub use filling::fill_packet;
-pub use packet::{Packet, PacketFilled};
+pub use packet::{Filled, Packet};

@@ -24,11 +24,12 @@ pub struct Packet {
     pub tsn: u32,
 }
 
-// How many events are written, "the bytes and chunks written"; or refused.
-#[derive(Clone, Copy)]
-pub enum PacketFilled {
-    Filled(usize, usize, usize),
-    Refused(u8),
+// How many events are written, "the bytes and chunks written".
+#[derive(Clone, Copy, Debug, PartialEq, Eq)]
+pub struct Filled {
+    pub events: usize,
+    pub bytes: usize,
+    pub chunks: usize,
 }
 
 // "the 12-byte common header (two ports, verification tag, checksum 0 as RFC 9653 permits)".

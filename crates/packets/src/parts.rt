@@ -1,6 +1,7 @@
 // What the checked and the owned filling share: the judging of what is lent and asked for, sizes and TSNs, and a chunk around a payload
 // that is in its place.
 ghost use Rattle.std.specs.Prelude.{◌≡◌, ◌+◌, ◌-◌, ◌≤◌, min, length};
+ghost use Rattle.types.specs.Refusal.{check_number};
 ghost use Rattle.types.specs.Wrap.{wrap_suc};
 ghost use Rattle.queue_model.specs.Chunks.{padded};
 ghost use Rattle.queue_model.specs.Fill.{rounded_down};
@@ -12,34 +13,35 @@ use chunks::{ChunkKind, header_size, padded, put_header, put_zeros};
 use queue_sending::Data;
 use queue_streams::events::EVENT_WORDS;
 use queue_words::limits::MAX_TIME;
+use types::Refusal;
 
-// "20 when the packet limit is outside 36 to 65,535, 21 when the packet buffer is shorter than the limit", or 0.
-pub fn packet_code(room: usize, limit: usize) -> u8
-    ensures { result ≡ packet_code room limit 0 }
+// "20 when the packet limit is outside 36 to 65,535, 21 when the packet buffer is shorter than the limit".
+pub fn packet_code(room: usize, limit: usize) -> Result<(), Refusal>
+    ensures { check_number result ≡ packet_code room limit 0 }
 {
     if limit < LEAST_LIMIT {
-        return 20;
+        return Err(Refusal::PacketLimitWrong);
     }
     if limit > MOST_LIMIT {
-        return 20;
+        return Err(Refusal::PacketLimitWrong);
     }
     if room < limit {
-        return 21;
+        return Err(Refusal::PacketBufferShort);
     }
-    0
+    Ok(())
 }
 
-// Document 01's 3 for the event list and 4 for the time, or 0.
-pub fn events_code(places: u64, time: u64) -> u8
-    ensures { result ≡ events_code places time }
+// Document 01's 3 for the event list and 4 for the time.
+pub fn events_code(places: u64, time: u64) -> Result<(), Refusal>
+    ensures { check_number result ≡ events_code places time }
 {
     if places < EVENT_WORDS as u64 {
-        return 3;
+        return Err(Refusal::EventListShort);
     }
     if time > MAX_TIME {
-        return 4;
+        return Err(Refusal::TimeLate);
     }
-    0
+    Ok(())
 }
 
 // "I-DATA while interleaving is on, else DATA".

@@ -21,13 +21,13 @@ fill_one-made-requires c =
     )
 
 pub overflow_add-header : goal.overflow_add-header
-overflow_add-header c = omega (arith, c.header_size-header.ensures, chunk_room c.args.kind _ _ _ _ _ (size_as c.args.kind _ _ _ _ _ c.header_size-header.ensures c.size_asked-size.ensures) c.if-size-eq0.false (one_within c.args.kind _ _ _ _ _ _ _ _ _ _ _ _ _ c.in-Fragment.ensures _ _ refl), c.requires.1.1.0)
+overflow_add-header c = omega (arith, c.header_size-header.ensures, chunk_room c.args.kind _ _ _ _ _ (size_as c.args.kind _ _ _ _ _ c.header_size-header.ensures c.size_asked-size.ensures) c.if-size-eq0.false (one_within c.args.kind _ _ _ _ _ _ _ _ _ _ _ _ _ (rw (rw c.in-Ok-Fragment.is at c.in-Ok-Fragment.field-0-is) at c.in-Ok-Fragment.ensures-1) _ _ refl), c.requires.1.1.0)
 
 pub padded-used-requires : goal.padded-used-requires
-padded-used-requires c = omega (arith, c.header_size-header.ensures, chunk_room c.args.kind _ _ _ _ _ (size_as c.args.kind _ _ _ _ _ c.header_size-header.ensures c.size_asked-size.ensures) c.if-size-eq0.false (one_within c.args.kind _ _ _ _ _ _ _ _ _ _ _ _ _ c.in-Fragment.ensures _ _ refl), c.requires.1.1.0)
+padded-used-requires c = omega (arith, c.header_size-header.ensures, chunk_room c.args.kind _ _ _ _ _ (size_as c.args.kind _ _ _ _ _ c.header_size-header.ensures c.size_asked-size.ensures) c.if-size-eq0.false (one_within c.args.kind _ _ _ _ _ _ _ _ _ _ _ _ _ (rw (rw c.in-Ok-Fragment.is at c.in-Ok-Fragment.field-0-is) at c.in-Ok-Fragment.ensures-1) _ _ refl), c.requires.1.1.0)
 
-pub overflow_add-used-in-Fragment : goal.overflow_add-used-in-Fragment
-overflow_add-used-in-Fragment c = omega (arith, step_as c.args.kind _ _ _ c.header_size-header.ensures c.padded-used.ensures, chunk_room c.args.kind _ _ _ _ _ (size_as c.args.kind _ _ _ _ _ c.header_size-header.ensures c.size_asked-size.ensures) c.if-size-eq0.false (one_within c.args.kind _ _ _ _ _ _ _ _ _ _ _ _ _ c.in-Fragment.ensures _ _ refl), c.requires.1.1.0)
+pub overflow_add-used-in-Ok-Fragment : goal.overflow_add-used-in-Ok-Fragment
+overflow_add-used-in-Ok-Fragment c = omega (arith, step_as c.args.kind _ _ _ c.header_size-header.ensures c.padded-used.ensures, chunk_room c.args.kind _ _ _ _ _ (size_as c.args.kind _ _ _ _ _ c.header_size-header.ensures c.size_asked-size.ensures) c.if-size-eq0.false (one_within c.args.kind _ _ _ _ _ _ _ _ _ _ _ _ _ (rw (rw c.in-Ok-Fragment.is at c.in-Ok-Fragment.field-0-is) at c.in-Ok-Fragment.ensures-1) _ _ refl), c.requires.1.1.0)
 
 pub loop-left-preserved : goal.loop-left-preserved
 loop-left-preserved c =
@@ -37,21 +37,21 @@ loop-left-preserved c =
       (
         c.packet-1.given ∙ c.loop-left.invariant.1.0,
         (
-          omega (arith, step, chunk_room c.args.kind _ _ _ _ _ (size_as c.args.kind _ _ _ _ _ c.header_size-header.ensures c.size_asked-size.ensures) c.if-size-eq0.false (one_within c.args.kind _ _ _ _ _ _ _ _ _ _ _ _ _ c.in-Fragment.ensures _ _ refl)),
+          omega (arith, step, chunk_room c.args.kind _ _ _ _ _ (size_as c.args.kind _ _ _ _ _ c.header_size-header.ensures c.size_asked-size.ensures) c.if-size-eq0.false (one_within c.args.kind _ _ _ _ _ _ _ _ _ _ _ _ _ (rw (rw c.in-Ok-Fragment.is at c.in-Ok-Fragment.field-0-is) at c.in-Ok-Fragment.ensures-1) _ _ refl)),
           (
             omega (arith, c.loop-left.invariant.1.1.1.0, c.if-left-eq0.false),
-            goes_on c.args.kind _ _ _ _ _ _ _ _ _ _ _ _ c.if-left-eq0.false _ size c.if-size-eq0.false _ _ _ _ c.in-Fragment.ensures _ _ _ _ refl step c.next_tsn-tsn.ensures ∙ c.loop-left.invariant.1.1.1.1,
+            goes_on c.args.kind _ _ _ _ _ _ _ _ _ _ _ _ c.if-left-eq0.false _ size c.if-size-eq0.false _ _ _ _ (rw (rw c.in-Ok-Fragment.is at c.in-Ok-Fragment.field-0-is) at c.in-Ok-Fragment.ensures-1) _ _ _ _ refl step c.next_tsn-tsn.ensures ∙ c.loop-left.invariant.1.1.1.1,
           ),
         ),
       ),
     )
 
-pub returns-in-Nothing : goal.returns-in-Nothing
-returns-in-Nothing c =
-    ends_nothing c.args.kind _ _ _ _ _ _ _ _ _ _ _ _ c.if-left-eq0.false _ (size_as c.args.kind _ _ _ _ _ c.header_size-header.ensures c.size_asked-size.ensures) c.if-size-eq0.false _ _ _ _ c.in-Nothing.ensures _ refl
+pub returns-in-Ok-Nothing : goal.returns-in-Ok-Nothing
+returns-in-Ok-Nothing c =
+    ends_nothing c.args.kind _ _ _ _ _ _ _ _ _ _ _ _ c.if-left-eq0.false _ (size_as c.args.kind _ _ _ _ _ c.header_size-header.ensures c.size_asked-size.ensures) c.if-size-eq0.false _ _ _ _ (rw (rw c.in-Ok-Nothing.is at c.in-Ok-Nothing.field-0-is) at c.in-Ok-Nothing.ensures-1) _ refl
     ∙ c.loop-left.invariant.1.1.1.1
 
-pub returns-in-Refused : goal.returns-in-Refused
-returns-in-Refused c =
-    ends_refused c.args.kind _ _ _ _ _ _ _ _ _ _ _ _ c.if-left-eq0.false _ (size_as c.args.kind _ _ _ _ _ c.header_size-header.ensures c.size_asked-size.ensures) c.if-size-eq0.false _ _ _ _ c.in-Refused.ensures _ refl
+pub returns-in-Err : goal.returns-in-Err
+returns-in-Err c =
+    ends_refused c.args.kind _ _ _ _ _ _ _ _ _ _ _ _ c.if-left-eq0.false _ (size_as c.args.kind _ _ _ _ _ c.header_size-header.ensures c.size_asked-size.ensures) c.if-size-eq0.false _ _ _ _ c.in-Err.ensures _ refl
     ∙ c.loop-left.invariant.1.1.1.1
