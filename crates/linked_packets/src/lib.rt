@@ -2,10 +2,12 @@
 // the model's step.
 #![tactic(auto)]
 
+ghost use Rattle.packets.specs.Answers.{as_filled};
 ghost use Rattle.linked_packets.specs.Meaning.{FillMeets};
 
-use packets::{Packet, PacketFilled};
+use packets::{Filled, Packet};
 use queue_words::QUEUE_WORDS;
+use types::Refusal;
 
 pub fn fill_packet(
     queue: &mut [u64; QUEUE_WORDS],
@@ -14,8 +16,8 @@ pub fn fill_packet(
     packet: &mut [u8],
     time: u64,
     p: Packet,
-) -> PacketFilled
-    ensures { FillMeets queue.old store.now events.old packet.old time p result queue.new events.new packet.new }
+) -> Result<Filled, Refusal>
+    ensures { FillMeets queue.old store.now events.old packet.old time p (as_filled result) queue.new events.new packet.new }
 {
     packets::fill_packet(queue, store, events, packet, time, p)
 }
