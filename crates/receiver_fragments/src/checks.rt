@@ -10,7 +10,7 @@ use receiver_words::cells::{HELD, LAST_TSN, load_header};
 use receiver_words::fragments::{Fragment, load_fragment};
 use receiver_words::index::find_row;
 use tsn::{after, far};
-use types::refusal::Refusal;
+use types::Refusal;
 
 // "the last one received without a gap".
 pub fn last_tsn(receiver: &[u64; RECEIVER_WORDS]) -> u32

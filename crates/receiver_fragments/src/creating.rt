@@ -11,7 +11,7 @@ use receiver_words::cells::{
 };
 use receiver_words::chains::free_all;
 use receiver_words::creation::{clear_ahead, clear_buckets};
-use types::refusal::Refusal;
+use types::Refusal;
 
 // Nothing is ahead, no chain has a row, every row is free.
 fn new_tables(receiver: &mut [u64; RECEIVER_WORDS])

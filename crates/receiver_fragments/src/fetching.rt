@@ -11,8 +11,7 @@ use receiver_messages::readiness::leave_ready;
 use receiver_words::RECEIVER_WORDS;
 use receiver_words::cells::{READY_FIRST, STORE_LENGTH, USED, load_header};
 use receiver_words::fragments::load_fragment;
-use types::StreamId;
-use types::refusal::Refusal;
+use types::{Refusal, StreamId};
 
 // "stream, order mark, first fragment's protocol id, payload" of the message that begins with a row.
 fn delivery(receiver: &[u64; RECEIVER_WORDS], row: usize, length: u64) -> Delivery

@@ -14,7 +14,7 @@ use receiver_words::fragments::Fragment;
 use receiver_words::index::find_row;
 use receiver_words::search::find_turn;
 use tsn::far;
-use types::refusal::Refusal;
+use types::Refusal;
 
 // The fragment f is accepted into the free row i, from the stream of row t.
 fn accept(
