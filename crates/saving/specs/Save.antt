@@ -1,5 +1,7 @@
 -- Saving a queue: the call, on the words, the store and the lent buffer. Assumes nothing.
-use Rattle.std.specs.Prelude.{ℕ, List, ltb, eqb, length}
+use Rattle.std.specs.Prelude.{ℕ, List, Result, Ok, Err, ltb, eqb, length}
+use Rattle.types.specs.Refusal.{refusal_number}
+use Rattle.types.specs.declared.refusal.Refusal.{Refusal}
 use Rattle.queue_words.specs.Flags.{pick}
 use Rattle.queue_words.specs.Header.{options_at}
 use Rattle.big_endian.specs.Numbers.{wrote}
@@ -8,6 +10,11 @@ use Rattle.saving.specs.Saved.{Image, Refused}
 use Rattle.saving.specs.declared.measuring.Tally.{Tally}
 use Rattle.saving.specs.Measure.{tally_queue}
 use Rattle.saving.specs.Bytes.{image_bytes_words, image_size}
+
+-- What the code answers, in document 01's numbers.
+abbrev pub as_saved : Result ℕ Refusal → Saved
+as_saved (Ok n) = Image n
+as_saved (Err r) = Refused (refusal_number r)
 
 -- The answer's number, 0 where the queue is saved, else the refusal's; and its value, the image's length.
 abbrev pub saved_number : Saved → ℕ

@@ -3,7 +3,7 @@ ghost use Rattle.std.specs.Prelude.{◌≡◌, true, ◌+◌, ◌≤◌, ◌<◌
 ghost use Rattle.big_endian.specs.Numbers.{wrote};
 ghost use Rattle.saving.specs.Bytes.{image_bytes_words, counts_size};
 ghost use Rattle.saving.specs.Measure.{counts_of, tally_queue, Few};
-ghost use Rattle.saving.specs.Save.{saved_as, save_image};
+ghost use Rattle.saving.specs.Save.{as_saved, saved_as, save_image};
 
 use crate::measuring::{Counts, tally_queue};
 use crate::messages::put_messages;
@@ -12,13 +12,7 @@ use handover_records::records::{Trailer, put_trailer};
 use queue_words::QUEUE_WORDS;
 use queue_words::header::{load_options, load_totals};
 use queue_words::limits::MAX_TIME;
-
-// The image's length, which stands at the start of the lent buffer, or the refusal's number.
-#[derive(Clone, Copy)]
-pub enum Saved {
-    Image(usize),
-    Refused(u8),
-}
+use types::Refusal;
 
 // The image's length.
 pub fn image_size(n: Counts) -> u64
@@ -53,31 +47,37 @@ pub fn put_image(queue: &[u64; QUEUE_WORDS], store: &[u8], image: &mut [u8], tim
     );
 }
 
-// Saves the queue at a time. A refused call leaves the buffer as it was; so do the places past the image stay.
-pub fn save(queue: &[u64; QUEUE_WORDS], store: &[u8], image: &mut [u8], time: u64) -> Saved
-    ensures { saved_as result image.new ≡ save_image queue.now store.now image.old time }
+// Saves the queue at a time. Answers the length of the image, which stands at the start of the lent buffer. A refused call leaves the
+// buffer as it was; so do the places past the image stay.
+pub fn save(
+    queue: &[u64; QUEUE_WORDS],
+    store: &[u8],
+    image: &mut [u8],
+    time: u64,
+) -> Result<usize, Refusal>
+    ensures { saved_as (as_saved result) image.new ≡ save_image queue.now store.now image.old time }
 {
     let len = store.len() as u64;
     let o = load_options(queue);
     if len != o.store_length {
-        return Saved::Refused(2);
+        return Err(Refusal::StoreWrong);
     }
     if time > MAX_TIME {
-        return Saved::Refused(4);
+        return Err(Refusal::TimeLate);
     }
     let t = tally_queue(queue, len);
-    if t.ok {
-        let n = Counts {
-            streams: t.streams,
-            messages: t.messages,
-            bytes: t.bytes,
-        };
-        let size = image_size(n);
-        if (image.len() as u64) < size {
-            return Saved::Refused(11);
-        }
-        put_image(queue, store, image, time, n);
-        return Saved::Image(size as usize);
+    if !t.ok {
+        return Err(Refusal::WordsBroken);
     }
-    Saved::Refused(16)
+    let n = Counts {
+        streams: t.streams,
+        messages: t.messages,
+        bytes: t.bytes,
+    };
+    let size = image_size(n);
+    if (image.len() as u64) < size {
+        return Err(Refusal::ImageBufferShort);
+    }
+    put_image(queue, store, image, time, n);
+    Ok(size as usize)
 }

@@ -7,4 +7,4 @@ pub mod measuring;
 pub mod messages;
 pub mod streams;
 
-pub use image::{Saved, save};
+pub use image::save;
