@@ -1,5 +1,6 @@
 // What an image's messages need, and the answer to the image.
 ghost use Rattle.std.specs.Prelude.{◌≡◌, true, false, ◌+◌, ◌*◌, ◌≤◌, length};
+ghost use Rattle.types.specs.Refusal.{check_number};
 ghost use Rattle.image_rules.specs.Messages.{messages_right_words};
 ghost use Rattle.image_rules.specs.Amounts.{payload_bytes_words, new_streams};
 ghost use Rattle.image_rules.specs.Cursor.{IdsRise, moved_on_words, named_at, one_counted};
@@ -9,6 +10,7 @@ use crate::rules::{messages_right, streams_right, trailer_right};
 use handover_records::records::Trailer;
 use image_reader::{read_message, read_stream, read_trailer};
 use queue_words::limits::{MESSAGES, STREAMS};
+use types::Refusal;
 
 // "passes 256 streams, 1,024 messages", as the trailer counts them.
 const MAX_STREAM_RECORDS: u16 = STREAMS as u16;
@@ -160,25 +162,30 @@ fn amounts_fit(image: &[u8], t: Trailer, store_length: u64) -> bool
     true
 }
 
-// 13, 14, 15, or 0 for an image that is accepted.
-pub fn image_code(image: &[u8], strict: bool, default_priority: u16, store_length: u64) -> u8
-    ensures { result ≡ image_code_words strict image.now default_priority store_length }
+// Whether the image is accepted; the first of the refusals 13, 14 and 15 else.
+pub fn image_code(
+    image: &[u8],
+    strict: bool,
+    default_priority: u16,
+    store_length: u64,
+) -> Result<(), Refusal>
+    ensures { check_number result ≡ image_code_words strict image.now default_priority store_length }
 {
     let size = image.len();
     if size < 20 {
-        return 13;
+        return Err(Refusal::ImageWrong);
     }
     let t = read_trailer(image, size - 20);
     let kept = rules_kept(image, t, strict);
-    if kept {
-        if t.default_priority == default_priority {
-            let fit = amounts_fit(image, t, store_length);
-            if fit {
-                return 0;
-            }
-            return 15;
-        }
-        return 14;
+    if !kept {
+        return Err(Refusal::ImageWrong);
     }
-    13
+    if t.default_priority != default_priority {
+        return Err(Refusal::PriorityOther);
+    }
+    let fit = amounts_fit(image, t, store_length);
+    if !fit {
+        return Err(Refusal::ImageLarge);
+    }
+    Ok(())
 }

@@ -7,26 +7,19 @@ use Rattle.image_rules.proofs.code.image_code.Goals as goal
 
 pub returns-then-size-lt20 : goal.returns-then-size-lt20
 unfolding image_code_words
-returns-then-size-lt20 c =
-    rw
-    (
-    lt-ltb _ _ c.if-size-lt20.true
-    )
+returns-then-size-lt20 c = rw (lt-ltb _ _ c.if-size-lt20.true)
 
 pub amounts_fit-fit-requires : goal.amounts_fit-fit-requires
-amounts_fit-fit-requires c = (kept_both _ _ _ (sym c.rules_kept-kept.ensures ∙ c.if-kept.true)).0
+amounts_fit-fit-requires c = (kept_both _ _ _ (sym c.rules_kept-kept.ensures ∙ c.if-not-kept.false)).0
 
-pub returns-then-fit : goal.returns-then-fit
+pub returns-then-not-kept : goal.returns-then-not-kept
 unfolding image_code_words
-returns-then-fit c =
+returns-then-not-kept c =
     rw (
       le-ltb _ _ c.if-size-lt20.false,
       ← c.read_trailer-t.ensures,
       ← c.rules_kept-kept.ensures,
-      c.if-kept.true,
-      eq-eqb _ _ c.if-t-default_priority.true,
-      ← c.amounts_fit-fit.ensures,
-      c.if-fit.true,
+      c.if-not-kept.true,
     )
 
 pub returns-then-t-default_priority : goal.returns-then-t-default_priority
@@ -36,21 +29,21 @@ returns-then-t-default_priority c =
       le-ltb _ _ c.if-size-lt20.false,
       ← c.read_trailer-t.ensures,
       ← c.rules_kept-kept.ensures,
-      c.if-kept.true,
-      eq-eqb _ _ c.if-t-default_priority.true,
-      ← c.amounts_fit-fit.ensures,
-      c.if-fit.false,
+      c.if-not-kept.false,
+      ne_eqb _ _ c.if-t-default_priority.true,
     )
 
-pub returns-then-kept : goal.returns-then-kept
+pub returns-then-not-fit : goal.returns-then-not-fit
 unfolding image_code_words
-returns-then-kept c =
+returns-then-not-fit c =
     rw (
       le-ltb _ _ c.if-size-lt20.false,
       ← c.read_trailer-t.ensures,
       ← c.rules_kept-kept.ensures,
-      c.if-kept.true,
-      ne_eqb _ _ c.if-t-default_priority.false,
+      c.if-not-kept.false,
+      eq-eqb _ _ c.if-t-default_priority.false,
+      ← c.amounts_fit-fit.ensures,
+      c.if-not-fit.true,
     )
 
 pub returns : goal.returns
@@ -60,5 +53,8 @@ returns c =
       le-ltb _ _ c.if-size-lt20.false,
       ← c.read_trailer-t.ensures,
       ← c.rules_kept-kept.ensures,
-      c.if-kept.false,
+      c.if-not-kept.false,
+      eq-eqb _ _ c.if-t-default_priority.false,
+      ← c.amounts_fit-fit.ensures,
+      c.if-not-fit.false,
     )
