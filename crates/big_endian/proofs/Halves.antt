@@ -1,17 +1,16 @@
--- A wide number is two of half its width, in reading and in writing; what stands after two writes. Assumes nothing.
-use mathlib.Core.Path.{◌≡◌, sym, ap, ◌∙◌}
+-- A number is its high part and its low part; what stands after two writes; what std's conversions read and write. Assumes nothing.
+use mathlib.Core.Path.{◌≡◌, refl, sym, ap, ◌∙◌}
 use mathlib.Core.List.{List, [], ◌∷◌, ◌++◌, append_assoc}
-use Prim.Native.Nat.{ℕ, suc, ◌+◌, ◌*◌, ◌/◌, ◌%◌, ◌^◌, ◌≤◌, ◌<◌}
-use native.Mathlib.Nat.{div-one, mod-eq_of_lt, mod-lt, mul_assoc, add-mul, add_assoc}
+use Prim.Native.Nat.{ℕ, zero, suc, ◌+◌, ◌-◌, ◌*◌, ◌/◌, ◌%◌, ◌^◌, ◌≤◌, ◌<◌}
+use native.Mathlib.Nat.{pow-zero, mul-one, pow-succ', div-one, mod-eq_of_lt, mul_assoc, add-mul, add_assoc}
 use native.Mathlib.Omega.{arith}
-use lib.Arith.{mod-mul}
 use lib.Pow.{pow-add}
 use lib.ListN.{length, take, drop, get_or, set, length-append, length-drop}
-use lib.Seq.{length-take-le, drop-drop, take-add, take_at, drop-cons, set_split, drop-append-add}
+use lib.Seq.{take_all, length-take-le, drop-drop, take-add, take_at, drop-cons, set_split, drop-append-add}
+use Rattle.std.specs.Prelude.{slice_index}
+use Rattle.std.specs.Int.{byte_at, byte_worth, sum_through, bytes_high_first}
 use Rattle.queue_model.specs.Bytes.{number_bytes, bytes_number}
-use Rattle.queue_model.proofs.Image.ByteRows.{length_number_bytes, read_written, written_read, pow_pos}
 use Rattle.big_endian.specs.Numbers.{number_at, wrote}
-use Rattle.queue_model.proofs.Demand2.Bytes.{number_are_bytes, append_bytes}
 
 -- ------------------------------------------------------------------ reading
 
@@ -68,29 +67,46 @@ byte_wrote b at n h k =
     let f : suc at ≡ at + 1 = omega arith in
     rw (set_split b at n (omega arith), e, f)
 
--- the bytes of a number: those of its high part, then those of its low part
-pub bytes_halves : (v w n : ℕ) → n < 256 ^ (v + w) → number_bytes (v + w) n ≡ number_bytes v (n / 256 ^ w) ++ number_bytes w (n % 256 ^ w)
-bytes_halves v w n h =
-    let xs : List ℕ = number_bytes v (n / 256 ^ w) in
-    let ys : List ℕ = number_bytes w (n % 256 ^ w) in
-    let ly : length ys ≡ w = length_number_bytes w (n % 256 ^ w) in
-    let lxy : length (xs ++ ys) ≡ v + w = rw (length-append, length_number_bytes, length_number_bytes) in
-    let low : n % 256 ^ w % 256 ^ w ≡ n % 256 ^ w = mod-eq_of_lt (mod-lt n (pow_pos w)) in
-    let e : bytes_number (xs ++ ys) ≡ n =
-    number_append xs ys
-    ∙ rw (ly, read_written, read_written, low, ← mod-mul n (pow_pos v) (pow_pos w), ← pow-add 256 v w, mod-eq_of_lt h) in
-    rw (lxy, e) at (written_read (xs ++ ys) (append_bytes xs ys (number_are_bytes v (n / 256 ^ w)) (number_are_bytes w (n % 256 ^ w))))
+-- ------------------------------------------------------------------ std's conversions
 
--- a number written in two halves
-pub halves_wrote : (b b1 b2 : List ℕ) (at v w n : ℕ) → at + (v + w) ≤ length b → n < 256 ^ (v + w) → b1 ≡ wrote b at (number_bytes v (n / 256 ^ w)) → b2 ≡ wrote b1 (at + v) (number_bytes w (n % 256 ^ w))
-    → b2 ≡ wrote b at (number_bytes (v + w) n)
-halves_wrote b b1 b2 at v w n h k e f =
-    let hx : length (number_bytes v (n / 256 ^ w)) ≡ v = length_number_bytes v (n / 256 ^ w) in
-    let hy : length (number_bytes w (n % 256 ^ w)) ≡ w = length_number_bytes w (n % 256 ^ w) in
-    let t : wrote (wrote b at (number_bytes v (n / 256 ^ w))) (at + v) (number_bytes w (n % 256 ^ w)) ≡ wrote b at (number_bytes v (n / 256 ^ w) ++ number_bytes w (n % 256 ^ w)) =
-    rw hx at (wrote_twice b at (number_bytes v (n / 256 ^ w)) (number_bytes w (n % 256 ^ w)) (omega (arith, hx, hy, h))) in
-    rw (f, e, t, bytes_halves v w n k)
+byte_at_is : (w n : ℕ) → byte_at w n ≡ n / 256 ^ w % 256
+byte_at_is zero n = rw (pow-zero, div-one)
+byte_at_is (suc w) n = refl
 
--- a number read in two halves
-pub halves_read : (bs : List ℕ) (at v w h l : ℕ) → at + (v + w) ≤ length bs → h ≡ number_at bs at v → l ≡ number_at bs (at + v) w → h * 256 ^ w + l ≡ number_at bs at (v + w)
-halves_read bs at v w h l r e f = rw (e, f) (sym (number_halves bs at v w r))
+-- the bytes that std writes, high byte first
+high_first : (w n : ℕ) → bytes_high_first w n ≡ number_bytes w n
+unfolding number_bytes
+high_first zero n = refl
+high_first (suc w) n = rw (byte_at_is w n, high_first w n)
+
+-- the bytes that std writes from `at` on
+pub be_wrote : (b b1 xs : List ℕ) (at w n : ℕ) → xs ≡ bytes_high_first w n → b1 ≡ wrote b at xs → b1 ≡ wrote b at (number_bytes w n)
+be_wrote b b1 xs at w n e f = f ∙ ap (λ (l : List ℕ). wrote b at l) (e ∙ high_first w n)
+
+byte_worth_is : (i b : ℕ) → byte_worth i b ≡ b * 256 ^ i
+byte_worth_is zero b = rw pow-zero (omega arith)
+byte_worth_is (suc i) b = refl
+
+next_worth : (n b p x : ℕ) → x ≡ n * 256 + b → n * (256 * p) + b * p ≡ x * p
+next_worth n b p x e = rw (e, add-mul, mul_assoc)
+
+-- the worth of the first k + 1 bytes of w + 1
+worth_is : (xs : List ℕ) (w k : ℕ) → k ≤ w → w + 1 ≤ length xs → sum_through (λ i. byte_worth (w - i) (slice_index xs i)) k ≡ number_at xs 0 (k + 1) * 256 ^ (w - k)
+worth_is xs w zero h r = rw (byte_worth_is (w - 0) (get_or xs 0 0), byte_is xs 0 (omega arith))
+worth_is xs w (suc k) h r =
+    let p : w - k ≡ suc (w - suc k) = omega arith in
+    let e : number_at xs 0 (suc k + 1) ≡ number_at xs 0 (k + 1) * 256 + number_at xs (suc k) 1 =
+    ap (λ (n : ℕ). number_at xs 0 n) (omega arith) ∙ number_halves xs 0 (k + 1) 1 (omega arith) ∙ ap (λ (n : ℕ). number_at xs 0 (k + 1) * 256 + number_at xs n 1) (omega arith) in
+    rw (worth_is xs w k (omega arith) r, byte_worth_is (w - suc k) (get_or xs (suc k) 0), byte_is xs (suc k) (omega arith), p, pow-succ' 256 (w - suc k)) (next_worth _ _ _ _ e)
+
+whole_number : (xs ys : List ℕ) (w : ℕ) → xs ≡ ys → length ys ≡ w → number_at xs 0 w ≡ bytes_number ys
+unfolding number_at
+whole_number xs ys w e h = ap bytes_number (take_all w xs (omega (arith, h, ap length e)) ∙ e)
+
+-- the number that std reads from the bytes from `at` on
+pub be_read : (bs xs : List ℕ) (at w n : ℕ) → at + (w + 1) ≤ length bs → xs ≡ take (w + 1) (drop at bs) → n ≡ sum_through (λ i. byte_worth (w - i) (slice_index xs i)) w → n ≡ number_at bs at (w + 1)
+unfolding number_at
+be_read bs xs at w n h e f =
+    let k : length (take (w + 1) (drop at bs)) ≡ w + 1 = length-take-le (w + 1) (drop at bs) (rw length-drop (omega arith)) in
+    let q : w - w ≡ 0 = omega arith in
+    f ∙ worth_is xs w w (omega arith) (omega (arith, k, ap length e)) ∙ rw (q, pow-zero, mul-one, whole_number xs _ (w + 1) e k)
