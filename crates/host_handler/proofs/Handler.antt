@@ -6,7 +6,7 @@ use borrow.Author.Tests.{eq-eqb, ne_eqb}
 use lib.ListN.{get_or}
 use Rattle.queue_streams.specs.Answers.{call_number}
 use Rattle.stream_reset_handler.specs.declared.handler.StreamResetHandler.{StreamResetHandler}
-use Rattle.stream_reset_handler.specs.declared.handler.Underway.TheVariants as underway
+use Rattle.std.specs.Prelude.{Some, None}
 use Rattle.stream_reset_handler.specs.declared.making.MadeRequest.{MadeRequest}
 use Rattle.stream_reset_handler.specs.declared.receiving.HandledResponse.{HandledResponse}
 use Rattle.stream_reset_handler.specs.declared.receiving.QueueReset.{QueueReset}
@@ -14,10 +14,10 @@ use Rattle.stream_reset_handler.specs.Making.{MakeMeets}
 use Rattle.stream_reset_handler.specs.Receiving.{HandleMeets, ResetHandlerMeets}
 use Rattle.host_handler.specs.Handler.{handler_in, request_number, request_out, request_handler, response_number_words, response_out, response_handler, reset_handler, GivesRequest, GivesResponse, GivesReset}
 
-pub in_none : (hs : List ℕ) → get_or hs 1 0 ≡ 0 → record { next_number = get_or hs 0 0; underway = underway.Nothing } ≡ handler_in hs
+pub in_none : (hs : List ℕ) → get_or hs 1 0 ≡ 0 → record { next_number = get_or hs 0 0; underway = None } ≡ handler_in hs
 in_none hs e = rw (eq-eqb (get_or hs 1 0) 0 e)
 
-pub in_one : (hs : List ℕ) → (get_or hs 1 0 ≡ 0 → ⊥) → record { next_number = get_or hs 0 0; underway = underway.Number (get_or hs 2 0) } ≡ handler_in hs
+pub in_one : (hs : List ℕ) → (get_or hs 1 0 ≡ 0 → ⊥) → record { next_number = get_or hs 0 0; underway = Some (get_or hs 2 0) } ≡ handler_in hs
 in_one hs e = rw (ne_eqb (get_or hs 1 0) 0 e)
 
 pub gives_request : (ws hs bs : List ℕ) (response_number last_tsn : ℕ) (out : List ℕ) (h : StreamResetHandler) (m : MadeRequest) (r : ℕ) (ws' hs' bs' out' : List ℕ)

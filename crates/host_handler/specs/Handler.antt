@@ -4,8 +4,8 @@ use Rattle.queue_words.specs.Flags.{pick}
 use Rattle.queue_streams.specs.Answers.{call_number}
 use Rattle.queue_streams.specs.Call.{Call}
 use Rattle.queue_streams.specs.Call as call
-use Rattle.stream_reset_handler.specs.declared.handler.Underway.{Underway}
-use Rattle.stream_reset_handler.specs.declared.handler.Underway.TheVariants as underway
+use Rattle.stream_reset_handler.specs.Underway.{Underway}
+use Rattle.std.specs.Prelude.{Some, None}
 use Rattle.stream_reset_handler.specs.declared.handler.StreamResetHandler.{StreamResetHandler}
 use Rattle.stream_reset_handler.specs.declared.making.RequestAnswer.{RequestAnswer}
 use Rattle.stream_reset_handler.specs.declared.making.RequestAnswer.TheVariants as request
@@ -21,12 +21,12 @@ use Rattle.stream_reset_handler.specs.Receiving.{HandleMeets, ResetHandlerMeets}
 
 -- 0 the next request number, 1 a flag: whether a request is underway, 2 its number. Any three numbers are a handler.
 abbrev pub handler_in : List ℕ → StreamResetHandler
-handler_in hs = pick (eqb (get_or hs 1 0) 0) (record { next_number = get_or hs 0 0; underway = underway.Nothing }) (record { next_number = get_or hs 0 0; underway = underway.Number (get_or hs 2 0) })
+handler_in hs = pick (eqb (get_or hs 1 0) 0) (record { next_number = get_or hs 0 0; underway = None }) (record { next_number = get_or hs 0 0; underway = Some (get_or hs 2 0) })
 
 -- The place of a number with none underway stays.
 abbrev pub underway_numbers : List ℕ → Underway → List ℕ
-underway_numbers hs underway.Nothing = set hs 1 0
-underway_numbers hs (underway.Number n) = set (set hs 1 1) 2 n
+underway_numbers hs None = set hs 1 0
+underway_numbers hs (Some n) = set (set hs 1 1) 2 n
 
 abbrev pub handler_numbers : List ℕ → StreamResetHandler → List ℕ
 handler_numbers hs h = underway_numbers (set hs 0 h.next_number) h.underway

@@ -9,7 +9,6 @@ use out_array::{OUT_WORDS, VALUE};
 use queue_streams::Call;
 use stream_reset_handler::{
     HandledResponse, MadeRequest, QueueReset, RequestAnswer, ResponseAnswer, StreamResetHandler,
-    Underway,
 };
 
 // The numbers of a handler, and how many.
@@ -40,12 +39,12 @@ pub fn handler_in(numbers: &[u32; HANDLER_NUMBERS]) -> StreamResetHandler
     if is_underway == 0 {
         return StreamResetHandler {
             next_number: next_number,
-            underway: Underway::Nothing,
+            underway: None,
         };
     }
     StreamResetHandler {
         next_number: next_number,
-        underway: Underway::Number(number),
+        underway: Some(number),
     }
 }
 
@@ -55,10 +54,10 @@ pub fn put_handler(numbers: &mut [u32; HANDLER_NUMBERS], handler: StreamResetHan
     let underway = handler.underway;
     numbers[NEXT_NUMBER] = handler.next_number;
     match underway {
-        Underway::Nothing => {
+        None => {
             numbers[IS_UNDERWAY] = 0;
         }
-        Underway::Number(n) => {
+        Some(n) => {
             numbers[IS_UNDERWAY] = 1;
             numbers[UNDERWAY_NUMBER] = n;
         }

@@ -22,11 +22,11 @@ use Rattle.queue_runs.proofs.Steps.{step_link}
 use Rattle.reset_model.specs.Wire as wire
 use Rattle.reset_model.specs.Wire.{request_size}
 use Rattle.reset_wire.specs.Reading.{response_of}
-use Rattle.reset_wire.specs.declared.reading.Response.{Response}
-use Rattle.reset_wire.specs.declared.reading.Response.TheVariants as response
+use Rattle.reset_wire.specs.Response.{Response}
+use Rattle.reset_wire.specs.Response as response
 use Rattle.stream_reset_handler.specs.declared.handler.StreamResetHandler.{StreamResetHandler}
-use Rattle.stream_reset_handler.specs.declared.handler.Underway.{Underway}
-use Rattle.stream_reset_handler.specs.declared.handler.Underway.TheVariants as underway
+use Rattle.stream_reset_handler.specs.Underway.{Underway}
+use Rattle.std.specs.Prelude.{Some, None}
 use Rattle.stream_reset_handler.specs.declared.making.RequestAnswer.TheVariants as making
 use Rattle.stream_reset_handler.specs.declared.receiving.ResponseAnswer.TheVariants as receiving
 use Rattle.stream_reset_handler.specs.Handler.{is_underway}
@@ -71,8 +71,8 @@ module _ (out : List ℕ) (response_number last_tsn : ℕ) (p : Pair) where
   for_count (number.Value k) e = for_value k (eqb k 0) (ltb (length out) (request_size k))
 
   for_underway : (u : Underway) → GoodState p.queue → sixteen_request (request_in u (ready_in ws) ws p.handler out response_number last_tsn).made.answer ≡ false
-  for_underway (underway.Number k) g = refl
-  for_underway underway.Nothing g = for_count (ready_count ws) (count_not p.queue g)
+  for_underway (Some k) g = refl
+  for_underway None g = for_count (ready_count ws) (count_not p.queue g)
 
   request_not : GoodState p.queue → sixteen_request (requested out response_number last_tsn p).made.answer ≡ false
   unfolding make_request

@@ -5,8 +5,8 @@ use mathlib.Core.Option.{none, some}
 use Prim.Native.Nat.{ℕ}
 use Rattle.queue_state.specs.Good.{Good}
 use Rattle.reset_model.specs.Handler as model
-use Rattle.stream_reset_handler.specs.declared.handler.Underway.{Underway}
-use Rattle.stream_reset_handler.specs.declared.handler.Underway.TheVariants as underway
+use Rattle.stream_reset_handler.specs.Underway.{Underway}
+use Rattle.std.specs.Prelude.{Some, None}
 use Rattle.stream_reset_handler.specs.declared.handler.StreamResetHandler.{StreamResetHandler}
 use Rattle.stream_reset_handler.specs.Handler.{handler_of}
 use Rattle.owned_streams.specs.Own.{OwnWords}
@@ -21,8 +21,8 @@ meant : (h : StreamResetHandler) → Meant h
 meant h = by h.underway refl
   where
     by : (u : Underway) → h.underway ≡ u → Meant h
-    by underway.Nothing e = record { meaning = record { next_number = h.next_number; underway = none }; same = ap (λ (x : Underway). record { next_number = h.next_number; underway = x }) e }
-    by (underway.Number n) e = record { meaning = record { next_number = h.next_number; underway = some (record { number = n; streams = [] }) }; same = ap (λ (x : Underway). record { next_number = h.next_number; underway = x }) e }
+    by None e = record { meaning = record { next_number = h.next_number; underway = none }; same = ap (λ (x : Underway). record { next_number = h.next_number; underway = x }) e }
+    by (Some n) e = record { meaning = record { next_number = h.next_number; underway = some (record { number = n; streams = [] }) }; same = ap (λ (x : Underway). record { next_number = h.next_number; underway = x }) e }
 
 keeps : (ws ws' : List ℕ) → ((st : List ℕ) → Good ws st → Good ws' st) → Keeps ws ws'
 keeps ws ws' f = (f, λ (y : OwnWords ws). record { store = y.store; good = f y.store y.good })

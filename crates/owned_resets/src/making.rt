@@ -1,6 +1,6 @@
 // Making a request.
 ghost use Rattle.std.specs.Prelude.{◌≡◌};
-ghost use Rattle.stream_reset_handler.specs.declared.handler.Underway.TheVariants as underway;
+ghost use Rattle.std.specs.Prelude.{None};
 ghost use Rattle.stream_reset_handler.specs.Making.{MakeMeets};
 ghost use Rattle.owned_streams.specs.Own.{OwnWords};
 ghost use Rattle.owned_resets.specs.Answers.{made_as};
@@ -9,7 +9,7 @@ use owned_restarts::get_streams_ready_to_reset;
 use owned_streams::count_streams_ready_to_reset;
 use queue_words::QUEUE_WORDS;
 use reset_wire::request_size;
-use stream_reset_handler::{StreamResetHandler, Underway, write_next};
+use stream_reset_handler::{StreamResetHandler, write_next};
 
 // A message of so many bytes, or no stream ready; 25 and 26 are the refusals.
 #[derive(Clone, Copy)]
@@ -34,7 +34,7 @@ fn request_now(
     response_number: u32,
     last_tsn: u32,
 ) -> MadeRequest
-    requires { OwnWords queue.old × (handler.underway ≡ underway.Nothing) }
+    requires { OwnWords queue.old × (handler.underway ≡ None) }
     ensures { MakeMeets queue.old handler output.old response_number last_tsn (made_as result) queue.new output.new }
 {
     let count = count_streams_ready_to_reset(&*queue);
@@ -80,8 +80,8 @@ pub fn make_request(
 {
     let underway = handler.underway;
     match underway {
-        Underway::Nothing => request_now(queue, handler, output, response_number, last_tsn),
-        Underway::Number(_) => MadeRequest {
+        None => request_now(queue, handler, output, response_number, last_tsn),
+        Some(_) => MadeRequest {
             answer: RequestAnswer::Underway,
             handler: handler,
         },

@@ -2,7 +2,7 @@
 use lent_calls::TOO_SHORT;
 use send_queue::QUEUE_WORDS;
 use stream_reset_handler::{
-    HandledResponse, MadeRequest, RequestAnswer, ResponseAnswer, StreamResetHandler, Underway,
+    HandledResponse, MadeRequest, RequestAnswer, ResponseAnswer, StreamResetHandler,
     handle_response, make_request, reset, start,
 };
 use trace_answers::marks::{BEFORE, OUTPUT, SHOWN, as_before};
@@ -27,26 +27,26 @@ fn handler_of(state: &[u64; STATE]) -> StreamResetHandler {
     if state[IS_UNDERWAY] == 1 {
         return StreamResetHandler {
             next_number: next_number,
-            underway: Underway::Number(number),
+            underway: Some(number),
         };
     }
     StreamResetHandler {
         next_number: next_number,
-        underway: Underway::Nothing,
+        underway: None,
     }
 }
 
-fn underway_number(underway: Underway, none: u64) -> u64 {
+fn underway_number(underway: Option<u32>, none: u64) -> u64 {
     match underway {
-        Underway::Nothing => none,
-        Underway::Number(n) => n as u64,
+        None => none,
+        Some(n) => n as u64,
     }
 }
 
-fn is_underway(underway: Underway) -> u64 {
+fn is_underway(underway: Option<u32>) -> u64 {
     match underway {
-        Underway::Nothing => 0,
-        Underway::Number(_) => 1,
+        None => 0,
+        Some(_) => 1,
     }
 }
 

@@ -21,10 +21,10 @@ use Rattle.queue_runs.specs.Meaning.{AllTyped}
 use Rattle.reset_model.specs.Wire as wire
 use Rattle.reset_model.specs.Wire.{request_size}
 use Rattle.reset_wire.specs.Reading.{response_of}
-use Rattle.reset_wire.specs.declared.reading.Response.{Response}
-use Rattle.reset_wire.specs.declared.reading.Response.TheVariants as response
-use Rattle.stream_reset_handler.specs.declared.handler.Underway.{Underway}
-use Rattle.stream_reset_handler.specs.declared.handler.Underway.TheVariants as underway
+use Rattle.reset_wire.specs.Response.{Response}
+use Rattle.reset_wire.specs.Response as response
+use Rattle.stream_reset_handler.specs.Underway.{Underway}
+use Rattle.std.specs.Prelude.{Some, None}
 use Rattle.stream_reset_handler.specs.declared.making.RequestAnswer.TheVariants as making
 use Rattle.stream_reset_handler.specs.declared.receiving.ResponseAnswer.TheVariants as receiving
 use Rattle.stream_reset_handler.specs.Handler.{is_underway}
@@ -72,8 +72,8 @@ module _ (out : List ℕ) (response_number last_tsn : ℕ) (p : Pair) where
   for_count (number.Value k) = for_value k (eqb k 0) (ltb (length out) (request_size k))
 
   for_underway : (u : Underway) → Leaves p.queue (request_in u (ready_in ws) ws p.handler out response_number last_tsn).words
-  for_underway (underway.Number k) = nothing p.queue
-  for_underway underway.Nothing = for_count (ready_count ws)
+  for_underway (Some k) = nothing p.queue
+  for_underway None = for_count (ready_count ws)
 
 finishes : (p : Pair) (z : Bool) (a : Call) → Leaves p.queue (finished_by z a (reopen z p.queue.words).next p.handler).words
 finishes p z (call.Accepted k) = reopens z p.queue

@@ -26,10 +26,10 @@ use Rattle.queue_runs.proofs.Stays.{refused_unchanged}
 use Rattle.queue_runs.proofs.Listed.{refusals_listed}
 use Rattle.reset_model.specs.Wire as wire
 use Rattle.reset_wire.specs.Reading.{response_of}
-use Rattle.reset_wire.specs.declared.reading.Response.{Response}
-use Rattle.reset_wire.specs.declared.reading.Response.TheVariants as response
-use Rattle.stream_reset_handler.specs.declared.handler.Underway.{Underway}
-use Rattle.stream_reset_handler.specs.declared.handler.Underway.TheVariants as underway
+use Rattle.reset_wire.specs.Response.{Response}
+use Rattle.reset_wire.specs.Response as response
+use Rattle.stream_reset_handler.specs.Underway.{Underway}
+use Rattle.std.specs.Prelude.{Some, None}
 use Rattle.stream_reset_handler.specs.declared.making.RequestAnswer.{RequestAnswer}
 use Rattle.stream_reset_handler.specs.declared.making.RequestAnswer.TheVariants as making
 use Rattle.stream_reset_handler.specs.declared.receiving.ResponseAnswer.{ResponseAnswer}
@@ -134,8 +134,8 @@ module _ (out : List ℕ) (response_number last_tsn : ℕ) (p : Pair) (n : ℕ) 
   for_count (number.Value k) d e = for_value k (eqb k 0) (ltb (length out) (request_size k)) e
 
   for_underway : (u : Underway) → (request_in u (ready_in ws) ws p.handler out response_number last_tsn).made.answer ≡ making.Refused n → Claim (request_in u (ready_in ws) ws p.handler out response_number last_tsn)
-  for_underway (underway.Number k) e = by_number 25 refl e
-  for_underway underway.Nothing e = for_count (ready_count ws) refl e
+  for_underway (Some k) e = by_number 25 refl e
+  for_underway None e = for_count (ready_count ws) refl e
 
   request_left : (requested out response_number last_tsn p).made.answer ≡ making.Refused n → Refused (uses.request out response_number last_tsn) p n (25 ∷ 16 ∷ 26 ∷ []) × ((requested out response_number last_tsn p).output ≡ out)
   unfolding make_request used

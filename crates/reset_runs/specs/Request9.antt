@@ -7,8 +7,8 @@ use Rattle.queue_runs.specs.Demand3.{Reached, Accepts, restored}
 use Rattle.queue_runs.specs.Meaning.{queue_of}
 use Rattle.reset_model.specs.Handler as model
 use Rattle.reset_model.specs.Uses.{Message}
-use Rattle.stream_reset_handler.specs.declared.handler.Underway.{Underway}
-use Rattle.stream_reset_handler.specs.declared.handler.Underway.TheVariants as underway
+use Rattle.stream_reset_handler.specs.Underway.{Underway}
+use Rattle.std.specs.Prelude.{Some, None}
 use Rattle.stream_reset_handler.specs.Handler.{handler_of}
 use Rattle.reset_runs.specs.Uses.{Use, AllAllowed, Pair, pair, after, last_message}
 
@@ -27,8 +27,8 @@ resetting_in s = model.resetting_ids (queue_of s).streams
 -- "exactly the streams of the request underway are resetting, none without one": with one, its message is the last one written and names these streams,
 -- in ascending order.
 abbrev pub Named : Underway → List ℕ → Option (List ℕ) → Type 0
-Named underway.Nothing ids last = ids ≡ []
-Named (underway.Number n) ids last = Message n ids last
+Named None ids last = ids ≡ []
+Named (Some n) ids last = Message n ids last
 
 -- "From its start on a new or restored queue, with ready ids, commit, rollback and that reset called only by it, exactly the streams of the request
 -- underway are resetting, none without

@@ -11,8 +11,8 @@ use Rattle.queue_model.specs.Logic.{only_if, and_then}
 use Rattle.big_endian.specs.Numbers.{number_at}
 use Rattle.reset_model.specs.Wire as wire
 use Rattle.reset_model.specs.Wire.{verdict_of, is_response, read_response}
-use Rattle.reset_wire.specs.declared.reading.Response.{Response}
-use Rattle.reset_wire.specs.declared.reading.Response.TheVariants.{Commits, RollsBack, KeepsWaiting, Malformed}
+use Rattle.reset_wire.specs.Response.{Response}
+use Rattle.reset_wire.specs.Response.{Commits, RollsBack, KeepsWaiting, Malformed}
 use Rattle.reset_wire.specs.Reading.{judged_as, response_of}
 
 -- ---- the result

@@ -29,8 +29,8 @@ use Rattle.send_queue.specs.Queue.{number_of}
 use Rattle.reset_model.specs.Wire.{request_size, request_bytes}
 use Rattle.reset_model.specs.Handler as model
 use Rattle.reset_wire.proofs.Puts.{request_long}
-use Rattle.stream_reset_handler.specs.declared.handler.Underway.{Underway}
-use Rattle.stream_reset_handler.specs.declared.handler.Underway.TheVariants as underway
+use Rattle.stream_reset_handler.specs.Underway.{Underway}
+use Rattle.std.specs.Prelude.{Some, None}
 use Rattle.stream_reset_handler.specs.declared.handler.StreamResetHandler.{StreamResetHandler}
 use Rattle.stream_reset_handler.specs.declared.making.RequestAnswer.TheVariants.{Written, NoneReady, Refused}
 use Rattle.stream_reset_handler.specs.declared.making.MadeRequest.{MadeRequest}
@@ -39,11 +39,11 @@ use Rattle.stream_reset_handler.specs.Making.{MadeWith, made_with, told, next_ha
 
 -- ---- the model's step, by what decides it
 
-none_under : (u : Option model.Request) → underway.Nothing ≡ underway_of u → u ≡ none
+none_under : (u : Option model.Request) → None ≡ underway_of u → u ≡ none
 none_under none e = refl
 none_under (some u) e = let z : ◌≡◌ {A = ℕ} 0 1 = cc in absurd (omega arith)
 
-some_under : (n : ℕ) (u : Option model.Request) → underway.Number n ≡ underway_of u → (room response tsn : ℕ) (r : model.Handler) (q : Queue) → model.request_in u room response tsn r q ≡ model.effect (model.refused 25) r q
+some_under : (n : ℕ) (u : Option model.Request) → Some n ≡ underway_of u → (room response tsn : ℕ) (r : model.Handler) (q : Queue) → model.request_in u room response tsn r q ≡ model.effect (model.refused 25) r q
 unfolding model.request_in
 some_under n none e room response tsn r q = let z : ◌≡◌ {A = ℕ} 0 1 = cc in absurd (omega arith)
 some_under n (some u) e room response tsn r q = refl
@@ -57,7 +57,7 @@ unfolding run.step Calls.ready_count
 count_told q = refl
 
 module _ (room response tsn : ℕ) (r : model.Handler) (q : Queue) where
-  effect_25 : (n : ℕ) → underway.Number n ≡ underway_of r.underway → model.make_request room response tsn r q ≡ model.effect (model.refused 25) r q
+  effect_25 : (n : ℕ) → Some n ≡ underway_of r.underway → model.make_request room response tsn r q ≡ model.effect (model.refused 25) r q
   unfolding model.make_request
   effect_25 n e = some_under n r.underway e room response tsn r q
 
@@ -86,7 +86,7 @@ module _ (ws : List ℕ) (h : StreamResetHandler) (out : List ℕ) (response tsn
   under_is : (r : model.Handler) → h ≡ handler_of r → h.underway ≡ underway_of r.underway
   under_is r e = ap (λ (x : StreamResetHandler). x.underway) e
 
-  pub made_25 : (n : ℕ) → h.underway ≡ underway.Number n → MakeMeets ws h out response tsn (told (Refused 25) h) ws out
+  pub made_25 : (n : ℕ) → h.underway ≡ Some n → MakeMeets ws h out response tsn (told (Refused 25) h) ws out
   made_25 n e = record {
     words = λ q i. unfold make_request in rw e;
     model = λ st g r eh. subst (λ (x : model.Effect). Makes x st out (told (Refused 25) h) ws out)
@@ -94,7 +94,7 @@ module _ (ws : List ℕ) (h : StreamResetHandler) (out : List ℕ) (response tsn
         (record { good = g; next = refl; answer = refl; handler = eh; output = refl });
   }
 
-  module _ (e : h.underway ≡ underway.Nothing) where
+  module _ (e : h.underway ≡ None) where
     none_is : (r : model.Handler) → h ≡ handler_of r → r.underway ≡ none
     none_is r eh = none_under r.underway (sym e ∙ under_is r eh)
 
@@ -173,7 +173,7 @@ module _ (ws : List ℕ) (out : List ℕ) (count : ℕ) (c : CountMeets ws (numb
   pub may_write : (size : ℕ) → size ≡ request_size count → size ≤ length out → (rs : ReadyStreams) (ws' : List ℕ) → ReadyMeets ws rs ws' → (count ≤ 256) × (count ≤ length rs.ids) × (request_size count ≤ length out)
   may_write size es l rs ws' m = let f = few ws count c in let p = m.places in (f, omega arith, subst (λ (k : ℕ). k ≤ length out) es l)
 
-  module _ (h : StreamResetHandler) (response tsn : ℕ) (e : h.underway ≡ underway.Nothing) (n : count ≡ 0 → ⊥) (size : ℕ) (es : size ≡ request_size count) where
+  module _ (h : StreamResetHandler) (response tsn : ℕ) (e : h.underway ≡ None) (n : count ≡ 0 → ⊥) (size : ℕ) (es : size ≡ request_size count) where
     pub made_short : length out < size → MakeMeets ws h out response tsn (told (Refused 26) h) ws out
     made_short l = made_26 ws h out response tsn e count c n (subst (λ (k : ℕ). length out < k) es l)
 
@@ -190,7 +190,7 @@ module _ (ws : List ℕ) (h : StreamResetHandler) (out : List ℕ) (response tsn
   abbrev MadeAs : MadeWith → Type 0
   MadeAs x = MakeMeets ws h out response tsn x.made x.words x.output
 
-  module _ (eu : h.underway ≡ underway.Nothing) where
+  module _ (eu : h.underway ≡ None) where
     meets_value : (n : ℕ) → CountMeets ws (number.Value n) → MadeAs (request_for (number.Value n) q ws h out response tsn)
     meets_value n c = go (eqb n 0) (ltb (length out) (request_size n)) refl refl
       where
@@ -211,5 +211,5 @@ module _ (ws : List ℕ) (h : StreamResetHandler) (out : List ℕ) (response tsn
   make_meets = by h.underway refl
     where
       by : (u : Underway) → h.underway ≡ u → MadeAs (request_in u q ws h out response tsn)
-      by (underway.Number n) e = made_25 ws h out response tsn n e
-      by underway.Nothing e = meets_count e q.count i.counts
+      by (Some n) e = made_25 ws h out response tsn n e
+      by None e = meets_count e q.count i.counts

@@ -2,3 +2,4 @@
 pub mod Handler
 pub mod Making
 pub mod Receiving
+pub mod Underway

@@ -11,8 +11,8 @@ use Rattle.send_queue.specs.Queue.{Good}
 use Rattle.send_queue.specs.Restarts.{CountMeets, ReadyMeets}
 use Rattle.reset_model.specs.Wire.{request_size, request_bytes}
 use Rattle.reset_model.specs.Handler as model
-use Rattle.stream_reset_handler.specs.declared.handler.Underway.{Underway}
-use Rattle.stream_reset_handler.specs.declared.handler.Underway.TheVariants as underway
+use Rattle.stream_reset_handler.specs.Underway.{Underway}
+use Rattle.std.specs.Prelude.{Some, None}
 use Rattle.stream_reset_handler.specs.declared.handler.StreamResetHandler.{StreamResetHandler}
 use Rattle.stream_reset_handler.specs.declared.making.RequestAnswer.{RequestAnswer}
 use Rattle.stream_reset_handler.specs.declared.making.RequestAnswer.TheVariants.{Written, NoneReady, Refused}
@@ -35,7 +35,7 @@ told a h = record { answer = a; handler = h }
 
 -- "Request numbers [..] grow by one a message and wrap at 32 bits."
 abbrev pub next_handler : StreamResetHandler → StreamResetHandler
-next_handler h = record { next_number = wrap_suc 32 h.next_number; underway = underway.Number h.next_number }
+next_handler h = record { next_number = wrap_suc 32 h.next_number; underway = Some h.next_number }
 
 -- A message with these ids at the output's start; "lent output past what is written stays unchanged" (1/13).
 abbrev pub message_in : List ℕ → StreamResetHandler → ℕ → ℕ → List ℕ → List ℕ
@@ -62,8 +62,8 @@ request_for (number.Value n) q ws h out response_number last_tsn =
 
 -- 25: "a request is wanted while one is underway"; "25 comes first".
 abbrev pub request_in : Underway → Ready → List ℕ → StreamResetHandler → List ℕ → ℕ → ℕ → MadeWith
-request_in (underway.Number n) q ws h out response_number last_tsn = made_with (told (Refused 25) h) ws out
-request_in underway.Nothing q ws h out response_number last_tsn = request_for q.count q ws h out response_number last_tsn
+request_in (Some n) q ws h out response_number last_tsn = made_with (told (Refused 25) h) ws out
+request_in None q ws h out response_number last_tsn = request_for q.count q ws h out response_number last_tsn
 
 unfoldable pub make_request : Ready → List ℕ → StreamResetHandler → List ℕ → ℕ → ℕ → MadeWith
 make_request q ws h out response_number last_tsn = request_in h.underway q ws h out response_number last_tsn

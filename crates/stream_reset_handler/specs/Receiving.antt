@@ -9,8 +9,8 @@ use Rattle.send_queue.specs.Restarts.{CommitMeets, RollbackMeets, ResetMeets}
 use Rattle.reset_model.specs.Wire as wire
 use Rattle.reset_model.specs.Handler as model
 use Rattle.reset_wire.specs.Reading.{response_of}
-use Rattle.reset_wire.specs.declared.reading.Response.{Response}
-use Rattle.reset_wire.specs.declared.reading.Response.TheVariants as response
+use Rattle.reset_wire.specs.Response.{Response}
+use Rattle.reset_wire.specs.Response as response
 use Rattle.stream_reset_handler.specs.declared.handler.StreamResetHandler.{StreamResetHandler}
 use Rattle.stream_reset_handler.specs.declared.receiving.ResponseAnswer.{ResponseAnswer}
 use Rattle.stream_reset_handler.specs.declared.receiving.ResponseAnswer.TheVariants.{Ignored, Committed, RolledBack, StillWaiting, Refused}

@@ -4,17 +4,11 @@ ghost use Rattle.types.specs.Wrap.{wrap_suc};
 ghost use Rattle.reset_model.specs.Handler as model;
 ghost use Rattle.stream_reset_handler.specs.Handler.{handler_of, is_underway, ended_as};
 
-// The number of the request underway, or none.
-#[derive(Clone, Copy)]
-pub enum Underway {
-    Nothing,
-    Number(u32),
-}
-
 #[derive(Clone, Copy)]
 pub struct StreamResetHandler {
     pub next_number: u32,
-    pub underway: Underway,
+    // The number of the request underway.
+    pub underway: Option<u32>,
 }
 
 // "Request numbers start at a given one".
@@ -23,7 +17,7 @@ pub fn start(number: u32) -> StreamResetHandler
 {
     StreamResetHandler {
         next_number: number,
-        underway: Underway::Nothing,
+        underway: None,
     }
 }
 
@@ -31,27 +25,17 @@ pub fn start(number: u32) -> StreamResetHandler
 pub fn number_after(number: u32) -> u32
     ensures { result ≡ wrap_suc 32 number }
 {
-    if number == 4294967295 {
-        return 0;
-    }
-    number + 1
+    number.wrapping_add(1)
 }
 
 pub fn is_underway(handler: StreamResetHandler, number: u32) -> bool
     ensures { result ≡ is_underway handler number }
 {
-    let underway = handler.underway;
-    match underway {
-        Underway::Nothing => false,
-        Underway::Number(n) => number == n,
-    }
+    handler.underway == Some(number)
 }
 
 pub fn ended(handler: StreamResetHandler) -> StreamResetHandler
     ensures { result ≡ ended_as handler }
 {
-    StreamResetHandler {
-        next_number: handler.next_number,
-        underway: Underway::Nothing,
-    }
+    StreamResetHandler { underway: None, ..handler }
 }

@@ -6,7 +6,7 @@ mod handler;
 mod making;
 mod receiving;
 
-pub use handler::{StreamResetHandler, Underway, start};
+pub use handler::{StreamResetHandler, start};
 pub use making::{MadeRequest, RequestAnswer, make_request};
 pub use receiving::{HandledResponse, QueueReset, ResponseAnswer, handle_response, reset};
 // What the owned calls share with these.

@@ -3,10 +3,10 @@ ghost use Rattle.std.specs.Prelude.{◌≡◌, ◌≤◌, length, take};
 ghost use Rattle.reset_model.specs.Wire.{request_size};
 ghost use Rattle.send_queue.specs.Number as number;
 ghost use Rattle.send_queue.specs.Restarts.{CountMeets};
-ghost use Rattle.stream_reset_handler.specs.declared.handler.Underway.TheVariants as underway;
+ghost use Rattle.std.specs.Prelude.{None};
 ghost use Rattle.stream_reset_handler.specs.Making.{next_handler, message_in, MakeMeets};
 
-use crate::handler::{StreamResetHandler, Underway, number_after};
+use crate::handler::{StreamResetHandler, number_after};
 use reset_wire::{request_size, write_request};
 use send_queue::{Number, QUEUE_WORDS, count_streams_ready_to_reset, get_streams_ready_to_reset};
 
@@ -41,7 +41,7 @@ pub fn write_next(
     let next = number_after(number);
     StreamResetHandler {
         next_number: next,
-        underway: Underway::Number(number),
+        underway: Some(number),
     }
 }
 
@@ -54,7 +54,7 @@ fn request_for(
     last_tsn: u32,
     count: u64,
 ) -> MadeRequest
-    requires { (CountMeets queue.old (number.Value count)) × (handler.underway ≡ underway.Nothing) }
+    requires { (CountMeets queue.old (number.Value count)) × (handler.underway ≡ None) }
     ensures { MakeMeets queue.old handler output.old response_number last_tsn result queue.new output.new }
 {
     if count == 0 {
@@ -93,7 +93,7 @@ fn request_now(
     response_number: u32,
     last_tsn: u32,
 ) -> MadeRequest
-    requires { handler.underway ≡ underway.Nothing }
+    requires { handler.underway ≡ None }
     ensures { MakeMeets queue.old handler output.old response_number last_tsn result queue.new output.new }
 {
     let counted = count_streams_ready_to_reset(&*queue);
@@ -125,8 +125,8 @@ pub fn make_request(
 {
     let underway = handler.underway;
     match underway {
-        Underway::Nothing => request_now(queue, handler, output, response_number, last_tsn),
-        Underway::Number(_) => MadeRequest {
+        None => request_now(queue, handler, output, response_number, last_tsn),
+        Some(_) => MadeRequest {
             answer: RequestAnswer::Refused(25),
             handler: handler,
         },

@@ -85,12 +85,11 @@ fn if_underway(handler: StreamResetHandler, number: u32, step: ResponseStep) -> 
 pub fn step_for(handler: StreamResetHandler, bytes: &[u8]) -> ResponseStep
     ensures { result ≡ step_of (response_of (read_response bytes.now)) handler }
 {
-    let response = read_response(bytes);
-    match response {
-        Response::Commits(n) => if_underway(handler, n, ResponseStep::Commit),
-        Response::RollsBack(n) => if_underway(handler, n, ResponseStep::RollBack),
-        Response::KeepsWaiting(n) => if_underway(handler, n, ResponseStep::Wait),
-        Response::Malformed => ResponseStep::Refuse,
+    match read_response(bytes) {
+        Some(Response::Commits(n)) => if_underway(handler, n, ResponseStep::Commit),
+        Some(Response::RollsBack(n)) => if_underway(handler, n, ResponseStep::RollBack),
+        Some(Response::KeepsWaiting(n)) => if_underway(handler, n, ResponseStep::Wait),
+        None => ResponseStep::Refuse,
     }
 }
 
