@@ -7,9 +7,9 @@ use lib.ListN.{get_or}
 use Rattle.queue_streams.specs.Answers.{call_number}
 use Rattle.stream_reset_handler.specs.declared.handler.StreamResetHandler.{StreamResetHandler}
 use Rattle.std.specs.Prelude.{Some, None}
-use Rattle.stream_reset_handler.specs.declared.making.MadeRequest.{MadeRequest}
-use Rattle.stream_reset_handler.specs.declared.receiving.HandledResponse.{HandledResponse}
-use Rattle.stream_reset_handler.specs.declared.receiving.QueueReset.{QueueReset}
+use Rattle.stream_reset_handler.specs.MadeRequest.{MadeRequest}
+use Rattle.stream_reset_handler.specs.HandledResponse.{HandledResponse}
+use Rattle.stream_reset_handler.specs.QueueReset.{QueueReset}
 use Rattle.stream_reset_handler.specs.Making.{MakeMeets}
 use Rattle.stream_reset_handler.specs.Receiving.{HandleMeets, ResetHandlerMeets}
 use Rattle.host_handler.specs.Handler.{handler_in, request_number, request_out, request_handler, response_number_words, response_out, response_handler, reset_handler, GivesRequest, GivesResponse, GivesReset}

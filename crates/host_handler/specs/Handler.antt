@@ -7,13 +7,13 @@ use Rattle.queue_streams.specs.Call as call
 use Rattle.stream_reset_handler.specs.Underway.{Underway}
 use Rattle.std.specs.Prelude.{Some, None}
 use Rattle.stream_reset_handler.specs.declared.handler.StreamResetHandler.{StreamResetHandler}
-use Rattle.stream_reset_handler.specs.declared.making.RequestAnswer.{RequestAnswer}
-use Rattle.stream_reset_handler.specs.declared.making.RequestAnswer.TheVariants as request
-use Rattle.stream_reset_handler.specs.declared.making.MadeRequest.{MadeRequest}
-use Rattle.stream_reset_handler.specs.declared.receiving.ResponseAnswer.{ResponseAnswer}
-use Rattle.stream_reset_handler.specs.declared.receiving.ResponseAnswer.TheVariants as response
-use Rattle.stream_reset_handler.specs.declared.receiving.HandledResponse.{HandledResponse}
-use Rattle.stream_reset_handler.specs.declared.receiving.QueueReset.{QueueReset}
+use Rattle.stream_reset_handler.specs.RequestAnswer.{RequestAnswer}
+use Rattle.stream_reset_handler.specs.RequestAnswer as request
+use Rattle.stream_reset_handler.specs.MadeRequest.{MadeRequest}
+use Rattle.stream_reset_handler.specs.ResponseAnswer.{ResponseAnswer}
+use Rattle.stream_reset_handler.specs.ResponseAnswer as response
+use Rattle.stream_reset_handler.specs.HandledResponse.{HandledResponse}
+use Rattle.stream_reset_handler.specs.QueueReset.{QueueReset}
 use Rattle.stream_reset_handler.specs.Making.{MakeMeets}
 use Rattle.stream_reset_handler.specs.Receiving.{HandleMeets, ResetHandlerMeets}
 

@@ -7,10 +7,10 @@ use Rattle.queue_runs.specs.Calls as calls
 use Rattle.queue_runs.specs.Calls.{Call, Typed}
 use Rattle.queue_runs.specs.Run.{State, step}
 use Rattle.queue_runs.specs.Creation.{Arguments, creation, sixteen}
-use Rattle.stream_reset_handler.specs.declared.making.RequestAnswer.{RequestAnswer}
-use Rattle.stream_reset_handler.specs.declared.making.RequestAnswer.TheVariants as making
-use Rattle.stream_reset_handler.specs.declared.receiving.ResponseAnswer.{ResponseAnswer}
-use Rattle.stream_reset_handler.specs.declared.receiving.ResponseAnswer.TheVariants as receiving
+use Rattle.stream_reset_handler.specs.RequestAnswer.{RequestAnswer}
+use Rattle.stream_reset_handler.specs.RequestAnswer as making
+use Rattle.stream_reset_handler.specs.ResponseAnswer.{ResponseAnswer}
+use Rattle.stream_reset_handler.specs.ResponseAnswer as receiving
 use Rattle.reset_runs.specs.Uses.{Use, request, response, reset, other, Pair, requested, responded, was_reset, used}
 
 -- A call on a queue.

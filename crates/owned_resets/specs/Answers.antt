@@ -1,13 +1,13 @@
 -- "If an answer is an enum, a definition states this paper's number and values for each case of the enum." Of the handler's owned calls, as the checked call says it; 16 is none of them. Assumes nothing.
 use Rattle.send_queue.specs.Call as call
 use Rattle.stream_reset_handler.specs.declared.handler.StreamResetHandler.{StreamResetHandler}
-use Rattle.stream_reset_handler.specs.declared.making.RequestAnswer as checked_making
-use Rattle.stream_reset_handler.specs.declared.making.RequestAnswer.TheVariants as making
-use Rattle.stream_reset_handler.specs.declared.making.MadeRequest as checked_made
-use Rattle.stream_reset_handler.specs.declared.receiving.ResponseAnswer as checked_receiving
-use Rattle.stream_reset_handler.specs.declared.receiving.ResponseAnswer.TheVariants as receiving
-use Rattle.stream_reset_handler.specs.declared.receiving.HandledResponse as checked_handled
-use Rattle.stream_reset_handler.specs.declared.receiving.QueueReset.{QueueReset}
+use Rattle.stream_reset_handler.specs.RequestAnswer as checked_making
+use Rattle.stream_reset_handler.specs.RequestAnswer as making
+use Rattle.stream_reset_handler.specs.MadeRequest as checked_made
+use Rattle.stream_reset_handler.specs.ResponseAnswer as checked_receiving
+use Rattle.stream_reset_handler.specs.ResponseAnswer as receiving
+use Rattle.stream_reset_handler.specs.HandledResponse as checked_handled
+use Rattle.stream_reset_handler.specs.QueueReset.{QueueReset}
 use Rattle.owned_resets.specs.declared.making.RequestAnswer.{RequestAnswer}
 use Rattle.owned_resets.specs.declared.making.RequestAnswer.TheVariants.{Written, NoneReady, Underway, OutputShort}
 use Rattle.owned_resets.specs.declared.making.MadeRequest.{MadeRequest}

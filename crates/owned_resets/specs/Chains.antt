@@ -2,9 +2,9 @@
 use Rattle.std.specs.Prelude.{ℕ, List}
 use Rattle.queue_state.specs.Good.{Good}
 use Rattle.stream_reset_handler.specs.declared.handler.StreamResetHandler.{StreamResetHandler}
-use Rattle.stream_reset_handler.specs.declared.making.MadeRequest.{MadeRequest}
-use Rattle.stream_reset_handler.specs.declared.receiving.HandledResponse.{HandledResponse}
-use Rattle.stream_reset_handler.specs.declared.receiving.QueueReset.{QueueReset}
+use Rattle.stream_reset_handler.specs.MadeRequest.{MadeRequest}
+use Rattle.stream_reset_handler.specs.HandledResponse.{HandledResponse}
+use Rattle.stream_reset_handler.specs.QueueReset.{QueueReset}
 use Rattle.stream_reset_handler.specs.Making.{MakeMeets}
 use Rattle.stream_reset_handler.specs.Receiving.{HandleMeets, ResetHandlerMeets}
 use Rattle.owned_streams.specs.Own.{OwnWords}

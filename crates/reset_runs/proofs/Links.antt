@@ -16,7 +16,7 @@ use Rattle.queue_runs.proofs.Steps.{step_link, typed_call}
 use Rattle.reset_model.specs.Handler as handlers
 use Rattle.reset_model.specs.Uses as model
 use Rattle.stream_reset_handler.specs.declared.handler.StreamResetHandler.{StreamResetHandler}
-use Rattle.stream_reset_handler.specs.declared.making.RequestAnswer.{RequestAnswer}
+use Rattle.stream_reset_handler.specs.RequestAnswer.{RequestAnswer}
 use Rattle.stream_reset_handler.specs.Handler.{handler_of}
 use Rattle.stream_reset_handler.specs.Making.{request_answer_of, output_of}
 use Rattle.stream_reset_handler.proofs.Makes.{make_meets}

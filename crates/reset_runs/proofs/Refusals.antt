@@ -30,10 +30,10 @@ use Rattle.reset_wire.specs.Response.{Response}
 use Rattle.reset_wire.specs.Response as response
 use Rattle.stream_reset_handler.specs.Underway.{Underway}
 use Rattle.std.specs.Prelude.{Some, None}
-use Rattle.stream_reset_handler.specs.declared.making.RequestAnswer.{RequestAnswer}
-use Rattle.stream_reset_handler.specs.declared.making.RequestAnswer.TheVariants as making
-use Rattle.stream_reset_handler.specs.declared.receiving.ResponseAnswer.{ResponseAnswer}
-use Rattle.stream_reset_handler.specs.declared.receiving.ResponseAnswer.TheVariants as receiving
+use Rattle.stream_reset_handler.specs.RequestAnswer.{RequestAnswer}
+use Rattle.stream_reset_handler.specs.RequestAnswer as making
+use Rattle.stream_reset_handler.specs.ResponseAnswer.{ResponseAnswer}
+use Rattle.stream_reset_handler.specs.ResponseAnswer as receiving
 use Rattle.stream_reset_handler.specs.Handler.{is_underway}
 use Rattle.stream_reset_handler.specs.Making.{MadeWith, make_request, request_in, request_for, written_for, made_with, told}
 use Rattle.stream_reset_handler.specs.Receiving.{HandledWith, handled_with, handled, handle_response, respond_to, finished_by, finished, ignored_in, reset_by}

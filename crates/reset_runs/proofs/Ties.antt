@@ -7,9 +7,9 @@ use Rattle.queue_restarts.specs.Reset.{reset_queue}
 use Rattle.linked_restarts.proofs.Contracts.{count_meets, ready_meets, commit_meets, rollback_meets, reset_meets}
 use Rattle.queue_runs.specs.Run.{state}
 use Rattle.stream_reset_handler.specs.declared.handler.StreamResetHandler.{StreamResetHandler}
-use Rattle.stream_reset_handler.specs.declared.making.MadeRequest.{MadeRequest}
-use Rattle.stream_reset_handler.specs.declared.receiving.HandledResponse.{HandledResponse}
-use Rattle.stream_reset_handler.specs.declared.receiving.QueueReset.{QueueReset}
+use Rattle.stream_reset_handler.specs.MadeRequest.{MadeRequest}
+use Rattle.stream_reset_handler.specs.HandledResponse.{HandledResponse}
+use Rattle.stream_reset_handler.specs.QueueReset.{QueueReset}
 use Rattle.stream_reset_handler.specs.Making.{made_with, IsReady, MakeMeets}
 use Rattle.stream_reset_handler.specs.Receiving.{handled_with, IsEnds, HandleMeets, reset_with, ResetHandlerMeets}
 use Rattle.reset_runs.specs.Uses.{pair, ready_in, outcome_of, ends_in, requested, responded, was_reset}

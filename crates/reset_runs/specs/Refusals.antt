@@ -2,8 +2,8 @@
 use Rattle.std.specs.Prelude.{ℕ, ◌≡◌, true, List, [], ◌∷◌}
 use Rattle.queue_streams.specs.Call as call
 use Rattle.queue_runs.specs.Numbers.{among}
-use Rattle.stream_reset_handler.specs.declared.making.RequestAnswer.TheVariants as making
-use Rattle.stream_reset_handler.specs.declared.receiving.ResponseAnswer.TheVariants as receiving
+use Rattle.stream_reset_handler.specs.RequestAnswer as making
+use Rattle.stream_reset_handler.specs.ResponseAnswer as receiving
 use Rattle.reset_runs.specs.Uses.{Use, request, response, reset, Pair, requested, responded, was_reset, used}
 
 -- Demand 1: "nothing changes in the queue or in any lent buffer when a call is refused, and it gives back only the number of document 01's list", to

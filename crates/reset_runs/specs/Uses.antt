@@ -9,8 +9,8 @@ use Rattle.queue_runs.specs.Calls.{Call, call_of, Typed}
 use Rattle.queue_runs.specs.Run.{State, state, step}
 use Rattle.reset_model.specs.Uses as model
 use Rattle.stream_reset_handler.specs.declared.handler.StreamResetHandler.{StreamResetHandler}
-use Rattle.stream_reset_handler.specs.declared.making.RequestAnswer.{RequestAnswer}
-use Rattle.stream_reset_handler.specs.declared.making.RequestAnswer.TheVariants.{Written, NoneReady, Refused}
+use Rattle.stream_reset_handler.specs.RequestAnswer.{RequestAnswer}
+use Rattle.stream_reset_handler.specs.RequestAnswer.{Written, NoneReady, Refused}
 use Rattle.stream_reset_handler.specs.Making.{Ready, MadeWith, make_request}
 use Rattle.stream_reset_handler.specs.Receiving.{Outcome, Ends, HandledWith, handle_response, ResetWith, reset_by}
 

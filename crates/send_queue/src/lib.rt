@@ -40,7 +40,7 @@ pub use linked_restoring::restore;
 pub use linked_saving::save;
 pub use saving::Saved;
 // Answers, the words and the event list.
-pub use queue_streams::{Call, EVENT_PLACES, EVENT_WORDS, Flag, Number, PLACE_WORDS};
+pub use queue_streams::{EVENT_PLACES, EVENT_WORDS, PLACE_WORDS};
 pub use queue_words::QUEUE_WORDS;
 // Counters and ids.
-pub use types::{Fsn, Mid, OutgoingMessageId, Ssn, StreamId, StreamKey};
+pub use types::{Fsn, Mid, OutgoingMessageId, Refusal, Ssn, StreamId, StreamKey};

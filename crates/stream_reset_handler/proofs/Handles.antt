@@ -27,10 +27,10 @@ use Rattle.reset_wire.specs.Reading.{judged_as, response_of}
 use Rattle.reset_wire.specs.Response.{Response}
 use Rattle.reset_wire.specs.Response as response
 use Rattle.stream_reset_handler.specs.declared.handler.StreamResetHandler.{StreamResetHandler}
-use Rattle.stream_reset_handler.specs.declared.receiving.ResponseAnswer.TheVariants.{Ignored, StillWaiting, Refused}
+use Rattle.stream_reset_handler.specs.ResponseAnswer.{Ignored, StillWaiting, Refused}
 use Rattle.stream_reset_handler.specs.declared.receiving.ResponseStep.{ResponseStep}
 use Rattle.stream_reset_handler.specs.declared.receiving.ResponseStep.TheVariants as step
-use Rattle.stream_reset_handler.specs.declared.receiving.HandledResponse.{HandledResponse}
+use Rattle.stream_reset_handler.specs.HandledResponse.{HandledResponse}
 use Rattle.stream_reset_handler.specs.Handler.{handler_of, underway_of, same_number, is_underway, ended_as}
 use Rattle.stream_reset_handler.specs.Receiving.{Outcome, HandledWith, handled_with, handled, finish_answer, finished_by, finished, ignored_in, Ends, respond_to, handle_response, step_of, IsEnds, reset_by, Handles, verdict_for, FinishedAs, FinishMeets, HandleMeets, Restarts, ResetHandlerMeets}
 

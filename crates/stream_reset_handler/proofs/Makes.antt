@@ -32,8 +32,8 @@ use Rattle.reset_wire.proofs.Puts.{request_long}
 use Rattle.stream_reset_handler.specs.Underway.{Underway}
 use Rattle.std.specs.Prelude.{Some, None}
 use Rattle.stream_reset_handler.specs.declared.handler.StreamResetHandler.{StreamResetHandler}
-use Rattle.stream_reset_handler.specs.declared.making.RequestAnswer.TheVariants.{Written, NoneReady, Refused}
-use Rattle.stream_reset_handler.specs.declared.making.MadeRequest.{MadeRequest}
+use Rattle.stream_reset_handler.specs.RequestAnswer.{Written, NoneReady, Refused}
+use Rattle.stream_reset_handler.specs.MadeRequest.{MadeRequest}
 use Rattle.stream_reset_handler.specs.Handler.{handler_of, underway_of}
 use Rattle.stream_reset_handler.specs.Making.{MadeWith, made_with, told, next_handler, message_in, Ready, IsReady, written_for, request_for, request_in, make_request, Makes, MakeMeets}
 

@@ -3,3 +3,9 @@ pub mod Handler
 pub mod Making
 pub mod Receiving
 pub mod Underway
+pub mod RequestAnswer
+pub mod MadeRequest
+pub mod ResponseAnswer
+pub mod HandledResponse
+pub mod QueueReset
+pub mod Answers

@@ -14,9 +14,9 @@ use Rattle.reset_model.specs.Handler as model
 use Rattle.stream_reset_handler.specs.Underway.{Underway}
 use Rattle.std.specs.Prelude.{Some, None}
 use Rattle.stream_reset_handler.specs.declared.handler.StreamResetHandler.{StreamResetHandler}
-use Rattle.stream_reset_handler.specs.declared.making.RequestAnswer.{RequestAnswer}
-use Rattle.stream_reset_handler.specs.declared.making.RequestAnswer.TheVariants.{Written, NoneReady, Refused}
-use Rattle.stream_reset_handler.specs.declared.making.MadeRequest.{MadeRequest}
+use Rattle.stream_reset_handler.specs.RequestAnswer.{RequestAnswer}
+use Rattle.stream_reset_handler.specs.RequestAnswer.{Written, NoneReady, Refused}
+use Rattle.stream_reset_handler.specs.MadeRequest.{MadeRequest}
 use Rattle.stream_reset_handler.specs.Handler.{handler_of}
 
 -- ------------------------------------------------------------------ on any words

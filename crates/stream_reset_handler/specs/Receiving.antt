@@ -12,12 +12,12 @@ use Rattle.reset_wire.specs.Reading.{response_of}
 use Rattle.reset_wire.specs.Response.{Response}
 use Rattle.reset_wire.specs.Response as response
 use Rattle.stream_reset_handler.specs.declared.handler.StreamResetHandler.{StreamResetHandler}
-use Rattle.stream_reset_handler.specs.declared.receiving.ResponseAnswer.{ResponseAnswer}
-use Rattle.stream_reset_handler.specs.declared.receiving.ResponseAnswer.TheVariants.{Ignored, Committed, RolledBack, StillWaiting, Refused}
+use Rattle.stream_reset_handler.specs.ResponseAnswer.{ResponseAnswer}
+use Rattle.stream_reset_handler.specs.ResponseAnswer.{Ignored, Committed, RolledBack, StillWaiting, Refused}
 use Rattle.stream_reset_handler.specs.declared.receiving.ResponseStep.{ResponseStep}
 use Rattle.stream_reset_handler.specs.declared.receiving.ResponseStep.TheVariants as step
-use Rattle.stream_reset_handler.specs.declared.receiving.HandledResponse.{HandledResponse}
-use Rattle.stream_reset_handler.specs.declared.receiving.QueueReset.{QueueReset}
+use Rattle.stream_reset_handler.specs.HandledResponse.{HandledResponse}
+use Rattle.stream_reset_handler.specs.QueueReset.{QueueReset}
 use Rattle.stream_reset_handler.specs.Handler.{handler_of, is_underway, ended_as}
 
 -- ------------------------------------------------------------------ on any words

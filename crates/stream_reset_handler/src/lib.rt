@@ -7,7 +7,7 @@ mod making;
 mod receiving;
 
 pub use handler::{StreamResetHandler, start};
-pub use making::{MadeRequest, RequestAnswer, make_request};
+pub use making::{MadeRequest, make_request};
 pub use receiving::{HandledResponse, QueueReset, ResponseAnswer, handle_response, reset};
 // What the owned calls share with these.
 pub use handler::ended;

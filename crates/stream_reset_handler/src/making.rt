@@ -4,23 +4,17 @@ ghost use Rattle.reset_model.specs.Wire.{request_size};
 ghost use Rattle.send_queue.specs.Number as number;
 ghost use Rattle.send_queue.specs.Restarts.{CountMeets};
 ghost use Rattle.std.specs.Prelude.{None};
+ghost use Rattle.stream_reset_handler.specs.Answers.{as_made};
 ghost use Rattle.stream_reset_handler.specs.Making.{next_handler, message_in, MakeMeets};
 
 use crate::handler::{StreamResetHandler, number_after};
 use reset_wire::{request_size, write_request};
-use send_queue::{Number, QUEUE_WORDS, count_streams_ready_to_reset, get_streams_ready_to_reset};
+use send_queue::{QUEUE_WORDS, Refusal, count_streams_ready_to_reset, get_streams_ready_to_reset};
 
-// A message of so many bytes; no stream ready; or refused.
-#[derive(Clone, Copy)]
-pub enum RequestAnswer {
-    Written(usize),
-    NoneReady,
-    Refused(u8),
-}
-
-#[derive(Clone, Copy)]
+#[derive(Clone, Copy, Debug, PartialEq, Eq)]
 pub struct MadeRequest {
-    pub answer: RequestAnswer,
+    // A message of so many bytes; None where no stream is ready.
+    pub answer: Result<Option<usize>, Refusal>,
     pub handler: StreamResetHandler,
 }
 
@@ -55,18 +49,18 @@ fn request_for(
     count: u64,
 ) -> MadeRequest
     requires { (CountMeets queue.old (number.Value count)) × (handler.underway ≡ None) }
-    ensures { MakeMeets queue.old handler output.old response_number last_tsn result queue.new output.new }
+    ensures { MakeMeets queue.old handler output.old response_number last_tsn (as_made result) queue.new output.new }
 {
     if count == 0 {
         return MadeRequest {
-            answer: RequestAnswer::NoneReady,
+            answer: Ok(None),
             handler: handler,
         };
     }
     let size = request_size(count as usize);
     if output.len() < size {
         return MadeRequest {
-            answer: RequestAnswer::Refused(26),
+            answer: Err(Refusal::RequestOutputShort),
             handler: handler,
         };
     }
@@ -81,7 +75,7 @@ fn request_for(
         count as usize,
     );
     MadeRequest {
-        answer: RequestAnswer::Written(size),
+        answer: Ok(Some(size)),
         handler: next,
     }
 }
@@ -94,11 +88,11 @@ fn request_now(
     last_tsn: u32,
 ) -> MadeRequest
     requires { handler.underway ≡ None }
-    ensures { MakeMeets queue.old handler output.old response_number last_tsn result queue.new output.new }
+    ensures { MakeMeets queue.old handler output.old response_number last_tsn (as_made result) queue.new output.new }
 {
     let counted = count_streams_ready_to_reset(&*queue);
     match counted {
-        Number::Value(count) => request_for(
+        Ok(count) => request_for(
             queue,
             handler,
             output,
@@ -106,8 +100,8 @@ fn request_now(
             last_tsn,
             count,
         ),
-        Number::Refused(n) => MadeRequest {
-            answer: RequestAnswer::Refused(n),
+        Err(refusal) => MadeRequest {
+            answer: Err(refusal),
             handler: handler,
         },
     }
@@ -121,13 +115,13 @@ pub fn make_request(
     response_number: u32,
     last_tsn: u32,
 ) -> MadeRequest
-    ensures { MakeMeets queue.old handler output.old response_number last_tsn result queue.new output.new }
+    ensures { MakeMeets queue.old handler output.old response_number last_tsn (as_made result) queue.new output.new }
 {
     let underway = handler.underway;
     match underway {
         None => request_now(queue, handler, output, response_number, last_tsn),
         Some(_) => MadeRequest {
-            answer: RequestAnswer::Refused(25),
+            answer: Err(Refusal::RequestUnderway),
             handler: handler,
         },
     }

@@ -2,61 +2,61 @@
 ghost use Rattle.std.specs.Prelude.{◌≡◌, true, false};
 ghost use Rattle.reset_model.specs.Wire.{read_response};
 ghost use Rattle.reset_wire.specs.Reading.{response_of};
+ghost use Rattle.stream_reset_handler.specs.Answers.{as_handled, as_response, as_reset};
 ghost use Rattle.stream_reset_handler.specs.Receiving.{handled, if_underway, step_of, FinishMeets, HandleMeets, ResetHandlerMeets};
 
 use crate::handler::{StreamResetHandler, ended, is_underway};
 use reset_wire::{Response, read_response};
-use send_queue::{Call, QUEUE_WORDS, commit_reset_streams, rollback_reset_streams};
+use send_queue::{QUEUE_WORDS, Refusal, commit_reset_streams, rollback_reset_streams};
 
-#[derive(Clone, Copy)]
+#[derive(Clone, Copy, Debug, PartialEq, Eq)]
 pub enum ResponseAnswer {
     Ignored,
     Committed,
     RolledBack,
     StillWaiting,
-    Refused(u8),
 }
 
 #[derive(Clone, Copy)]
 pub struct HandledResponse {
-    pub answer: ResponseAnswer,
+    pub answer: Result<ResponseAnswer, Refusal>,
     pub handler: StreamResetHandler,
 }
 
 #[derive(Clone, Copy)]
 pub struct QueueReset {
-    pub answer: Call,
+    pub answer: Result<usize, Refusal>,
     pub handler: StreamResetHandler,
 }
 
-fn answered(answer: ResponseAnswer, handler: StreamResetHandler) -> HandledResponse
-    ensures { result ≡ handled answer handler }
+fn answered(
+    answer: Result<ResponseAnswer, Refusal>,
+    handler: StreamResetHandler,
+) -> HandledResponse
+    ensures { as_handled result ≡ handled (as_response answer) handler }
 {
-    HandledResponse {
-        answer: answer,
-        handler: handler,
-    }
+    HandledResponse { answer, handler }
 }
 
 // "Result 0 or 1 commits".
 fn commit(queue: &mut [u64; QUEUE_WORDS], handler: StreamResetHandler) -> HandledResponse
-    ensures { FinishMeets true queue.old handler result queue.new }
+    ensures { FinishMeets true queue.old handler (as_handled result) queue.new }
 {
     let done = commit_reset_streams(queue);
     match done {
-        Call::Accepted(_) => answered(ResponseAnswer::Committed, ended(handler)),
-        Call::Refused(n) => answered(ResponseAnswer::Refused(n), handler),
+        Ok(_) => answered(Ok(ResponseAnswer::Committed), ended(handler)),
+        Err(refusal) => answered(Err(refusal), handler),
     }
 }
 
 // "2 to 5 roll back".
 fn roll_back(queue: &mut [u64; QUEUE_WORDS], handler: StreamResetHandler) -> HandledResponse
-    ensures { FinishMeets false queue.old handler result queue.new }
+    ensures { FinishMeets false queue.old handler (as_handled result) queue.new }
 {
     let done = rollback_reset_streams(queue);
     match done {
-        Call::Accepted(_) => answered(ResponseAnswer::RolledBack, ended(handler)),
-        Call::Refused(n) => answered(ResponseAnswer::Refused(n), handler),
+        Ok(_) => answered(Ok(ResponseAnswer::RolledBack), ended(handler)),
+        Err(refusal) => answered(Err(refusal), handler),
     }
 }
 
@@ -104,25 +104,25 @@ pub fn handle_response(
     match step {
         ResponseStep::Commit => commit(queue, handler),
         ResponseStep::RollBack => roll_back(queue, handler),
-        ResponseStep::Wait => answered(ResponseAnswer::StillWaiting, handler),
-        ResponseStep::Ignore => answered(ResponseAnswer::Ignored, handler),
-        ResponseStep::Refuse => answered(ResponseAnswer::Refused(27), handler),
+        ResponseStep::Wait => answered(Ok(ResponseAnswer::StillWaiting), handler),
+        ResponseStep::Ignore => answered(Ok(ResponseAnswer::Ignored), handler),
+        ResponseStep::Refuse => answered(Err(Refusal::ResponseWrong), handler),
     }
 }
 
 // "Whole-queue reset goes through it and ends the request."
 pub fn reset(queue: &mut [u64; QUEUE_WORDS], handler: StreamResetHandler) -> QueueReset
-    ensures { ResetHandlerMeets queue.old handler result queue.new }
+    ensures { ResetHandlerMeets queue.old handler (as_reset result) queue.new }
 {
     let done = send_queue::reset(queue);
     match done {
-        Call::Accepted(_) => QueueReset {
+        Ok(_) => QueueReset {
             answer: done,
             handler: ended(handler),
         },
-        Call::Refused(_) => QueueReset {
+        Err(_) => QueueReset {
             answer: done,
-            handler: handler,
+            handler,
         },
     }
 }

@@ -5,5 +5,5 @@ use Rattle.send_queue.specs.Restarts.{CountMeets}
 use Rattle.std.proofs.Common.{refl}
 use Rattle.stream_reset_handler.proofs.making.request_now.Goals as goal
 
-pub returns-in-Refused : goal.returns-in-Refused
-returns-in-Refused c = made_refused _ _ _ _ _ c.requires _ (subst (CountMeets c.args.queue.now) refl c.in-Refused.ensures)
+pub returns-in-Err : goal.returns-in-Err
+returns-in-Err c = made_refused _ _ _ _ _ c.requires _ (subst (CountMeets c.args.queue.now) refl c.in-Err.ensures)

@@ -4,8 +4,8 @@ use mathlib.Core.Bool.{true}
 use Rattle.std.proofs.Common.{refl}
 use Rattle.stream_reset_handler.proofs.receiving.commit.Goals as goal
 
-pub returns-in-Accepted : goal.returns-in-Accepted
-returns-in-Accepted c = finish_accepted true _ _ _ _ c.in-Accepted.ensures _ _ _ refl c.ended.ensures c.answered.ensures
+pub returns-in-Ok : goal.returns-in-Ok
+returns-in-Ok c = finish_accepted true _ _ _ _ c.in-Ok.ensures _ _ _ refl c.ended.ensures c.answered.ensures
 
-pub returns-in-Refused : goal.returns-in-Refused
-returns-in-Refused c = finish_refused true _ _ _ _ c.in-Refused.ensures _ _ refl c.answered-in-Refused.ensures
+pub returns-in-Err : goal.returns-in-Err
+returns-in-Err c = finish_refused true _ _ _ _ c.in-Err.ensures _ _ refl c.answered-in-Err.ensures

@@ -2,8 +2,8 @@
 use Rattle.stream_reset_handler.proofs.Handles.{reset_accepted, reset_refused}
 use Rattle.stream_reset_handler.proofs.receiving.reset.Goals as goal
 
-pub returns-in-Accepted : goal.returns-in-Accepted
-returns-in-Accepted c = reset_accepted _ _ _ _ c.reset-done.ensures _ _ c.in-Accepted.is c.ended.ensures
+pub returns-in-Ok : goal.returns-in-Ok
+returns-in-Ok c = reset_accepted _ _ _ _ c.reset-done.ensures _ _ c.in-Ok.is c.ended.ensures
 
-pub returns-in-Refused : goal.returns-in-Refused
-returns-in-Refused c = reset_refused _ _ _ _ c.reset-done.ensures _ c.in-Refused.is
+pub returns-in-Err : goal.returns-in-Err
+returns-in-Err c = reset_refused _ _ _ _ c.reset-done.ensures _ c.in-Err.is
