@@ -2,14 +2,17 @@
 #![tactic(auto)]
 
 ghost use Rattle.std.specs.Prelude.{◌≡◌};
-ghost use Rattle.queue_streams.specs.Answers.{call_number};
+ghost use Rattle.queue_streams.specs.Answers.{as_call, call_number};
+ghost use Rattle.stream_reset_handler.specs.Answers.{as_request, as_response};
 ghost use Rattle.host_handler.specs.Handler.{handler_in, handler_numbers, request_number, request_out, request_handler, response_number_words, response_out, response_handler, reset_handler};
 
+use std::convert::From;
+
 use out_array::{OUT_WORDS, VALUE};
-use queue_streams::Call;
 use stream_reset_handler::{
-    HandledResponse, MadeRequest, QueueReset, RequestAnswer, ResponseAnswer, StreamResetHandler,
+    HandledResponse, MadeRequest, QueueReset, ResponseAnswer, StreamResetHandler,
 };
+use types::Refusal;
 
 // The numbers of a handler, and how many.
 pub const HANDLER_NUMBERS: usize = 3;
@@ -69,73 +72,70 @@ pub fn tell_request(
     out: &mut [u64; OUT_WORDS],
     m: MadeRequest,
 ) -> u32
-    ensures { (result ≡ request_number m.answer) × (out.new ≡ request_out out.old m.answer) × (handler.new ≡ request_handler handler.old m.answer m.handler) }
+    ensures { (result ≡ request_number (as_request m.answer)) × (out.new ≡ request_out out.old (as_request m.answer)) × (handler.new ≡ request_handler handler.old (as_request m.answer) m.handler) }
 {
     let a = m.answer;
     let next = m.handler;
     match a {
-        RequestAnswer::Written(n) => {
+        Ok(Some(n)) => {
             put_handler(handler, next);
             out[VALUE] = n as u64;
             0
         }
-        RequestAnswer::NoneReady => {
+        Ok(None) => {
             out[VALUE] = 0;
             0
         }
-        RequestAnswer::Refused(n) => n as u32,
+        Err(refusal) => u8::from(refusal) as u32,
     }
 }
 
-pub fn tell_outcome(out: &mut [u64; OUT_WORDS], a: ResponseAnswer) -> u32
-    ensures { (result ≡ response_number_words a) × (out.new ≡ response_out out.old a) }
+pub fn tell_outcome(out: &mut [u64; OUT_WORDS], a: Result<ResponseAnswer, Refusal>) -> u32
+    ensures { (result ≡ response_number_words (as_response a)) × (out.new ≡ response_out out.old (as_response a)) }
 {
     match a {
-        ResponseAnswer::Ignored => {
+        Ok(ResponseAnswer::Ignored) => {
             out[VALUE] = IGNORED;
             0
         }
-        ResponseAnswer::Committed => {
+        Ok(ResponseAnswer::Committed) => {
             out[VALUE] = COMMITTED;
             0
         }
-        ResponseAnswer::RolledBack => {
+        Ok(ResponseAnswer::RolledBack) => {
             out[VALUE] = ROLLED_BACK;
             0
         }
-        ResponseAnswer::StillWaiting => {
+        Ok(ResponseAnswer::StillWaiting) => {
             out[VALUE] = STILL_WAITING;
             0
         }
-        ResponseAnswer::Refused(n) => n as u32,
+        Err(refusal) => u8::from(refusal) as u32,
     }
 }
 
 // The request ends with a commit or a rollback alone; else the numbers stay.
 pub fn put_ended(handler: &mut [u32; HANDLER_NUMBERS], h: HandledResponse)
-    ensures { handler.new ≡ response_handler handler.old h.answer h.handler }
+    ensures { handler.new ≡ response_handler handler.old (as_response h.answer) h.handler }
 {
     let a = h.answer;
     let next = h.handler;
     match a {
-        ResponseAnswer::Committed => put_handler(handler, next),
-        ResponseAnswer::RolledBack => put_handler(handler, next),
-        ResponseAnswer::Ignored => (),
-        ResponseAnswer::StillWaiting => (),
-        ResponseAnswer::Refused(_) => (),
+        Ok(ResponseAnswer::Committed) | Ok(ResponseAnswer::RolledBack) => put_handler(handler, next),
+        Ok(ResponseAnswer::Ignored) | Ok(ResponseAnswer::StillWaiting) | Err(_) => (),
     }
 }
 
 pub fn tell_reset(handler: &mut [u32; HANDLER_NUMBERS], r: QueueReset) -> u32
-    ensures { (result ≡ call_number r.answer) × (handler.new ≡ reset_handler handler.old r.answer r.handler) }
+    ensures { (result ≡ call_number (as_call r.answer)) × (handler.new ≡ reset_handler handler.old (as_call r.answer) r.handler) }
 {
     let c = r.answer;
     let next = r.handler;
     match c {
-        Call::Accepted(_) => {
+        Ok(_) => {
             put_handler(handler, next);
             0
         }
-        Call::Refused(n) => n as u32,
+        Err(refusal) => u8::from(refusal) as u32,
     }
 }

@@ -3,26 +3,39 @@ ghost use Rattle.std.specs.Prelude.{◌≡◌};
 ghost use Rattle.std.specs.Prelude.{None};
 ghost use Rattle.stream_reset_handler.specs.Making.{MakeMeets};
 ghost use Rattle.owned_streams.specs.Own.{OwnWords};
-ghost use Rattle.owned_resets.specs.Answers.{made_as};
+ghost use Rattle.owned_resets.specs.Answers.{made_as, request_refusal};
+
+use std::convert::From;
 
 use owned_restarts::get_streams_ready_to_reset;
 use owned_streams::count_streams_ready_to_reset;
 use queue_words::QUEUE_WORDS;
 use reset_wire::request_size;
 use stream_reset_handler::{StreamResetHandler, write_next};
+use types::Refusal;
 
-// A message of so many bytes, or no stream ready; 25 and 26 are the refusals.
-#[derive(Clone, Copy)]
-pub enum RequestAnswer {
-    Written(usize),
-    NoneReady,
+// Why making a request is refused: no other refusal is given.
+#[derive(Clone, Copy, Debug, PartialEq, Eq)]
+pub enum RequestRefusal {
     Underway,
     OutputShort,
 }
 
-#[derive(Clone, Copy)]
+impl From<RequestRefusal> for Refusal {
+    ghost from_gives = { λ e r. r ≡ request_refusal e };
+
+    fn from(e: RequestRefusal) -> Refusal {
+        match e {
+            RequestRefusal::Underway => Refusal::RequestUnderway,
+            RequestRefusal::OutputShort => Refusal::RequestOutputShort,
+        }
+    }
+}
+
+#[derive(Clone, Copy, Debug, PartialEq, Eq)]
 pub struct MadeRequest {
-    pub answer: RequestAnswer,
+    // A message of so many bytes; None where no stream is ready.
+    pub answer: Result<Option<usize>, RequestRefusal>,
     pub handler: StreamResetHandler,
 }
 
@@ -40,14 +53,14 @@ fn request_now(
     let count = count_streams_ready_to_reset(&*queue);
     if count == 0 {
         return MadeRequest {
-            answer: RequestAnswer::NoneReady,
+            answer: Ok(None),
             handler: handler,
         };
     }
     let size = request_size(count as usize);
     if output.len() < size {
         return MadeRequest {
-            answer: RequestAnswer::OutputShort,
+            answer: Err(RequestRefusal::OutputShort),
             handler: handler,
         };
     }
@@ -62,7 +75,7 @@ fn request_now(
         count as usize,
     );
     MadeRequest {
-        answer: RequestAnswer::Written(size),
+        answer: Ok(Some(size)),
         handler: next,
     }
 }
@@ -82,7 +95,7 @@ pub fn make_request(
     match underway {
         None => request_now(queue, handler, output, response_number, last_tsn),
         Some(_) => MadeRequest {
-            answer: RequestAnswer::Underway,
+            answer: Err(RequestRefusal::Underway),
             handler: handler,
         },
     }

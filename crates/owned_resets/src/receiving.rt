@@ -2,35 +2,40 @@
 ghost use Rattle.std.specs.Prelude.{◌≡◌};
 ghost use Rattle.stream_reset_handler.specs.Receiving.{handled, HandleMeets, ResetHandlerMeets};
 ghost use Rattle.owned_streams.specs.Own.{OwnWords};
-ghost use Rattle.owned_resets.specs.Answers.{response_as, handled_as, reset_as};
+ghost use Rattle.owned_resets.specs.Answers.{response_as, handled_as, reset_as, wrong_response};
+
+use std::convert::From;
 
 use owned_restarts::{commit_reset_streams, rollback_reset_streams};
 use queue_words::QUEUE_WORDS;
-use stream_reset_handler::{ResponseStep, StreamResetHandler, ended, step_for};
+use stream_reset_handler::{ResponseAnswer, ResponseStep, StreamResetHandler, ended, step_for};
+use types::Refusal;
 
-// 27 is the one refusal.
-#[derive(Clone, Copy)]
-pub enum ResponseAnswer {
-    Ignored,
-    Committed,
-    RolledBack,
-    StillWaiting,
-    ResponseWrong,
+// Refusal 27, the one that receiving a response gives.
+#[derive(Clone, Copy, Debug, PartialEq, Eq)]
+pub struct ResponseWrong;
+
+impl From<ResponseWrong> for Refusal {
+    ghost from_gives = { λ _ r. r ≡ wrong_response };
+
+    fn from(_wrong: ResponseWrong) -> Refusal {
+        Refusal::ResponseWrong
+    }
 }
 
-#[derive(Clone, Copy)]
+#[derive(Clone, Copy, Debug, PartialEq, Eq)]
 pub struct HandledResponse {
-    pub answer: ResponseAnswer,
+    pub answer: Result<ResponseAnswer, ResponseWrong>,
     pub handler: StreamResetHandler,
 }
 
-fn answered(answer: ResponseAnswer, handler: StreamResetHandler) -> HandledResponse
+fn answered(
+    answer: Result<ResponseAnswer, ResponseWrong>,
+    handler: StreamResetHandler,
+) -> HandledResponse
     ensures { handled_as result ≡ handled (response_as answer) handler }
 {
-    HandledResponse {
-        answer: answer,
-        handler: handler,
-    }
+    HandledResponse { answer, handler }
 }
 
 // "Result 0 or 1 commits, 2 to 5 roll back, 6 keeps the same request waiting". 27: "received bytes break this layout".
@@ -46,15 +51,15 @@ pub fn handle_response(
     match step {
         ResponseStep::Commit => {
             commit_reset_streams(queue);
-            answered(ResponseAnswer::Committed, ended(handler))
+            answered(Ok(ResponseAnswer::Committed), ended(handler))
         }
         ResponseStep::RollBack => {
             rollback_reset_streams(queue);
-            answered(ResponseAnswer::RolledBack, ended(handler))
+            answered(Ok(ResponseAnswer::RolledBack), ended(handler))
         }
-        ResponseStep::Wait => answered(ResponseAnswer::StillWaiting, handler),
-        ResponseStep::Ignore => answered(ResponseAnswer::Ignored, handler),
-        ResponseStep::Refuse => answered(ResponseAnswer::ResponseWrong, handler),
+        ResponseStep::Wait => answered(Ok(ResponseAnswer::StillWaiting), handler),
+        ResponseStep::Ignore => answered(Ok(ResponseAnswer::Ignored), handler),
+        ResponseStep::Refuse => answered(Err(ResponseWrong), handler),
     }
 }
 

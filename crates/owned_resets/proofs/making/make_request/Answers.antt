@@ -2,5 +2,5 @@
 use Rattle.stream_reset_handler.proofs.Makes.{made_25}
 use Rattle.owned_resets.proofs.making.make_request.Goals as goal
 
-pub returns-in-Number : goal.returns-in-Number
-returns-in-Number c = made_25 _ _ _ _ _ _ c.in-Number.is
+pub returns-in-Some : goal.returns-in-Some
+returns-in-Some c = made_25 _ _ _ _ _ _ c.in-Some.is
