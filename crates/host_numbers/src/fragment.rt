@@ -11,19 +11,13 @@ use queue_sending::DataToSend;
 fn expiry_number(e: Option<u64>) -> u64
     ensures { result ≡ expiry_number e }
 {
-    match e {
-        None => 0,
-        Some(_) => 1,
-    }
+    e.is_some() as u64
 }
 
 fn expiry_time(e: Option<u64>) -> u64
     ensures { result ≡ expiry_time e }
 {
-    match e {
-        None => 0,
-        Some(t) => t,
-    }
+    e.unwrap_or(0)
 }
 
 // What goes with a fragment.

@@ -1,13 +1,15 @@
 // Priorities for a wanted order.
 ghost use Rattle.std.specs.Prelude.{◌≡◌, length, ◌≤◌};
 ghost use Rattle.priority_plan.specs.Lists.{max_planned};
-ghost use Rattle.priority_plan.specs.Plan.{planned};
+ghost use Rattle.priority_plan.specs.Plan.{as_plan, planned};
 ghost use Rattle.queue_streams.specs.Answers.{call_number};
 ghost use Rattle.send_queue_c.specs.Numbers.{planned_places};
 ghost use Rattle.send_queue_c.specs.Given.{GivesPriorities};
 
+use std::convert::From;
+
 use host_numbers::copy_first;
-use send_queue::{Call, MAX_PLANNED, PlannedPriorities, plan_priorities};
+use send_queue::{MAX_PLANNED, PlannedPriorities, Refusal, plan_priorities};
 
 // Does nothing at run time; gives a proof that there are 32 places.
 fn whole(values: &[u16; MAX_PLANNED])
@@ -16,20 +18,19 @@ fn whole(values: &[u16; MAX_PLANNED])
     let _values: &[u16] = values;
 }
 
-fn tell_planned(priorities: &mut [u16; MAX_PLANNED], a: PlannedPriorities) -> u32
-    requires { a.count ≤ max_planned }
-    ensures { (result ≡ call_number a.answer) × (priorities.new ≡ planned_places priorities.old a) }
+fn tell_planned(priorities: &mut [u16; MAX_PLANNED], a: Result<PlannedPriorities, Refusal>) -> u32
+    requires { (as_plan a).count ≤ max_planned }
+    ensures { (result ≡ call_number (as_plan a).answer) × (priorities.new ≡ planned_places priorities.old (as_plan a)) }
 {
-    let c = a.answer;
-    match c {
-        Call::Accepted(_) => {
-            let from = a.values;
+    match a {
+        Ok(plan) => {
+            let from = plan.values;
             whole(&*priorities);
             whole(&from);
-            copy_first(priorities, &from, a.count);
+            copy_first(priorities, &from, plan.count);
             0
         }
-        Call::Refused(n) => n as u32,
+        Err(refusal) => u8::from(refusal) as u32,
     }
 }
 

@@ -1,17 +1,19 @@
 // Closing and restarting streams, and the settings.
 ghost use Rattle.std.specs.Prelude.{◌≡◌, true, false, length, ◌≤◌};
 ghost use Rattle.queue_closing.specs.Close.{close};
-ghost use Rattle.queue_restarts.specs.Ready.{ready};
+ghost use Rattle.queue_restarts.specs.Ready.{as_ready, ready};
 ghost use Rattle.queue_restarts.specs.Reset.{reset_queue};
 ghost use Rattle.queue_streams.specs.Restart.{reopen, set_interleaving_words};
 ghost use Rattle.queue_streams.specs.Settings.{set_priority_words, set_threshold_words};
 ghost use Rattle.send_queue_c.specs.Numbers.{is_yes, ready_number, ready_ids, ready_out};
 ghost use Rattle.send_queue_c.specs.Given.{Gives, GivesEvents, GivesIds};
 
+use std::convert::From;
+
 use host_numbers::{call_number, copy_first, is_yes, tell_call};
 use out_array::{OUT_WORDS, VALUE};
 use send_queue::{
-    Call, QUEUE_WORDS, ReadyStreams, commit_reset_streams, enable_message_interleaving,
+    QUEUE_WORDS, ReadyStreams, Refusal, commit_reset_streams, enable_message_interleaving,
     get_streams_ready_to_reset, prepare_reset_stream, reset, rollback_reset_streams,
     set_buffered_amount_low_threshold, set_priority,
 };
@@ -37,21 +39,20 @@ fn whole(ids: &[u16; 256])
     let _ids: &[u16] = ids;
 }
 
-fn tell_ready(ids: &mut [u16; 256], out: &mut [u64; OUT_WORDS], a: ReadyStreams) -> u32
-    requires { a.count ≤ 256 }
-    ensures { (result ≡ ready_number a) × (ids.new ≡ ready_ids ids.old a) × (out.new ≡ ready_out out.old a) }
+fn tell_ready(ids: &mut [u16; 256], out: &mut [u64; OUT_WORDS], a: Result<ReadyStreams, Refusal>) -> u32
+    requires { (as_ready a).count ≤ 256 }
+    ensures { (result ≡ ready_number (as_ready a)) × (ids.new ≡ ready_ids ids.old (as_ready a)) × (out.new ≡ ready_out out.old (as_ready a)) }
 {
-    let c = a.answer;
-    match c {
-        Call::Accepted(_) => {
-            let from = a.ids;
+    match a {
+        Ok(ready) => {
+            let from = ready.ids;
             whole(&*ids);
             whole(&from);
-            copy_first(ids, &from, a.count);
-            out[VALUE] = a.count as u64;
+            copy_first(ids, &from, ready.count);
+            out[VALUE] = ready.count as u64;
             0
         }
-        Call::Refused(n) => n as u32,
+        Err(refusal) => u8::from(refusal) as u32,
     }
 }
 

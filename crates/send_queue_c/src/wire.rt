@@ -6,10 +6,12 @@ ghost use Rattle.send_queue_c.specs.Numbers.{is_yes};
 ghost use Rattle.send_queue_c.specs.Chunks.{kind_of, kind_number, fragment_of, written_number, written_out, read_number, read_out, places_of, read_places};
 ghost use Rattle.send_queue_c.specs.Given.{GivesWritten, GivesRead};
 
+use std::convert::From;
+
 use host_numbers::{is_yes, show};
 use out_array::{OUT_WORDS, VALUE};
 use send_queue::{
-    ChunkKind, ChunkRead, ChunkWritten, Data, DataToSend, Fsn, Mid, OutgoingMessageId, Ssn,
+    Chunk, ChunkKind, Data, DataToSend, Fsn, Mid, OutgoingMessageId, Refusal, Ssn,
     StreamId, StreamKey, read_chunk, write_chunk,
 };
 
@@ -75,15 +77,15 @@ fn fragment_of(
     }
 }
 
-fn tell_written(out: &mut [u64; OUT_WORDS], a: ChunkWritten) -> u32
-    ensures { (result ≡ written_number a) × (out.new ≡ written_out out.old a) }
+fn tell_written(out: &mut [u64; OUT_WORDS], a: Result<usize, Refusal>) -> u32
+    ensures { (result ≡ written_number (as_written a)) × (out.new ≡ written_out out.old (as_written a)) }
 {
     match a {
-        ChunkWritten::Bytes(n) => {
+        Ok(n) => {
             out[VALUE] = n as u64;
             0
         }
-        ChunkWritten::Refused(n) => n as u32,
+        Err(refusal) => u8::from(refusal) as u32,
     }
 }
 
@@ -123,18 +125,18 @@ fn tell_places(chunk: &mut [u64; CHUNK_WORDS], kind: ChunkKind, tsn: u32, at: us
     chunk[PAYLOAD_AT] = at as u64;
 }
 
-fn tell_read(out: &mut [u64; OUT_WORDS], chunk: &mut [u64; CHUNK_WORDS], a: ChunkRead) -> u32
-    ensures { (result ≡ read_number a) × (out.new ≡ read_out out.old a) × (chunk.new ≡ read_places chunk.old a) }
+fn tell_read(out: &mut [u64; OUT_WORDS], chunk: &mut [u64; CHUNK_WORDS], a: Result<Chunk, Refusal>) -> u32
+    ensures { (result ≡ read_number (as_read a)) × (out.new ≡ read_out out.old (as_read a)) × (chunk.new ≡ read_places chunk.old (as_read a)) }
 {
     match a {
-        ChunkRead::Read(c) => {
+        Ok(c) => {
             let kind = c.kind;
             let fragment = c.fragment;
             show(out, 0, fragment);
             tell_places(chunk, kind, c.tsn, c.payload_at);
             0
         }
-        ChunkRead::Refused(n) => n as u32,
+        Err(refusal) => u8::from(refusal) as u32,
     }
 }
 
