@@ -2,34 +2,26 @@
 use input_trials::state::{
     BYTES, EVENT_BUFFER, EVENT_LIST, EVENTS, FRAGMENT, FRAGMENT_BYTES, INTERLEAVE, LETTER,
     LIFETIME, LIMIT, MESSAGE_ID, NO_LIFETIME, PAYLOAD, PAYLOAD_BYTES, PRIORITY, SIZE, STATE, STORE,
-    STORE_BYTES, STREAM, STRICT, THRESHOLD, TIME, low8, low16, low32, wide,
+    STORE_BYTES, STREAM, STRICT, THRESHOLD, TIME, low8, low16, low32,
 };
 use lent_calls::{
-    Creation, lent_add, lent_create, lent_event_call, lent_produce, lifetime_of, plain_call,
+    Creation, LentError, lent_add, lent_create, lent_event_call, lent_produce, lifetime_of, plain_call,
 };
 use send_queue::{
-    Call, DataToSend, Flag, Message, Number, Produced, QUEUE_WORDS, StreamId,
+    DataToSend, Message, Produced, QUEUE_WORDS, Refusal, StreamId,
     buffered_amount, buffered_amount_low_threshold, count_streams_ready_to_reset,
     get_handover_readiness, get_priority, get_streams_ready_to_reset, has_data_to_send,
     has_streams_ready_to_be_reset, is_empty, total_buffered_amount,
 };
 
-// A refusal's number. Document 01 has no refusal 0: it shows as 100.
-fn refusal_number(r: u8) -> u64 {
-    if r == 0 {
-        return 100;
-    }
-    wide(r)
-}
-
 // 0 for accepted.
-pub(crate) fn answer_of(c: Call, state: &mut [u64; STATE]) -> u64 {
+pub(crate) fn answer_of(c: Result<usize, LentError>, state: &mut [u64; STATE]) -> u64 {
     match c {
-        Call::Accepted(n) => {
+        Ok(n) => {
             state[EVENTS] = n as u64;
             0
         }
-        Call::Refused(r) => refusal_number(r),
+        Err(e) => e.number(),
     }
 }
 
@@ -38,18 +30,17 @@ fn bytes_of(d: DataToSend) -> u64 {
     data.length
 }
 
-fn produced_of(p: Produced, state: &mut [u64; STATE]) -> Call {
+fn produced_of(p: Produced, state: &mut [u64; STATE]) -> usize {
     match p {
-        Produced::Nothing(n) => Call::Accepted(n),
+        Produced::Nothing(n) => n,
         Produced::Fragment(n, d) => {
             state[BYTES] = bytes_of(d);
-            Call::Accepted(n)
+            n
         }
-        Produced::Refused(r) => Call::Refused(r),
     }
 }
 
-fn create_call(queue: &mut [u64; QUEUE_WORDS], store: &[u8; STORE], state: &[u64; STATE]) -> Call {
+fn create_call(queue: &mut [u64; QUEUE_WORDS], store: &[u8; STORE], state: &[u64; STATE]) -> Result<usize, LentError> {
     let c = Creation {
         limit: state[LIMIT],
         priority: low16(state[PRIORITY]),
@@ -74,7 +65,7 @@ fn message_of(state: &[u64; STATE]) -> Message {
     }
 }
 
-fn add_call(queue: &mut [u64; QUEUE_WORDS], store: &mut [u8; STORE], state: &[u64; STATE]) -> Call {
+fn add_call(queue: &mut [u64; QUEUE_WORDS], store: &mut [u8; STORE], state: &[u64; STATE]) -> Result<usize, LentError> {
     let payload = [165u8; PAYLOAD];
     let m = message_of(state);
     lent_add(
@@ -94,7 +85,7 @@ fn produce_call(
     events: &mut [u64; EVENT_BUFFER],
     fragment: &mut [u8; FRAGMENT],
     state: &mut [u64; STATE],
-) -> Call {
+) -> Result<usize, LentError> {
     let p = lent_produce(
         queue,
         store,
@@ -105,8 +96,8 @@ fn produce_call(
         state[FRAGMENT_BYTES] as usize,
         state[TIME],
         state[SIZE],
-    );
-    produced_of(p, state)
+    )?;
+    Ok(produced_of(p, state))
 }
 
 // The letter that a call has in a trace: the small one.
@@ -122,7 +113,7 @@ fn event_call(
     events: &mut [u64; EVENT_BUFFER],
     state: &[u64; STATE],
     letter: u8,
-) -> Call {
+) -> Result<usize, LentError> {
     lent_event_call(
         queue,
         events,
@@ -134,7 +125,7 @@ fn event_call(
     )
 }
 
-fn words_call(queue: &mut [u64; QUEUE_WORDS], state: &[u64; STATE], letter: u8) -> Call {
+fn words_call(queue: &mut [u64; QUEUE_WORDS], state: &[u64; STATE], letter: u8) -> Result<usize, LentError> {
     plain_call(
         queue,
         small(letter),
@@ -144,34 +135,26 @@ fn words_call(queue: &mut [u64; QUEUE_WORDS], state: &[u64; STATE], letter: u8) 
     )
 }
 
-fn number_of(n: Number) -> Call {
-    match n {
-        Number::Value(_) => Call::Accepted(0),
-        Number::Refused(r) => Call::Refused(r),
-    }
-}
-
-fn flag_of(f: Flag) -> Call {
-    match f {
-        Flag::Value(_) => Call::Accepted(0),
-        Flag::Refused(r) => Call::Refused(r),
-    }
+// What a question answers is not looked at, but whether it is refused.
+fn asked<T: Copy>(answer: Result<T, Refusal>) -> Result<usize, LentError> {
+    answer?;
+    Ok(0)
 }
 
 // The questions have the letters 1 to 9. Those of 6 to 8 are never refused.
-fn question(queue: &[u64; QUEUE_WORDS], letter: u8, id: u16) -> Call {
+fn question(queue: &[u64; QUEUE_WORDS], letter: u8, id: u16) -> Result<usize, LentError> {
     match letter {
-        b'1' => number_of(buffered_amount(queue, id)),
-        b'2' => number_of(buffered_amount_low_threshold(queue, id)),
-        b'3' => number_of(get_priority(queue, id)),
-        b'4' => flag_of(has_data_to_send(queue)),
-        b'5' => flag_of(has_streams_ready_to_be_reset(queue)),
-        b'9' => number_of(count_streams_ready_to_reset(queue)),
+        b'1' => asked(buffered_amount(queue, id)),
+        b'2' => asked(buffered_amount_low_threshold(queue, id)),
+        b'3' => asked(get_priority(queue, id)),
+        b'4' => asked(has_data_to_send(queue)),
+        b'5' => asked(has_streams_ready_to_be_reset(queue)),
+        b'9' => asked(count_streams_ready_to_reset(queue)),
         _ => plain_question(queue, letter),
     }
 }
 
-fn plain_question(queue: &[u64; QUEUE_WORDS], letter: u8) -> Call {
+fn plain_question(queue: &[u64; QUEUE_WORDS], letter: u8) -> Result<usize, LentError> {
     match letter {
         b'6' => total_buffered_amount(queue),
         b'7' => get_handover_readiness(queue),
@@ -180,12 +163,11 @@ fn plain_question(queue: &[u64; QUEUE_WORDS], letter: u8) -> Call {
             0
         }
     };
-    Call::Accepted(0)
+    Ok(0)
 }
 
-fn ready_call(queue: &mut [u64; QUEUE_WORDS]) -> Call {
-    let r = get_streams_ready_to_reset(queue);
-    r.answer
+fn ready_call(queue: &mut [u64; QUEUE_WORDS]) -> Result<usize, LentError> {
+    asked(get_streams_ready_to_reset(queue))
 }
 
 // The call that the state's letter names.
@@ -195,7 +177,7 @@ pub(crate) fn call(
     events: &mut [u64; EVENT_BUFFER],
     fragment: &mut [u8; FRAGMENT],
     state: &mut [u64; STATE],
-) -> Call {
+) -> Result<usize, LentError> {
     let letter = low8(state[LETTER]);
     match letter {
         b'N' => create_call(queue, &*store, &*state),

@@ -4,11 +4,11 @@
 mod current;
 
 pub use current::{answer_change, answer_length, answer_show};
-use lent_calls::{lent_restore, lent_save};
-use send_queue::{Call, QUEUE_WORDS, Saved};
+use lent_calls::{LentError, lent_restore, lent_save};
+use send_queue::QUEUE_WORDS;
 use trace_answers::marks::{keep_store, mark_bytes};
 use trace_answers::settle::{
-    events_of, refusal_number, refusal_of, settle_image, settle_no_events, settle_store,
+    events_of, refusal_of, settle_image, settle_no_events, settle_store,
     settle_words,
 };
 use trace_text::output::{Answers, put_answer, put_broken, put_byte, put_number, put_text};
@@ -36,21 +36,21 @@ fn take_image(
     n
 }
 
-fn refuse_save(r: u8, output: &mut Answers) -> usize {
-    put_answer(output, b's', refusal_number(r));
+fn refuse_save(e: LentError, output: &mut Answers) -> usize {
+    put_answer(output, b's', e.number());
     0
 }
 
 fn put_saved(
     buffer: &[u8; IMAGE],
     image: &mut [u8; IMAGE],
-    s: Saved,
+    s: Result<usize, LentError>,
     output: &mut Answers,
     state: &mut [u64; STATE],
 ) -> usize {
     match s {
-        Saved::Image(n) => take_image(buffer, image, n, output, state),
-        Saved::Refused(r) => refuse_save(r, output),
+        Ok(n) => take_image(buffer, image, n, output, state),
+        Err(e) => refuse_save(e, output),
     }
 }
 
@@ -59,7 +59,7 @@ fn save_line(
     store: &[u8; STORE],
     buffer: &mut [u8; IMAGE],
     state: &[u64; STATE],
-) -> Saved {
+) -> Result<usize, LentError> {
     lent_save(
         queue,
         store,
@@ -92,7 +92,7 @@ fn restore_line(
     store: &mut [u8; STORE],
     image: &[u8; IMAGE],
     state: &[u64; STATE],
-) -> Call {
+) -> Result<usize, LentError> {
     lent_restore(
         queue,
         store,

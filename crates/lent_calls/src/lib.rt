@@ -2,15 +2,39 @@
 // is lent, in a function of its own for each array.
 #![tactic(auto)]
 
+use std::convert::From;
+
 use send_queue::{
-    Call, Message, Produced, QUEUE_WORDS, RestartRule, Saved, add,
+    Message, Produced, QUEUE_WORDS, Refusal, RestartRule, add,
     commit_reset_streams, create, discard, enable_message_interleaving, prepare_reset_stream,
     produce, reset, restore, rollback_reset_streams, save, set_buffered_amount_low_threshold,
     set_priority,
 };
 
 // What the program itself answers where an array is shorter than the length asked for. No document has this number.
-pub const TOO_SHORT: u8 = 99;
+pub const TOO_SHORT: u64 = 99;
+
+// Why a lent call gives nothing: the program has no array so long, or the queue refuses it.
+#[derive(Clone, Copy, Debug, PartialEq, Eq)]
+pub enum LentError {
+    TooShort,
+    Refused(Refusal),
+}
+
+impl From<Refusal> for LentError {
+    fn from(refusal: Refusal) -> LentError {
+        LentError::Refused(refusal)
+    }
+}
+
+impl LentError {
+    pub fn number(self) -> u64 {
+        match self {
+            LentError::TooShort => TOO_SHORT,
+            LentError::Refused(refusal) => u8::from(refusal) as u64,
+        }
+    }
+}
 
 // The arguments of creation but for the store.
 #[derive(Clone, Copy)]
@@ -30,12 +54,12 @@ fn rule_of(strict: bool) -> RestartRule {
     RestartRule::Dcsctp
 }
 
-pub fn lent_create(queue: &mut [u64; QUEUE_WORDS], store: &[u8], n: usize, c: Creation) -> Call {
+pub fn lent_create(queue: &mut [u64; QUEUE_WORDS], store: &[u8], n: usize, c: Creation) -> Result<usize, LentError> {
     if n > store.len() {
-        return Call::Refused(TOO_SHORT);
+        return Err(LentError::TooShort);
     }
     let rule = rule_of(c.strict);
-    create(
+    let events = create(
         queue,
         &store[0..n],
         c.limit,
@@ -44,7 +68,8 @@ pub fn lent_create(queue: &mut [u64; QUEUE_WORDS], store: &[u8], n: usize, c: Cr
         c.total_threshold,
         c.handover,
         rule,
-    )
+    )?;
+    Ok(events)
 }
 
 pub fn lifetime_of(given: bool, lifetime: u64) -> Option<u64> {
@@ -68,11 +93,11 @@ fn add_part(
     length: usize,
     time: u64,
     m: Message,
-) -> Call {
+) -> Result<usize, LentError> {
     if length > payload.len() {
-        return Call::Refused(TOO_SHORT);
+        return Err(LentError::TooShort);
     }
-    add(queue, store, time, m, &payload[0..length])
+    Ok(add(queue, store, time, m, &payload[0..length])?)
 }
 
 // The first n bytes of the store, and so many of the payload.
@@ -84,9 +109,9 @@ pub fn lent_add(
     length: usize,
     time: u64,
     m: Message,
-) -> Call {
+) -> Result<usize, LentError> {
     if n > store.len() {
-        return Call::Refused(TOO_SHORT);
+        return Err(LentError::TooShort);
     }
     add_part(queue, &mut store[0..n], payload, length, time, m)
 }
@@ -99,11 +124,11 @@ fn produce_events(
     words: usize,
     time: u64,
     size: u64,
-) -> Produced {
+) -> Result<Produced, LentError> {
     if words > events.len() {
-        return Produced::Refused(TOO_SHORT);
+        return Err(LentError::TooShort);
     }
-    produce(queue, store, &mut events[0..words], fragment, time, size)
+    Ok(produce(queue, store, &mut events[0..words], fragment, time, size)?)
 }
 
 fn produce_bytes(
@@ -115,9 +140,9 @@ fn produce_bytes(
     bytes: usize,
     time: u64,
     size: u64,
-) -> Produced {
+) -> Result<Produced, LentError> {
     if bytes > fragment.len() {
-        return Produced::Refused(TOO_SHORT);
+        return Err(LentError::TooShort);
     }
     produce_events(
         queue,
@@ -141,9 +166,9 @@ pub fn lent_produce(
     bytes: usize,
     time: u64,
     size: u64,
-) -> Produced {
+) -> Result<Produced, LentError> {
     if n > store.len() {
-        return Produced::Refused(TOO_SHORT);
+        return Err(LentError::TooShort);
     }
     produce_bytes(
         queue,
@@ -165,11 +190,11 @@ fn event_call(
     id: u16,
     message: u32,
     threshold: u64,
-) -> Call {
+) -> Result<usize, LentError> {
     match letter {
-        b'd' => discard(queue, events, id, message),
-        b'c' => prepare_reset_stream(queue, events, id),
-        _ => set_buffered_amount_low_threshold(queue, events, id, threshold),
+        b'd' => Ok(discard(queue, events, id, message)?),
+        b'c' => Ok(prepare_reset_stream(queue, events, id)?),
+        _ => Ok(set_buffered_amount_low_threshold(queue, events, id, threshold)?),
     }
 }
 
@@ -181,9 +206,9 @@ pub fn lent_event_call(
     id: u16,
     message: u32,
     threshold: u64,
-) -> Call {
+) -> Result<usize, LentError> {
     if words > events.len() {
-        return Call::Refused(TOO_SHORT);
+        return Err(LentError::TooShort);
     }
     event_call(queue, &mut events[0..words], letter, id, message, threshold)
 }
@@ -195,14 +220,14 @@ pub fn plain_call(
     id: u16,
     priority: u16,
     interleave: bool,
-) -> Call {
+) -> Result<usize, LentError> {
     match letter {
-        b'y' => set_priority(queue, id, priority),
-        b'k' => commit_reset_streams(queue),
-        b'b' => rollback_reset_streams(queue),
-        b'r' => reset(queue),
-        b'i' => enable_message_interleaving(queue, interleave),
-        _ => Call::Refused(TOO_SHORT),
+        b'y' => Ok(set_priority(queue, id, priority)?),
+        b'k' => Ok(commit_reset_streams(queue)?),
+        b'b' => Ok(rollback_reset_streams(queue)?),
+        b'r' => Ok(reset(queue)?),
+        b'i' => Ok(enable_message_interleaving(queue, interleave)?),
+        _ => Err(LentError::TooShort),
     }
 }
 
@@ -212,11 +237,11 @@ fn restore_part(
     image: &[u8],
     length: usize,
     time: u64,
-) -> Call {
+) -> Result<usize, LentError> {
     if length > image.len() {
-        return Call::Refused(TOO_SHORT);
+        return Err(LentError::TooShort);
     }
-    restore(queue, store, time, &image[0..length])
+    Ok(restore(queue, store, time, &image[0..length])?)
 }
 
 // The first n bytes of the store, and so many of the image.
@@ -227,9 +252,9 @@ pub fn lent_restore(
     n: usize,
     length: usize,
     time: u64,
-) -> Call {
+) -> Result<usize, LentError> {
     if n > store.len() {
-        return Call::Refused(TOO_SHORT);
+        return Err(LentError::TooShort);
     }
     restore_part(queue, &mut store[0..n], image, length, time)
 }
@@ -240,11 +265,11 @@ fn save_part(
     buffer: &mut [u8],
     room: usize,
     time: u64,
-) -> Saved {
+) -> Result<usize, LentError> {
     if room > buffer.len() {
-        return Saved::Refused(TOO_SHORT);
+        return Err(LentError::TooShort);
     }
-    save(queue, store, &mut buffer[0..room], time)
+    Ok(save(queue, store, &mut buffer[0..room], time)?)
 }
 
 // The first n bytes of the store, and so many of the buffer.
@@ -255,9 +280,9 @@ pub fn lent_save(
     n: usize,
     room: usize,
     time: u64,
-) -> Saved {
+) -> Result<usize, LentError> {
     if n > store.len() {
-        return Saved::Refused(TOO_SHORT);
+        return Err(LentError::TooShort);
     }
     save_part(queue, &store[0..n], buffer, room, time)
 }

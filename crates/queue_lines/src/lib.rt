@@ -2,12 +2,14 @@
 // what is settled after it.
 #![tactic(auto)]
 
+use std::convert::From;
+
 use lent_calls::{
-    Creation, lent_add, lent_create, lent_event_call, lent_produce, lifetime_of, plain_call,
+    Creation, LentError, lent_add, lent_create, lent_event_call, lent_produce, lifetime_of, plain_call,
     retransmissions_of,
 };
 use send_queue::{
-    Call, Flag, Message, Number, Produced, QUEUE_WORDS, ReadyStreams, StreamId, buffered_amount,
+    Message, Produced, QUEUE_WORDS, ReadyStreams, Refusal, StreamId, buffered_amount,
     buffered_amount_low_threshold, count_streams_ready_to_reset, enable_message_interleaving,
     get_handover_readiness, get_priority, get_streams_ready_to_reset, has_data_to_send,
     has_streams_ready_to_be_reset, is_empty, total_buffered_amount,
@@ -15,7 +17,7 @@ use send_queue::{
 use trace_answers::fragments::put_fields;
 use trace_answers::marks::{EVENT_BUFFER, clear_store, event_words, keep_words, mark_bytes};
 use trace_answers::settle::{
-    events_of, refusal_number, refusal_of, settle_events, settle_fragment, settle_no_events,
+    events_of, refusal_of, settle_events, settle_fragment, settle_no_events,
     settle_store, settle_words,
 };
 use trace_text::output::{Answers, put_answer, put_broken, put_byte, put_number, put_text};
@@ -56,7 +58,7 @@ fn keep_arguments(state: &mut [u64; STATE]) {
 }
 
 // A queue with the arguments kept.
-fn create_kept(queue: &mut [u64; QUEUE_WORDS], store: &[u8; STORE], state: &[u64; STATE]) -> Call {
+fn create_kept(queue: &mut [u64; QUEUE_WORDS], store: &[u8; STORE], state: &[u64; STATE]) -> Result<usize, LentError> {
     let c = Creation {
         limit: state[CREATED_LIMIT],
         priority: low16(state[CREATED_PRIORITY]),
@@ -90,7 +92,7 @@ pub fn answer_create(
 }
 
 // The arguments of a queue that is there are right, so a queue alike is created, and the choice is never refused.
-fn settle_alike(created: Call, chosen: Call, output: &mut Answers) {
+fn settle_alike(created: Result<usize, LentError>, chosen: Result<usize, LentError>, output: &mut Answers) {
     if refusal_of(created) > 0 {
         put_broken(output, b"a queue alike is refused");
     }
@@ -152,7 +154,7 @@ fn add_line(
     store: &mut [u8; STORE],
     payload: &[u8; PAYLOAD],
     state: &[u64; STATE],
-) -> Call {
+) -> Result<usize, LentError> {
     let m = message_of(state);
     lent_add(
         queue,
@@ -197,9 +199,9 @@ struct Wrote {
     bytes: u64,
 }
 
-fn put_produced(fragment: &[u8; PAYLOAD], output: &mut Answers, p: Produced) -> Wrote {
+fn put_produced(fragment: &[u8; PAYLOAD], output: &mut Answers, p: Result<Produced, LentError>) -> Wrote {
     match p {
-        Produced::Nothing(n) => {
+        Ok(Produced::Nothing(n)) => {
             put_text(output, b"p 0 0\n");
             Wrote {
                 refusal: 0,
@@ -207,7 +209,7 @@ fn put_produced(fragment: &[u8; PAYLOAD], output: &mut Answers, p: Produced) -> 
                 bytes: 0,
             }
         }
-        Produced::Fragment(n, d) => {
+        Ok(Produced::Fragment(n, d)) => {
             let data = d.data;
             let bytes = data.length;
             let sum = sum_of(fragment, bytes as usize);
@@ -219,8 +221,8 @@ fn put_produced(fragment: &[u8; PAYLOAD], output: &mut Answers, p: Produced) -> 
                 bytes: bytes,
             }
         }
-        Produced::Refused(r) => {
-            let refusal = refusal_number(r);
+        Err(e) => {
+            let refusal = e.number();
             put_answer(output, b'p', refusal);
             Wrote {
                 refusal: refusal,
@@ -237,7 +239,7 @@ fn produce_line(
     events: &mut [u64; EVENT_BUFFER],
     fragment: &mut [u8; PAYLOAD],
     state: &[u64; STATE],
-) -> Produced {
+) -> Result<Produced, LentError> {
     lent_produce(
         queue,
         store,
@@ -274,7 +276,7 @@ fn event_line(
     events: &mut [u64; EVENT_BUFFER],
     state: &[u64; STATE],
     letter: u8,
-) -> Call {
+) -> Result<usize, LentError> {
     lent_event_call(
         queue,
         events,
@@ -340,24 +342,44 @@ fn put_ids(output: &mut Answers, ids: &[u16; 256], count: usize) {
     put_byte(output, b'\n');
 }
 
-fn put_ready(output: &mut Answers, r: ReadyStreams, refusal: u64) {
-    if refusal == 0 {
-        let ids = r.ids;
-        put_ids(output, &ids, r.count);
-        return;
+// The line of the ready ids, and what is told of them.
+fn put_ready(output: &mut Answers, r: Result<ReadyStreams, Refusal>) -> Told {
+    match r {
+        Ok(ready) => {
+            let ids = ready.ids;
+            put_ids(output, &ids, ready.count);
+            Told {
+                refusal: 0,
+                count: ready.count as u64,
+            }
+        }
+        Err(refusal) => {
+            let number = u8::from(refusal) as u64;
+            put_answer(output, b'g', number);
+            Told {
+                refusal: number,
+                count: 0,
+            }
+        }
     }
-    put_answer(output, b'g', refusal);
+}
+
+// A refusal's number, 0 for none, and how many ids are ready.
+#[derive(Clone, Copy)]
+struct Told {
+    refusal: u64,
+    count: u64,
 }
 
 // No line asks how many ids are ready: the question is asked before they are taken, and compared.
-fn settle_count(asked: Number, count: u64, output: &mut Answers) {
+fn settle_count(asked: Result<u64, Refusal>, count: u64, output: &mut Answers) {
     match asked {
-        Number::Value(n) => {
+        Ok(n) => {
             if n != count {
                 put_broken(output, b"another number of ready ids");
             }
         }
-        Number::Refused(_) => put_broken(output, b"no number of ready ids"),
+        Err(_) => put_broken(output, b"no number of ready ids"),
     }
 }
 
@@ -368,26 +390,22 @@ pub fn answer_ready(
 ) {
     let asked = count_streams_ready_to_reset(&*queue);
     let r = get_streams_ready_to_reset(queue);
-    let c = r.answer;
-    let count = r.count as u64;
-    let refusal = refusal_of(c);
-    put_ready(output, r, refusal);
-    settle_count(asked, count, output);
-    settle_no_events(events_of(c), output);
-    settle_words(&*queue, kept, refusal, output);
+    let told = put_ready(output, r);
+    settle_count(asked, told.count, output);
+    settle_words(&*queue, kept, told.refusal, output);
 }
 
-fn put_asked(output: &mut Answers, n: Number) {
+fn put_asked(output: &mut Answers, n: Result<u64, Refusal>) {
     match n {
-        Number::Value(v) => put_number(output, v),
-        Number::Refused(_) => put_text(output, b" BROKEN"),
+        Ok(v) => put_number(output, v),
+        Err(_) => put_text(output, b" BROKEN"),
     }
 }
 
-fn put_flag(output: &mut Answers, f: Flag) {
+fn put_flag(output: &mut Answers, f: Result<bool, Refusal>) {
     match f {
-        Flag::Value(b) => put_number(output, bit(b)),
-        Flag::Refused(_) => put_text(output, b" BROKEN"),
+        Ok(b) => put_number(output, bit(b)),
+        Err(_) => put_text(output, b" BROKEN"),
     }
 }
 

@@ -24,13 +24,13 @@ fn fill_part(
     events: &mut [u64],
     packet: &mut [u8],
     state: &[u64; STATE],
-) -> PacketFilled {
+) -> Result<PacketFilled, LentError> {
     let room = state[2] as usize;
     if room > packet.len() {
-        return PacketFilled::Refused(TOO_SHORT);
+        return Err(LentError::TooShort);
     }
     let p = packet_of(state);
-    fill_packet(queue, store, events, &mut packet[0..room], state[0], p)
+    Ok(fill_packet(queue, store, events, &mut packet[0..room], state[0], p)?)
 }
 
 fn fill_events(
@@ -39,10 +39,10 @@ fn fill_events(
     events: &mut [u64],
     packet: &mut [u8],
     state: &[u64; STATE],
-) -> PacketFilled {
+) -> Result<PacketFilled, LentError> {
     let words = event_words(state[LENT_EVENTS]);
     if words > events.len() {
-        return PacketFilled::Refused(TOO_SHORT);
+        return Err(LentError::TooShort);
     }
     fill_part(queue, store, &mut events[0..words], packet, state)
 }
@@ -54,10 +54,10 @@ fn lent_fill(
     events: &mut [u64],
     packet: &mut [u8],
     state: &[u64; STATE],
-) -> PacketFilled {
+) -> Result<PacketFilled, LentError> {
     let n = state[LENT_STORE] as usize;
     if n > store.len() {
-        return PacketFilled::Refused(TOO_SHORT);
+        return Err(LentError::TooShort);
     }
     fill_events(queue, &store[0..n], events, packet, state)
 }
@@ -84,7 +84,7 @@ struct Wrote {
     bytes: usize,
 }
 
-fn put_filled(packet: &[u8], a: PacketFilled, output: &mut Answers, room: usize) -> Wrote {
+fn put_filled(packet: &[u8], a: Result<PacketFilled, LentError>, output: &mut Answers, room: usize) -> Wrote {
     match a {
         PacketFilled::Filled(k, bytes, chunks) => {
             put_packet(packet, bytes, chunks, output, room);
@@ -94,8 +94,8 @@ fn put_filled(packet: &[u8], a: PacketFilled, output: &mut Answers, room: usize)
                 bytes: bytes,
             }
         }
-        PacketFilled::Refused(r) => {
-            let refusal = refusal_number(r);
+        Err(e) => {
+            let refusal = e.number();
             put_answer(output, b'F', refusal);
             Wrote {
                 refusal: refusal,

@@ -1,9 +1,8 @@
 // Priorities for a wanted order: the line `P limit n id1 .. idn m size1 .. sizem`.
 ghost use Rattle.std.specs.Prelude.{◌≤◌};
 
-use lent_calls::TOO_SHORT;
-use send_queue::{Call, MAX_PLANNED, PlannedPriorities, plan_priorities};
-use trace_answers::settle::refusal_of;
+use lent_calls::LentError;
+use send_queue::{MAX_PLANNED, PlannedPriorities, plan_priorities};
 use trace_text::output::{Answers, put_answer, put_byte, put_number, put_text};
 use trace_text::state::{BITS16, COUNT, STATE, low16, wide16};
 
@@ -64,36 +63,28 @@ fn take_sizes(state: &[u64; STATE], sizes: &mut [u64; LISTED]) {
     sizes.copy_from_slice(&state[from..from + LISTED]);
 }
 
-fn too_short() -> PlannedPriorities {
-    PlannedPriorities {
-        answer: Call::Refused(TOO_SHORT),
-        count: 0,
-        values: [0u16; MAX_PLANNED],
-    }
-}
-
 // The priorities for the first so many ids and sizes.
-fn plan_first(state: &[u64; STATE], ids: &[u16], sizes: &[u64]) -> PlannedPriorities {
+fn plan_first(state: &[u64; STATE], ids: &[u16], sizes: &[u64]) -> Result<PlannedPriorities, LentError> {
     let n = count_at(state, IDS);
     let m = count_at(state, IDS + 1 + n);
     if n > ids.len() {
-        return too_short();
+        return Err(LentError::TooShort);
     }
     if m > sizes.len() {
-        return too_short();
+        return Err(LentError::TooShort);
     }
-    plan_priorities(state[0], &ids[0..n], &sizes[0..m])
+    Ok(plan_priorities(state[0], &ids[0..n], &sizes[0..m])?)
 }
 
 fn plan_lists(
     state: &[u64; STATE],
     ids: &[u16; LISTED],
     sizes: &[u64; LISTED],
-) -> PlannedPriorities {
+) -> Result<PlannedPriorities, LentError> {
     plan_first(state, ids, sizes)
 }
 
-fn plan(state: &[u64; STATE]) -> PlannedPriorities {
+fn plan(state: &[u64; STATE]) -> Result<PlannedPriorities, LentError> {
     let mut ids = [0u16; LISTED];
     let mut sizes = [0u64; LISTED];
     take_ids(state, &mut ids);
@@ -110,13 +101,11 @@ fn put_priorities(output: &mut Answers, values: &[u16; MAX_PLANNED], count: usiz
 }
 
 pub fn answer_plan(output: &mut Answers, state: &[u64; STATE]) {
-    let r = plan(state);
-    let c = r.answer;
-    let refusal = refusal_of(c);
-    if refusal == 0 {
-        let values = r.values;
-        put_priorities(output, &values, r.count);
-        return;
+    match plan(state) {
+        Ok(planned) => {
+            let values = planned.values;
+            put_priorities(output, &values, planned.count);
+        }
+        Err(e) => put_answer(output, b'P', e.number()),
     }
-    put_answer(output, b'P', refusal);
 }

@@ -1,17 +1,16 @@
 // Reset requests to the peer: the lines `S number`, `Q buffer response last`, `A bytes` and `Z`.
-use lent_calls::TOO_SHORT;
-use send_queue::QUEUE_WORDS;
+use lent_calls::LentError;
+use send_queue::{QUEUE_WORDS, Refusal};
 use stream_reset_handler::{
-    HandledResponse, MadeRequest, RequestAnswer, ResponseAnswer, StreamResetHandler,
-    handle_response, make_request, reset, start,
+    ResponseAnswer, StreamResetHandler, handle_response, make_request, reset, start,
 };
 use trace_answers::marks::{BEFORE, OUTPUT, SHOWN, as_before};
-use trace_answers::settle::{refusal_number, refusal_of, settle_words};
+use trace_answers::settle::{refusal_of, settle_words};
 use trace_text::hex::put_part;
 use trace_text::output::{Answers, put_answer, put_broken, put_byte, put_number, put_text};
 use trace_text::payload::sum_of;
 use trace_text::state::{
-    IS_UNDERWAY, NEXT_NUMBER, PAYLOAD, STARTED, STATE, UNDERWAY_NUMBER, low32,
+    IS_UNDERWAY, NEXT_NUMBER, PAYLOAD, STARTED, STATE, UNDERWAY_NUMBER, bit, low32,
 };
 
 // What a call answers: a refusal's number, or 0 and a number.
@@ -36,25 +35,13 @@ fn handler_of(state: &[u64; STATE]) -> StreamResetHandler {
     }
 }
 
-fn underway_number(underway: Option<u32>, none: u64) -> u64 {
-    match underway {
-        None => none,
-        Some(n) => n as u64,
-    }
-}
-
-fn is_underway(underway: Option<u32>) -> u64 {
-    match underway {
-        None => 0,
-        Some(_) => 1,
-    }
-}
-
+// The place of a number with none underway stays.
 fn keep_handler(state: &mut [u64; STATE], handler: StreamResetHandler) {
-    let underway = handler.underway;
     state[NEXT_NUMBER] = handler.next_number as u64;
-    state[IS_UNDERWAY] = is_underway(underway);
-    state[UNDERWAY_NUMBER] = underway_number(underway, state[UNDERWAY_NUMBER]);
+    state[IS_UNDERWAY] = bit(handler.underway.is_some());
+    if let Some(number) = handler.underway {
+        state[UNDERWAY_NUMBER] = number as u64;
+    }
 }
 
 // "A refused call changes nothing": nor does it change the handler.
@@ -85,18 +72,14 @@ pub fn answer_start(output: &mut Answers, state: &mut [u64; STATE]) {
     put_text(output, b"S 0\n");
 }
 
-fn told_request(a: RequestAnswer) -> Told {
+fn told_request(a: Result<Option<usize>, LentError>) -> Told {
     match a {
-        RequestAnswer::Written(n) => Told {
+        Ok(n) => Told {
             refusal: 0,
-            number: n as u64,
+            number: n.unwrap_or(0) as u64,
         },
-        RequestAnswer::NoneReady => Told {
-            refusal: 0,
-            number: 0,
-        },
-        RequestAnswer::Refused(r) => Told {
-            refusal: refusal_number(r),
+        Err(e) => Told {
+            refusal: e.number(),
             number: 0,
         },
     }
@@ -127,26 +110,47 @@ fn put_requested(message: &[u8], t: Told, output: &mut Answers, room: usize) {
     }
 }
 
+// What a call of the handler's leaves, and the handler.
+#[derive(Clone, Copy)]
+struct Lent<T> {
+    answer: Result<T, LentError>,
+    handler: StreamResetHandler,
+}
+
+fn lent<T: Copy>(answer: Result<T, Refusal>, handler: StreamResetHandler) -> Lent<T> {
+    match answer {
+        Ok(value) => Lent {
+            answer: Ok(value),
+            handler,
+        },
+        Err(refusal) => Lent {
+            answer: Err(LentError::Refused(refusal)),
+            handler,
+        },
+    }
+}
+
 fn lent_request(
     queue: &mut [u64; QUEUE_WORDS],
     message: &mut [u8],
     state: &[u64; STATE],
-) -> MadeRequest {
+) -> Lent<Option<usize>> {
     let room = state[0] as usize;
     let handler = handler_of(state);
     if room > message.len() {
-        return MadeRequest {
-            answer: RequestAnswer::Refused(TOO_SHORT),
-            handler: handler,
+        return Lent {
+            answer: Err(LentError::TooShort),
+            handler,
         };
     }
-    make_request(
+    let m = make_request(
         queue,
         handler,
         &mut message[0..room],
         low32(state[1]),
         low32(state[2]),
-    )
+    );
+    lent(m.answer, m.handler)
 }
 
 fn request_into(
@@ -176,26 +180,23 @@ pub fn answer_request(
     request_into(queue, kept, &mut message, output, state);
 }
 
-fn told_response(a: ResponseAnswer) -> Told {
+fn response_number(a: ResponseAnswer) -> u64 {
     match a {
-        ResponseAnswer::Ignored => Told {
+        ResponseAnswer::Ignored => 0,
+        ResponseAnswer::Committed => 1,
+        ResponseAnswer::RolledBack => 2,
+        ResponseAnswer::StillWaiting => 3,
+    }
+}
+
+fn told_response(a: Result<ResponseAnswer, LentError>) -> Told {
+    match a {
+        Ok(answer) => Told {
             refusal: 0,
-            number: 0,
+            number: response_number(answer),
         },
-        ResponseAnswer::Committed => Told {
-            refusal: 0,
-            number: 1,
-        },
-        ResponseAnswer::RolledBack => Told {
-            refusal: 0,
-            number: 2,
-        },
-        ResponseAnswer::StillWaiting => Told {
-            refusal: 0,
-            number: 3,
-        },
-        ResponseAnswer::Refused(r) => Told {
-            refusal: refusal_number(r),
+        Err(e) => Told {
+            refusal: e.number(),
             number: 0,
         },
     }
@@ -214,16 +215,17 @@ fn lent_response(
     queue: &mut [u64; QUEUE_WORDS],
     payload: &[u8],
     state: &[u64; STATE],
-) -> HandledResponse {
+) -> Lent<ResponseAnswer> {
     let n = state[0] as usize;
     let handler = handler_of(state);
     if n > payload.len() {
-        return HandledResponse {
-            answer: ResponseAnswer::Refused(TOO_SHORT),
-            handler: handler,
+        return Lent {
+            answer: Err(LentError::TooShort),
+            handler,
         };
     }
-    handle_response(queue, handler, &payload[0..n])
+    let h = handle_response(queue, handler, &payload[0..n]);
+    lent(h.answer, h.handler)
 }
 
 pub fn answer_response(
@@ -250,9 +252,9 @@ pub fn answer_reset(
     state: &mut [u64; STATE],
 ) {
     let r = reset(queue, handler_of(&*state));
-    let c = r.answer;
-    let handler = r.handler;
-    let refusal = refusal_of(c);
+    let done = lent(r.answer, r.handler);
+    let refusal = refusal_of(done.answer);
+    let handler = done.handler;
     put_answer(output, b'Z', refusal);
     settle_handler(handler, refusal, output, state);
     settle_words(&*queue, kept, refusal, output);

@@ -1,12 +1,13 @@
 // Chunks on the wire: the lines `W kind buffer tsn stream unordered ssn mid fsn ppid first last length seed` and `R bytes`.
-use lent_calls::TOO_SHORT;
+use std::convert::From;
+
+use lent_calls::LentError;
 use send_queue::{
-    Chunk, ChunkKind, ChunkRead, ChunkWritten, Data, DataToSend, Fsn, Mid, OutgoingMessageId, Ssn,
+    Chunk, ChunkKind, Data, DataToSend, Fsn, Mid, OutgoingMessageId, Ssn,
     StreamId, StreamKey, read_chunk, write_chunk,
 };
 use trace_answers::fragments::put_fields;
 use trace_answers::marks::{BEFORE, OUTPUT, SHOWN, as_before};
-use trace_answers::settle::refusal_number;
 use trace_text::hex::put_part;
 use trace_text::output::{Answers, put_answer, put_broken, put_byte, put_number, put_text};
 use trace_text::payload::{fill, sum, sum_of};
@@ -48,25 +49,26 @@ fn fragment_of(state: &[u64; STATE]) -> DataToSend {
     }
 }
 
-fn lent_write(chunk: &mut [u8], payload: &mut [u8], state: &[u64; STATE]) -> ChunkWritten {
+fn lent_write(chunk: &mut [u8], payload: &mut [u8], state: &[u64; STATE]) -> Result<usize, LentError> {
     let room = state[1] as usize;
     if room > chunk.len() {
-        return ChunkWritten::Refused(TOO_SHORT);
+        return Err(LentError::TooShort);
     }
     let n = state[11] as usize;
     if n > payload.len() {
-        return ChunkWritten::Refused(TOO_SHORT);
+        return Err(LentError::TooShort);
     }
     fill(&mut payload[0..n], state[12]);
     let kind = kind_of(state[0]);
     let fragment = fragment_of(state);
-    write_chunk(
+    let written = write_chunk(
         &mut chunk[0..room],
         kind,
         low32(state[2]),
         fragment,
         &payload[0..n],
-    )
+    )?;
+    Ok(written)
 }
 
 fn put_chunk(chunk: &[u8], n: usize, output: &mut Answers, room: usize) {
@@ -81,14 +83,14 @@ fn put_chunk(chunk: &[u8], n: usize, output: &mut Answers, room: usize) {
 }
 
 // The answer's line, and how many bytes are written.
-fn put_written(chunk: &[u8], w: ChunkWritten, output: &mut Answers, room: usize) -> usize {
+fn put_written(chunk: &[u8], w: Result<usize, LentError>, output: &mut Answers, room: usize) -> usize {
     match w {
-        ChunkWritten::Bytes(n) => {
+        Ok(n) => {
             put_chunk(chunk, n, output, room);
             n
         }
-        ChunkWritten::Refused(r) => {
-            put_answer(output, b'W', refusal_number(r));
+        Err(e) => {
+            put_answer(output, b'W', e.number());
             0
         }
     }
@@ -132,10 +134,9 @@ fn put_read(bytes: &[u8], c: Chunk, output: &mut Answers) {
 }
 
 fn read_from(bytes: &[u8], output: &mut Answers) {
-    let r = read_chunk(bytes);
-    match r {
-        ChunkRead::Read(c) => put_read(bytes, c, output),
-        ChunkRead::Refused(n) => put_answer(output, b'R', refusal_number(n)),
+    match read_chunk(bytes) {
+        Ok(c) => put_read(bytes, c, output),
+        Err(refusal) => put_answer(output, b'R', u8::from(refusal) as u64),
     }
 }
 

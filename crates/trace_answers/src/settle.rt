@@ -3,31 +3,22 @@ use crate::marks::{
     EVENT_BUFFER, bytes_marked, events_marked, keep_store, keep_words, mark_events, store_same,
     words_same,
 };
-use send_queue::{Call, PLACE_WORDS, QUEUE_WORDS};
+use lent_calls::LentError;
+use send_queue::{PLACE_WORDS, QUEUE_WORDS};
 use trace_text::output::{Answers, put_broken, put_byte, put_number};
 use trace_text::state::{IMAGE, MOST_PLACES, PAYLOAD, STORE};
 
-// A refusal's number, which is above 0.
-pub fn refusal_number(r: u8) -> u64 {
-    if r == 0 {
-        return 100;
-    }
-    r as u64
-}
-
-// 0 for accepted.
-pub fn refusal_of(c: Call) -> u64 {
+// The number of a refusal, 0 for accepted.
+pub fn refusal_of<T: Copy>(c: Result<T, LentError>) -> u64 {
     match c {
-        Call::Accepted(_) => 0,
-        Call::Refused(r) => refusal_number(r),
+        Ok(_) => 0,
+        Err(e) => e.number(),
     }
 }
 
-pub fn events_of(c: Call) -> usize {
-    match c {
-        Call::Accepted(n) => n,
-        Call::Refused(_) => 0,
-    }
+// How many events a call reports; none where it is refused.
+pub fn events_of(c: Result<usize, LentError>) -> usize {
+    c.unwrap_or(0)
 }
 
 // The words: kept where the call was accepted, else compared.
