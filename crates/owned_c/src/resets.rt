@@ -1,6 +1,7 @@
 // Reset requests to the peer: 0, or the refusal's number, which is 25, 26 or 27. The whole-queue reset: there is no answer.
 ghost use Rattle.std.specs.Prelude.{◌≡◌};
 ghost use Rattle.owned_streams.specs.Own.{OwnWords};
+ghost use Rattle.stream_reset_handler.specs.Answers.{as_request, as_made, as_response, as_handled};
 ghost use Rattle.owned_resets.specs.Answers.{request_as, made_as, response_as, handled_as};
 ghost use Rattle.host_handler.specs.Handler.{GivesRequest, GivesResponse, GivesReset};
 
@@ -8,31 +9,25 @@ use host_handler::{
     HANDLER_NUMBERS, handler_in, put_ended, put_handler, tell_outcome, tell_request,
 };
 use out_array::OUT_WORDS;
-use owned_resets::{RequestAnswer, ResponseAnswer};
+use owned_resets::{RequestRefusal, ResponseWrong};
 use queue_words::QUEUE_WORDS;
-use stream_reset_handler::{HandledResponse, MadeRequest};
+use stream_reset_handler::{HandledResponse, MadeRequest, ResponseAnswer};
+use types::Refusal;
 
 // As the checked call says it.
-fn request_as(a: RequestAnswer) -> stream_reset_handler::RequestAnswer
-    ensures { result ≡ request_as a }
+fn request_as(a: Result<Option<usize>, RequestRefusal>) -> Result<Option<usize>, Refusal>
+    ensures { as_request result ≡ request_as a }
 {
-    match a {
-        RequestAnswer::Written(n) => stream_reset_handler::RequestAnswer::Written(n),
-        RequestAnswer::NoneReady => stream_reset_handler::RequestAnswer::NoneReady,
-        RequestAnswer::Underway => stream_reset_handler::RequestAnswer::Refused(25),
-        RequestAnswer::OutputShort => stream_reset_handler::RequestAnswer::Refused(26),
-    }
+    Ok(a?)
 }
 
 fn made_as(m: owned_resets::MadeRequest) -> MadeRequest
-    ensures { result ≡ made_as m }
+    ensures { as_made result ≡ made_as m }
 {
-    let a = m.answer;
-    let handler = m.handler;
-    let answer = request_as(a);
+    let answer = request_as(m.answer);
     MadeRequest {
-        answer: answer,
-        handler: handler,
+        answer,
+        handler: m.handler,
     }
 }
 
@@ -55,27 +50,19 @@ pub extern "C" fn dsq_owned_make_reset_request(
 }
 
 // As the checked call says it.
-fn response_as(a: ResponseAnswer) -> stream_reset_handler::ResponseAnswer
-    ensures { result ≡ response_as a }
+fn response_as(a: Result<ResponseAnswer, ResponseWrong>) -> Result<ResponseAnswer, Refusal>
+    ensures { as_response result ≡ response_as a }
 {
-    match a {
-        ResponseAnswer::Ignored => stream_reset_handler::ResponseAnswer::Ignored,
-        ResponseAnswer::Committed => stream_reset_handler::ResponseAnswer::Committed,
-        ResponseAnswer::RolledBack => stream_reset_handler::ResponseAnswer::RolledBack,
-        ResponseAnswer::StillWaiting => stream_reset_handler::ResponseAnswer::StillWaiting,
-        ResponseAnswer::ResponseWrong => stream_reset_handler::ResponseAnswer::Refused(27),
-    }
+    Ok(a?)
 }
 
 fn handled_as(h: owned_resets::HandledResponse) -> HandledResponse
-    ensures { result ≡ handled_as h }
+    ensures { as_handled result ≡ handled_as h }
 {
-    let a = h.answer;
-    let handler = h.handler;
-    let answer = response_as(a);
+    let answer = response_as(h.answer);
     HandledResponse {
-        answer: answer,
-        handler: handler,
+        answer,
+        handler: h.handler,
     }
 }
 
