@@ -4,5 +4,5 @@
 pub mod making;
 pub mod receiving;
 
-pub use making::{MadeRequest, RequestAnswer, make_request};
-pub use receiving::{HandledResponse, ResponseAnswer, handle_response, reset};
+pub use making::{MadeRequest, RequestRefusal, make_request};
+pub use receiving::{HandledResponse, ResponseWrong, handle_response, reset};
