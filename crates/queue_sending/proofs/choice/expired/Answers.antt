@@ -10,10 +10,10 @@ returns-in-None c =
     c.in-None.is
     )
 
-pub returns-in-At : goal.returns-in-At
+pub returns-in-Some : goal.returns-in-Some
 unfolding expired_by
-returns-in-At c =
+returns-in-Some c =
     rw
     (
-    c.in-At.is
+    c.in-Some.is
     )

@@ -9,7 +9,7 @@ returns c =
     rw (
       ← c.remaining-left.ensures,
       ← c.new-stream_key.ensures,
-      ← c.ssn-ssn.ensures,
-      ← c.mid-mid.ensures,
+      ← c.ssn_in-ssn.ensures,
+      ← c.mid_in-mid.ensures,
       ← c.shown_lifecycle-lifecycle_id.ensures,
     )

@@ -22,7 +22,7 @@ returns c =
       ← c.sent_events-k1.ensures,
       ← c.numbered_item-item.ensures,
       ← c.numbered_stream-stream.ensures,
-      ← c.are_given-had.ensures,
+      ← c.is_some-had.ensures,
       ← c.write_sent.ensures,
       ← c.data_to_send-d.ensures,
     )

@@ -7,7 +7,7 @@ pub returns-then-given : goal.returns-then-given
 unfolding numbered_item
 returns-then-given c =
     rw (
-      ← c.are_given-given.ensures,
+      ← c.is_some-given.ensures,
       c.if-given.true,
     )
 
@@ -15,7 +15,7 @@ pub returns : goal.returns
 unfolding numbered_item
 returns c =
     rw (
-      ← c.are_given-given.ensures,
+      ← c.is_some-given.ensures,
       c.if-given.false,
       ← c.next_numbers-next.ensures,
     )

@@ -7,7 +7,7 @@ pub returns-then-given : goal.returns-then-given
 unfolding numbered_stream
 returns-then-given c =
     rw (
-      ← c.are_given-given.ensures,
+      ← c.is_some-given.ensures,
       c.if-given.true,
     )
 
@@ -15,7 +15,7 @@ pub returns-then-m : goal.returns-then-m
 unfolding numbered_stream
 returns-then-m c =
     rw (
-      ← c.are_given-given.ensures,
+      ← c.is_some-given.ensures,
       c.if-given.false,
       c.if-m.true,
       ← c.add_to-mid.ensures,
@@ -25,7 +25,7 @@ pub returns : goal.returns
 unfolding numbered_stream
 returns c =
     rw (
-      ← c.are_given-given.ensures,
+      ← c.is_some-given.ensures,
       c.if-given.false,
       c.if-m.false,
       ← c.add_to-mid-2.ensures,
