@@ -1,7 +1,8 @@
 // Why a setting is refused; 16 is none of them.
 ghost use Rattle.std.specs.Prelude.{◌≡◌};
 ghost use Rattle.types.specs.declared.refusal.Refusal.TheVariants as refusal;
-ghost use Rattle.owned_streams.specs.Settings.{threshold_refusal};
+ghost use Rattle.types.specs.Refusal.{refusal_number};
+ghost use Rattle.owned_streams.specs.Settings.{threshold_number};
 
 use std::convert::From;
 use types::Refusal;
@@ -26,7 +27,7 @@ pub enum ThresholdRefusal {
 }
 
 impl From<ThresholdRefusal> for Refusal {
-    ghost from_gives = { λ t r. r ≡ threshold_refusal t };
+    ghost from_gives = { λ t r. refusal_number r ≡ threshold_number t };
 
     fn from(t: ThresholdRefusal) -> Refusal {
         match t {
