@@ -1,4 +1,5 @@
 -- From the words of a queue: the tests of a message say that it may be added; the ways out. Assumes nothing.
+use Rattle.std.specs.Prelude.{Option, Some, None, Ok, Err}
 use mathlib.Core.Path.{◌≡◌, refl, sym, ◌∙◌, subst}
 use mathlib.Core.Bool.{Bool, true, false}
 use mathlib.Core.List.{List}
@@ -16,16 +17,16 @@ use Rattle.queue_model.specs.Demands.{MessageTyped}
 use Rattle.payload_store.specs.Words.{gaps_of}
 use Rattle.payload_store.proofs.Goods.{used_fits}
 use Rattle.queue_streams.specs.Answers.{call_number}
-use Rattle.queue_streams.specs.Known.{new_stream_words, look_up}
+use Rattle.queue_streams.specs.Known.{new_stream_words, look_up, placed}
 use Rattle.queue_streams.specs.Owned.{placed_as}
 use Rattle.queue_streams.specs.Call as call
 use Rattle.queue_streams.specs.Place.{Place}
 use Rattle.queue_streams.specs.Place as place
-use Rattle.queue_streams.specs.declared.owned.OwnPlace.{OwnPlace}
-use Rattle.queue_streams.specs.declared.owned.OwnPlace.TheVariants as own
+use Rattle.queue_streams.specs.declared.known.Place as seat
+use Rattle.queue_streams.specs.declared.known.Place.TheVariants as seat_is
 use Rattle.queue_state.specs.Good.{Good}
 use Rattle.queue_state.proofs.Looks.{Lookup, known_at_lem, new_at, lookup}
-use Rattle.queue_messages.specs.Add.{asked_code, arguments_code, full_code, message_code, stream_for, row_for, made_known, MayAppend, added, add_to, add, appended, stored}
+use Rattle.queue_messages.specs.Add.{asked_code, arguments_code, full_code, message_code, stream_for, row_for, made_known, refused_place, MayAppend, added, add_to, add, appended, stored}
 use Rattle.queue_messages.specs.Message.{nanoseconds}
 use Rattle.queue_messages.specs.Message.{Lifetime}
 use Rattle.queue_messages.specs.declared.message.Message.{Message}
@@ -35,11 +36,9 @@ use Rattle.linked_adding.specs.Message.{message_of_words}
 use Rattle.linked_adding.proofs.Adds.{Passed, Sound, place_sound}
 use Rattle.linked_adding.proofs.Meets.{add_meets}
 use Rattle.linked_adding.proofs.Refuses.{message_none, lost_six}
-use Rattle.owned_adding.specs.Add.{refusal_number, OneOf, call_of, MayAdd, OwnedAdd}
+use Rattle.owned_adding.specs.Add.{refusal_number, OneOf, Added, call_of, MayAdd, OwnedAdd}
 use Rattle.owned_adding.specs.declared.Refusal.{Refusal}
 use Rattle.owned_adding.specs.declared.Refusal.TheVariants as refusal
-use Rattle.owned_adding.specs.declared.Added as owned
-use Rattle.owned_adding.specs.declared.Added.TheVariants as answer
 
 -- ---- the numbers that the tests give
 
@@ -112,15 +111,24 @@ refusal_fine refusal.Streams e = omega arith
 refusal_fine refusal.Messages e = omega arith
 refusal_fine refusal.Store e = omega arith
 
-never_sixteen : (r : owned.Added) → call_number (call_of r) ≡ 16 → ⊥
-never_sixteen answer.Accepted e = omega arith
-never_sixteen (answer.Refused x) e = refusal_fine x e
+never_sixteen : (r : Added) → call_number (call_of r) ≡ 16 → ⊥
+never_sixteen (Ok u) e = omega arith
+never_sixteen (Err x) e = refusal_fine x e
+
+-- a place is none that is refused
+not_refused : (at : seat.Place) (c : ℕ) → placed at ≡ place.Refused c → ⊥
+not_refused (seat_is.Row row) c e = let z : ◌≡◌ {A = ℕ} 0 1 = cc in omega arith
+not_refused (seat_is.New position) c e = let z : ◌≡◌ {A = ℕ} 0 1 = cc in omega arith
+
+placed_in : (ws : List ℕ) (len n : ℕ) (at : seat.Place) → refused_place ws len n (placed at) ≡ 0
+placed_in ws len n (seat_is.Row row) = refl
+placed_in ws len n (seat_is.New position) = refl
 
 module _ (ws st : List ℕ) (g : Good ws st) (time : ℕ) (m : Message) (bs : List ℕ) (ht : time < 2 ^ 64) (typed : MessageTyped (message_of_words m bs)) where
   abbrev id : ℕ
   id = m.stream_id.0
 
-  meets : (r : owned.Added) (us ut : List ℕ) → added (call_of r) us ut ≡ add ws st time m bs → OwnedAdd ws st time m bs r us ut
+  meets : (r : Added) (us ut : List ℕ) → added (call_of r) us ut ≡ add ws st time m bs → OwnedAdd ws st time m bs r us ut
   meets r us ut e = let y = add_meets ws st time m bs (call_of r) us ut ht typed e in record { words = e; tells = y.tells g; model = y.model g; no_sixteen = never_sixteen r }
 
   code_same : arguments_code ws (length st) time m.lifetime (length bs) ≡ asked_code time m.lifetime (length bs)
@@ -131,9 +139,9 @@ module _ (ws st : List ℕ) (g : Good ws st) (time : ℕ) (m : Message) (bs : Li
     code_is : arguments_code ws (length st) time m.lifetime (length bs) ≡ code
     code_is = code_same ∙ sym ec
 
-    pub out_asked : 0 < code → (x : Refusal) → refusal_number x ≡ code → OwnedAdd ws st time m bs (answer.Refused x) ws st
+    pub out_asked : 0 < code → (x : Refusal) → refusal_number x ≡ code → OwnedAdd ws st time m bs (Err x) ws st
     unfolding add
-    out_asked h x ex = meets (answer.Refused x) ws st (rw (code_is, lt-ltb 0 code h, ex))
+    out_asked h x ex = meets (Err x) ws st (rw (code_is, lt-ltb 0 code h, ex))
 
     module _ (h : code ≤ 0) where
       asked : Asked time m.lifetime (length bs)
@@ -158,33 +166,22 @@ module _ (ws st : List ℕ) (g : Good ws st) (time : ℕ) (m : Message) (bs : Li
             unbroken = λ f. message_of f at (subst (Sound ws st g time m bs ht typed) (sym e) (place_sound ws st g time m bs ht typed (passed_of f))) ne;
           }
 
-      module _ (f : OwnPlace) (ef : placed_as f ≡ look_up ws m.stream_id.0) where
-        module _ (row : ℕ) (e : f ≡ own.Row row) where
-          at_row : place.Row row ≡ look_up ws m.stream_id.0
-          at_row = rw e at ef
+      module _ (found : Option seat.Place) (ef : placed_as found ≡ look_up ws m.stream_id.0) where
+        module _ (at : seat.Place) (e : found ≡ Some at) where
+          placed_is : placed at ≡ look_up ws m.stream_id.0
+          placed_is = rw e at ef
 
-          pub row_may : MayAdd ws st time m bs (place.Row row)
-          row_may = may_by (place.Row row) at_row (λ c z. let o : ◌≡◌ {A = ℕ} 0 1 = cc in omega arith)
+          pub placed_may : MayAdd ws st time m bs (placed at)
+          placed_may = may_by (placed at) placed_is (not_refused at)
 
-          pub out_row : (r : owned.Added) (us ut : List ℕ) → added (call_of r) us ut ≡ add_to ws st time m bs (place.Row row) → OwnedAdd ws st time m bs r us ut
+          pub out_placed : (r : Added) (us ut : List ℕ) → added (call_of r) us ut ≡ add_to ws st time m bs (placed at) → OwnedAdd ws st time m bs r us ut
           unfolding add
-          out_row r us ut eo = meets r us ut (rw (code_is, le-ltb 0 code h, ← at_row) eo)
+          out_placed r us ut eo = meets r us ut (rw (code_is, le-ltb 0 code h, ← placed_is, placed_in ws (length st) (length bs) at) eo)
 
-        module _ (position : ℕ) (e : f ≡ own.New position) where
-          at_new : place.New position ≡ look_up ws m.stream_id.0
-          at_new = rw e at ef
-
-          pub new_may : MayAdd ws st time m bs (place.New position)
-          new_may = may_by (place.New position) at_new (λ c z. let o : ◌≡◌ {A = ℕ} 0 1 = cc in omega arith)
-
-          pub out_new : (r : owned.Added) (us ut : List ℕ) → added (call_of r) us ut ≡ add_to ws st time m bs (place.New position) → OwnedAdd ws st time m bs r us ut
-          unfolding add
-          out_new r us ut eo = meets r us ut (rw (code_is, le-ltb 0 code h, ← at_new) eo)
-
-        pub out_full : f ≡ own.Full → OwnedAdd ws st time m bs (answer.Refused refusal.Streams) ws st
+        pub out_full : found ≡ None → OwnedAdd ws st time m bs (Err refusal.Streams) ws st
         unfolding add
         out_full e = let full : place.Refused 6 ≡ look_up ws m.stream_id.0 = rw e at ef in
-            meets (answer.Refused refusal.Streams) ws st (rw (code_is, le-ltb 0 code h, ← full, lost_six ws (length st) (length bs)))
+            meets (Err refusal.Streams) ws st (rw (code_is, le-ltb 0 code h, ← full, lost_six ws (length st) (length bs)))
 
 -- ---- the message in its place
 

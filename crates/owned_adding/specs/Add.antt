@@ -1,5 +1,5 @@
 -- Adding a message to a queue that its own calls alone have changed. Assumes nothing.
-use Rattle.std.specs.Prelude.{ℕ, ◌≤◌, ◌≡◌, List, length}
+use Rattle.std.specs.Prelude.{ℕ, ◌≤◌, ◌≡◌, List, length, Result, Ok, Err}
 use Rattle.queue_model.specs.Run as run
 use Rattle.queue_streams.specs.Answers.{call_number}
 use Rattle.queue_streams.specs.Call.{Call}
@@ -12,8 +12,6 @@ use Rattle.queue_messages.specs.declared.message.Message.{Message}
 use Rattle.linked_adding.specs.Message.{message_of_words}
 use Rattle.owned_adding.specs.declared.Refusal.{Refusal}
 use Rattle.owned_adding.specs.declared.Refusal.TheVariants as refusal
-use Rattle.owned_adding.specs.declared.Added.{Added}
-use Rattle.owned_adding.specs.declared.Added.TheVariants as answer
 
 -- The number of a refusal in document 01.
 abbrev pub refusal_number : Refusal → ℕ
@@ -27,10 +25,14 @@ refusal_number refusal.Store = 8
 abbrev pub OneOf : ℕ → ℕ → ℕ → Type 0
 OneOf a b code = (code ≡ a → ⊥) → b ≡ code
 
+-- what the call answers
+abbrev pub Added : Type 0
+Added = Result (Unit {0}) Refusal
+
 -- The answer as the checked call shows it.
 abbrev pub call_of : Added → Call
-call_of answer.Accepted = call.Accepted 0
-call_of (answer.Refused r) = call.Refused (refusal_number r)
+call_of (Ok u) = call.Accepted 0
+call_of (Err r) = call.Refused (refusal_number r)
 
 -- The stream has a place, the times fit, and where a message more fits, the tests say that it may be added: 16 is not given.
 pub record MayAdd (ws st : List ℕ) (time : ℕ) (m : Message) (bs : List ℕ) (place : Place) : Type 0 where

@@ -3,18 +3,21 @@
 #![tactic(auto)]
 
 ghost use Rattle.std.specs.Prelude.{◌≡◌};
+ghost use Rattle.types.specs.Refusal as types_refusal;
 ghost use Rattle.queue_messages.specs.Add.{added, add_to};
+ghost use Rattle.queue_streams.specs.Known.{placed};
 ghost use Rattle.queue_state.specs.Good.{Good};
 ghost use Rattle.owned_adding.specs.Add.{refusal_number, OneOf, call_of, MayAdd, OwnedAdd};
 
 use queue_messages::Message;
 use queue_messages::adding::{append, asked_code, full_code, make_known, row_for, stream_for};
 use queue_streams::known::Place;
-use queue_streams::owned::{OwnPlace, look_up_own};
+use queue_streams::owned::look_up_own;
 use queue_words::{QUEUE_WORDS, whole};
+use std::convert::From;
 
 // What is refused: a time or lifetime, the payload's length, a 257th stream, a 1,025th message, a payload longer than the free bytes.
-#[derive(Clone, Copy)]
+#[derive(Clone, Copy, Debug, PartialEq, Eq)]
 pub enum Refusal {
     Time,
     Payload,
@@ -23,32 +26,41 @@ pub enum Refusal {
     Store,
 }
 
-#[derive(Clone, Copy)]
-pub enum Added {
-    Accepted,
-    Refused(Refusal),
+// As the checked call says it.
+impl From<Refusal> for types::Refusal {
+    ghost from_gives = { λ own r. types_refusal.refusal_number r ≡ refusal_number own };
+
+    fn from(own: Refusal) -> types::Refusal {
+        match own {
+            Refusal::Time => types::Refusal::TimeLate,
+            Refusal::Payload => types::Refusal::PayloadWrong,
+            Refusal::Streams => types::Refusal::StreamsFull,
+            Refusal::Messages => types::Refusal::MessagesFull,
+            Refusal::Store => types::Refusal::StoreFull,
+        }
+    }
 }
 
-// The refusals of what is asked for, by their numbers in document 01: 4 and 5.
-fn asked_refusal(code: u8) -> Refusal
-    requires { OneOf 4 5 code }
-    ensures { refusal_number result ≡ code }
+// The refusals of what is asked for: of the time or of the payload.
+fn asked_refusal(r: types::Refusal) -> Refusal
+    requires { OneOf 4 5 (types_refusal.refusal_number r) }
+    ensures { refusal_number result ≡ types_refusal.refusal_number r }
 {
-    if code == 4 {
-        return Refusal::Time;
+    match r {
+        types::Refusal::TimeLate => Refusal::Time,
+        _ => Refusal::Payload,
     }
-    Refusal::Payload
 }
 
-// The refusals where no message more fits: 7 and 8.
-fn full_refusal(code: u8) -> Refusal
-    requires { OneOf 7 8 code }
-    ensures { refusal_number result ≡ code }
+// The refusals where no message more fits.
+fn full_refusal(r: types::Refusal) -> Refusal
+    requires { OneOf 7 8 (types_refusal.refusal_number r) }
+    ensures { refusal_number result ≡ types_refusal.refusal_number r }
 {
-    if code == 7 {
-        return Refusal::Messages;
+    match r {
+        types::Refusal::MessagesFull => Refusal::Messages,
+        _ => Refusal::Store,
     }
-    Refusal::Store
 }
 
 // A message for a stream that is known, or that it makes known.
@@ -59,20 +71,19 @@ fn add_own(
     m: Message,
     payload: &[u8],
     place: Place,
-) -> Added
-    requires { MayAdd queue.old store.old time m payload.now place }
-    ensures { added (call_of result) queue.new store.new ≡ add_to queue.old store.old time m payload.now place }
+) -> Result<(), Refusal>
+    requires { MayAdd queue.old store.old time m payload.now (placed place) }
+    ensures { added (call_of result) queue.new store.new ≡ add_to queue.old store.old time m payload.now (placed place) }
 {
     whole(&*queue);
-    let full = full_code(&*queue, store.len() as u64, payload.len() as u64);
-    if full > 0 {
-        return Added::Refused(full_refusal(full));
+    if let Err(full) = full_code(&*queue, store.len() as u64, payload.len() as u64) {
+        return Err(full_refusal(full));
     }
     let s = stream_for(&*queue, place);
     let row = row_for(&*queue, place);
     make_known(queue, place, m.stream_id.0);
     append(queue, store, time, m, payload, row, s);
-    Added::Accepted
+    Ok(())
 }
 
 // Adds a message; the store is the queue's own.
@@ -82,19 +93,16 @@ pub fn add(
     time: u64,
     m: Message,
     payload: &[u8],
-) -> Added
+) -> Result<(), Refusal>
     requires { Good queue.old store.old }
     ensures { OwnedAdd queue.old store.old time m payload.now result queue.new store.new }
 {
     let lifetime = m.lifetime;
-    let asked = asked_code(time, lifetime, payload.len() as u64);
-    if asked > 0 {
-        return Added::Refused(asked_refusal(asked));
+    if let Err(asked) = asked_code(time, lifetime, payload.len() as u64) {
+        return Err(asked_refusal(asked));
     }
-    let found = look_up_own(&*queue, m.stream_id.0);
-    match found {
-        OwnPlace::Row(row) => add_own(queue, store, time, m, payload, Place::Row(row)),
-        OwnPlace::New(position) => add_own(queue, store, time, m, payload, Place::New(position)),
-        OwnPlace::Full => Added::Refused(Refusal::Streams),
-    }
+    let Some(place) = look_up_own(&*queue, m.stream_id.0) else {
+        return Err(Refusal::Streams);
+    };
+    add_own(queue, store, time, m, payload, place)
 }
