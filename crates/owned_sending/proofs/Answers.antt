@@ -14,12 +14,16 @@ use Rattle.queue_model.proofs.Invariant.Sends.{FineLook, Chosen, fine_look}
 use Rattle.stream_scheduler.specs.Link.{entry_at}
 use Rattle.stream_scheduler.specs.Own.{HasRow}
 use Rattle.queue_streams.specs.Events.{event_words}
+use Rattle.queue_sending.specs.Answers.{made_of}
 use Rattle.queue_sending.specs.Data.{ProducedWith, produced_with, produced_number}
 use Rattle.queue_sending.specs.Fragment.{chosen_code, handed_out_words}
 use Rattle.queue_sending.specs.Produce.{lent_code, produce_code, pass_over_words, produced_after, produce_next, refusal}
 use Rattle.queue_sending.specs.Look as words_look
 use Rattle.queue_sending.specs.declared.data.DataToSend.{DataToSend}
+use Rattle.queue_sending.specs.Produced.{Produced}
 use Rattle.queue_sending.specs.Produced as checked
+use Rattle.queue_sending.specs.declared.data.Produced as made
+use Rattle.queue_sending.specs.declared.data.Produced.TheVariants as made_is
 use Rattle.queue_sending.proofs.Ahead.{chosen_row}
 use Rattle.queue_sending.proofs.Passes.{pass_nothing, pass_chosen, after_passes}
 use Rattle.queue_state.specs.Chains.{each}
@@ -31,15 +35,9 @@ use Rattle.linked_sending.proofs.Passing.{model_waits}
 use Rattle.linked_sending.proofs.Produces.{settled_same, produce_meets}
 use Rattle.linked_sending.proofs.Sent.{may_hand}
 use Rattle.owned_sending.specs.Passing.{Payable, PassedTo}
-use Rattle.owned_sending.specs.Produce.{refusal_number, Lent, made_of, produced_of, OwnedProduce}
+use Rattle.owned_sending.specs.Produce.{Lent, OwnedProduce}
 use Rattle.owned_sending.specs.declared.passing.Turn.{Turn}
 use Rattle.owned_sending.specs.declared.passing.Turn.TheVariants as turn
-use Rattle.owned_sending.specs.declared.next_fragment.Made.{Made}
-use Rattle.owned_sending.specs.declared.next_fragment.Made.TheVariants as made
-use Rattle.owned_sending.specs.declared.next_fragment.Refusal.{Refusal}
-use Rattle.owned_sending.specs.declared.next_fragment.Refusal.TheVariants as is_refusal
-use Rattle.owned_sending.specs.declared.next_fragment.Produced.{Produced}
-use Rattle.owned_sending.specs.declared.next_fragment.Produced.TheVariants as produced
 
 -- ---- the refusals
 
@@ -55,29 +53,31 @@ lent_fits places room time size h =
     go false ea false false false true ef h = absurd (omega arith)
     go false ea false false false false ef h = (ltb-false places event_words ea, ltb-false room size ef)
 
--- the last of the four
-pub last_refusal : (code : ℕ) → Lent code → (code ≡ 3 → ⊥) → (code ≡ 4 → ⊥) → (code ≡ 9 → ⊥) → 10 ≡ code
-last_refusal code l n3 n4 n9 =
+-- none of the four is 16
+lent_fine : (code : ℕ) → Lent code → code ≡ 16 → ⊥
+lent_fine code l z =
     go (ltb l.places event_words) (ltb 4611686018427387903 l.time) (eqb l.size 0) (ltb 262144 l.size) (ltb l.room l.size) l.is_code
   where
-    go : (a b c d f : Bool) → code ≡ pick a 3 (pick b 4 (pick c 9 (pick d 9 (pick f 10 0)))) → 10 ≡ code
-    go true b c d f e = absurd (n3 e)
-    go false true c d f e = absurd (n4 e)
-    go false false true d f e = absurd (n9 e)
-    go false false false true f e = absurd (n9 e)
-    go false false false false true e = sym e
-    go false false false false false e = absurd (omega (arith, l.is_refused))
+    go : (a b c d f : Bool) → code ≡ pick a 3 (pick b 4 (pick c 9 (pick d 9 (pick f 10 0)))) → ⊥
+    go true b c d f e = omega (arith, z, e)
+    go false true c d f e = omega (arith, z, e)
+    go false false true d f e = omega (arith, z, e)
+    go false false false true f e = omega (arith, z, e)
+    go false false false false true e = omega (arith, z, e)
+    go false false false false false e = omega (arith, z, e)
 
-refusal_fine : (x : Refusal) → refusal_number x ≡ 16 → ⊥
-refusal_fine is_refusal.Events e = omega arith
-refusal_fine is_refusal.Time e = omega arith
-refusal_fine is_refusal.Size e = omega arith
-refusal_fine is_refusal.Buffer e = omega arith
+never_sixteen : (r : Produced) → ((n : ℕ) → r ≡ checked.Refused n → Lent n) → produced_number r ≡ 16 → ⊥
+never_sixteen (checked.Nothing k) l e = omega arith
+never_sixteen (checked.Fragment k d) l e = omega arith
+never_sixteen (checked.Refused n) l e = lent_fine n (l n refl) e
 
-never_sixteen : (r : Produced) → produced_number (produced_of r) ≡ 16 → ⊥
-never_sixteen (produced.Nothing k) e = omega arith
-never_sixteen (produced.Fragment k d) e = omega arith
-never_sixteen (produced.Refused x) e = refusal_fine x e
+-- what is made is no refusal
+not_refused : (m : made.Produced) (n : ℕ) → made_of m ≡ checked.Refused n → Lent n
+not_refused (made_is.Nothing k) n e = let z : ◌≡◌ {A = ℕ} 0 1 = cc e in absurd (omega arith)
+not_refused (made_is.Fragment k d) n e = let z : ◌≡◌ {A = ℕ} 0 1 = cc e in absurd (omega arith)
+
+refused_same : (i j : ℕ) → checked.Refused i ≡ checked.Refused j → i ≡ j
+refused_same i j e = cc
 
 -- ---- after events of earlier calls
 
@@ -138,24 +138,24 @@ module _ (ws st es bs : List ℕ) (time size : ℕ) (g : Good ws st) where
   unfolding produce_code
   code_same = rw (eq-eqb (options_at ws).store_length (length st) (sym g.store_is))
 
-  meets : (r : Produced) (us vs u : List ℕ) → produced_with (produced_of r) us vs u ≡ produce_next ws st es bs time size → OwnedProduce ws st es bs time size r us vs u
-  meets r us vs u e =
-      let y = produce_meets ws st es bs time size (produced_of r) us vs u e in
-      record { words = e; tells = y.tells g; model = y.model g; no_sixteen = never_sixteen r }
+  meets : (r : Produced) (us vs u : List ℕ) → produced_with r us vs u ≡ produce_next ws st es bs time size → ((n : ℕ) → r ≡ checked.Refused n → Lent n) → OwnedProduce ws st es bs time size r us vs u
+  meets r us vs u e l =
+      let y = produce_meets ws st es bs time size r us vs u e in
+      record { words = e; tells = y.tells g; model = y.model g; lent = l; no_sixteen = never_sixteen r l }
 
   module _ (code : ℕ) (ec : code ≡ lent_code (length es) (length bs) time size) where
     code_is : produce_code ws (length st) (length es) (length bs) time size ≡ code
     code_is = code_same ∙ sym ec
 
-    pub lent_of : 0 < code → Lent code
+    lent_of : 0 < code → Lent code
     lent_of h = record { places = length es; room = length bs; time = time; size = size; is_code = ec; is_refused = h }
 
-    pub out_refused : 0 < code → (x : Refusal) → refusal_number x ≡ code → OwnedProduce ws st es bs time size (produced.Refused x) ws es bs
+    pub out_refused : 0 < code → OwnedProduce ws st es bs time size (checked.Refused code) ws es bs
     unfolding produce_next
-    out_refused h x ex = meets (produced.Refused x) ws es bs refused_is
+    out_refused h = meets (checked.Refused code) ws es bs refused_is (λ n e. subst Lent (refused_same code n e) (lent_of h))
       where
-        refused_is : produced_with (checked.Refused (refusal_number x)) ws es bs ≡ produce_next ws st es bs time size
-        refused_is = rw (code_is, lt-ltb 0 code h, ex)
+        refused_is : produced_with (checked.Refused code) ws es bs ≡ produce_next ws st es bs time size
+        refused_is = rw (code_is, lt-ltb 0 code h)
 
     module _ (h : code ≤ 0) where
       pub now_payable : Payable ws st es 0 × (size ≤ length bs)
@@ -163,16 +163,9 @@ module _ (ws st es bs : List ℕ) (time size : ℕ) (g : Good ws st) where
           let f = lent_fits (length es) (length bs) time size (subst (λ (x : ℕ). x ≤ 0) ec h) in
           (record { good = g; paid = omega (arith, potential_fits (model ws st) g.well); places = f.0 }, f.1)
 
-      out_made : (m : Made) (us vs u : List ℕ) → produced_with (made_of m) us vs u ≡ produced_after ws st es bs time size 0 → (r : Produced) → produced_of r ≡ made_of m → OwnedProduce ws st es bs time size r us vs u
+      pub out_made : (m : made.Produced) (us vs u : List ℕ) → produced_with (made_of m) us vs u ≡ produced_after ws st es bs time size 0 → OwnedProduce ws st es bs time size (made_of m) us vs u
       unfolding produce_next
-      out_made m us vs u em r er = meets r us vs u made_is
+      out_made m us vs u em = meets (made_of m) us vs u made_is (not_refused m)
         where
-          made_is : produced_with (produced_of r) us vs u ≡ produce_next ws st es bs time size
-          made_is = rw (code_is, le-ltb 0 code h, er) em
-
-      pub out_nothing : (m : Made) (us vs u : List ℕ) → produced_with (made_of m) us vs u ≡ produced_after ws st es bs time size 0 → (j : ℕ) → m ≡ made.Nothing j → OwnedProduce ws st es bs time size (produced.Nothing j) us vs u
-      out_nothing m us vs u em j e = out_made m us vs u em (produced.Nothing j) (rw e)
-
-      pub out_fragment : (m : Made) (us vs u : List ℕ) → produced_with (made_of m) us vs u ≡ produced_after ws st es bs time size 0 → (j : ℕ) (d : DataToSend) → m ≡ made.Fragment j d
-          → OwnedProduce ws st es bs time size (produced.Fragment j d) us vs u
-      out_fragment m us vs u em j d e = out_made m us vs u em (produced.Fragment j d) (rw e)
+          made_is : produced_with (made_of m) us vs u ≡ produce_next ws st es bs time size
+          made_is = rw (code_is, le-ltb 0 code h) em

@@ -5,4 +5,4 @@
 pub mod next_fragment;
 pub mod passing;
 
-pub use next_fragment::{Made, Produced, Refusal, produce, produce_after};
+pub use next_fragment::{produce, produce_after};

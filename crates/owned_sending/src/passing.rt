@@ -2,7 +2,8 @@
 ghost use Rattle.owned_sending.specs.Passing.{Payable, PassedTo};
 
 use message_chains::dropping::drop_own;
-use queue_sending::own::{Ahead, look_own};
+use queue_sending::choice::Ahead;
+use queue_sending::own::look_own;
 use queue_words::QUEUE_WORDS;
 
 // Where passing over ends, after so many events: nothing waits, or a head to send, by the scheduler's row, its stream's id and row.
