@@ -5,7 +5,7 @@
 
 mod receiving;
 
-pub use receiver_fragments::answers::{Delivery, Fetched, Received};
+pub use receiver_fragments::answers::{Delivery, Received};
 pub use receiver_fragments::creating::create;
 pub use receiver_fragments::fetching::fetch;
 pub use receiving::receive;

@@ -1,16 +1,17 @@
 // Receiving a chunk.
 ghost use Rattle.std.specs.Prelude.{◌≡◌, ◌+◌, ◌≤◌, length};
+ghost use Rattle.receiver_fragments.specs.Answers.{as_received};
 ghost use Rattle.receiver_fragments.specs.Receiving.{received};
 ghost use Rattle.receiver_calls.specs.Receiving.{fragment_of, of_kind, receive_read, receive};
 
-use chunks::{Chunk, ChunkKind, ChunkRead, read_chunk};
+use chunks::{Chunk, ChunkKind, read_chunk};
 use receiver_fragments::answers::Received;
 use receiver_fragments::receiving::receive_fragment;
 use receiver_messages::keys::interleaved;
 use receiver_words::RECEIVER_WORDS;
 use receiver_words::cells::{STORE_LENGTH, load_header};
 use receiver_words::fragments::Fragment;
-use types::{Fsn, Mid, Ssn, StreamId};
+use types::{Fsn, Mid, Refusal, Ssn, StreamId};
 
 // The fields read of a chunk.
 fn fragment_of(chunk: Chunk) -> Fragment
@@ -52,9 +53,9 @@ fn receive_read(
     store: &mut [u8],
     chunk: Chunk,
     bytes: &[u8],
-) -> Received
+) -> Result<Received, Refusal>
     requires { chunk.payload_at + chunk.fragment.«data».length ≤ length bytes.now }
-    ensures { received result receiver.new store.new ≡ receive_read receiver.old store.old chunk bytes.now }
+    ensures { received (as_received result) receiver.new store.new ≡ receive_read receiver.old store.old chunk bytes.now }
 {
     let i_data = interleaved(&*receiver);
     let kind = chunk.kind;
@@ -67,20 +68,21 @@ fn receive_read(
         let end = at + data.length as usize;
         return receive_fragment(receiver, store, i_data, f, &bytes[at..end]);
     }
-    Received::Refused(19)
+    Err(Refusal::ChunkWrong)
 }
 
 // A chunk's bytes as they come: "checked as 2, 19, 24, repeats, 22, 23".
-pub fn receive(receiver: &mut [u64; RECEIVER_WORDS], store: &mut [u8], bytes: &[u8]) -> Received
-    ensures { received result receiver.new store.new ≡ receive receiver.old store.old bytes.now }
+pub fn receive(
+    receiver: &mut [u64; RECEIVER_WORDS],
+    store: &mut [u8],
+    bytes: &[u8],
+) -> Result<Received, Refusal>
+    ensures { received (as_received result) receiver.new store.new ≡ receive receiver.old store.old bytes.now }
 {
     let length = load_header(&*receiver, STORE_LENGTH);
     if store.len() as u64 != length {
-        return Received::Refused(2);
+        return Err(Refusal::StoreWrong);
     }
-    let read = read_chunk(bytes);
-    match read {
-        ChunkRead::Read(chunk) => receive_read(receiver, store, chunk, bytes),
-        ChunkRead::Refused(code) => Received::Refused(code),
-    }
+    let chunk = read_chunk(bytes)?;
+    receive_read(receiver, store, chunk, bytes)
 }
