@@ -5,7 +5,7 @@ ghost use Rattle.receiver_calls.specs.Receiving.{receive};
 ghost use Rattle.out_array.specs.Flag.{is_yes};
 ghost use Rattle.receiver_c.specs.Given.{GivesCreated, GivesReceived, GivesFetched};
 
-use crate::numbers::{OUT_WORDS, tell_fetched, tell_received};
+use crate::numbers::{OUT_WORDS, tell_created, tell_fetched, tell_received};
 use out_array::is_yes;
 use receiver_calls::{create, fetch, receive};
 use receiver_words::RECEIVER_WORDS;
@@ -20,8 +20,8 @@ pub extern "C" fn dsr_create(
     ensures { GivesCreated (create receiver.old store.now (is_yes i_data) starting_tsn) result receiver.new }
 {
     let interleaved = is_yes(i_data);
-    let number = create(receiver, store, interleaved, starting_tsn);
-    number as u32
+    let a = create(receiver, store, interleaved, starting_tsn);
+    tell_created(a)
 }
 
 #[unsafe(no_mangle)]

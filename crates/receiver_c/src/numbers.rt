@@ -1,9 +1,12 @@
 // Answers as numbers, with what goes with them in named places of an array.
 ghost use Rattle.std.specs.Prelude.{◌≡◌};
+ghost use Rattle.types.specs.Refusal.{check_number};
+ghost use Rattle.receiver_fragments.specs.Answers.{as_received, as_fetched};
 ghost use Rattle.receiver_calls.specs.Answers.{received_number, fetched_number};
 ghost use Rattle.receiver_c.specs.Numbers.{received_out, message_out, fetched_out};
 
-use receiver_calls::{Delivery, Fetched, Received};
+use receiver_calls::{Delivery, Received};
+use types::Refusal;
 
 // The places of an out-array, and how many.
 pub const OUT_WORDS: usize = 5;
@@ -18,19 +21,28 @@ pub const UNORDERED: usize = 3;
 
 pub const PPID: usize = 4;
 
-pub fn tell_received(out: &mut [u64; OUT_WORDS], a: Received) -> u32
-    ensures { (result ≡ received_number a) × (out.new ≡ received_out out.old a) }
+pub fn tell_created(a: Result<(), Refusal>) -> u32
+    ensures { result ≡ check_number a }
 {
     match a {
-        Received::Refused(n) => n as u32,
-        Received::Repeated => {
+        Ok(()) => 0,
+        Err(r) => u8::from(r) as u32,
+    }
+}
+
+pub fn tell_received(out: &mut [u64; OUT_WORDS], a: Result<Received, Refusal>) -> u32
+    ensures { (result ≡ received_number (as_received a)) × (out.new ≡ received_out out.old (as_received a)) }
+{
+    match a {
+        Ok(Received::Repeated) => {
             out[VALUE] = 0;
             0
         }
-        Received::Accepted => {
+        Ok(Received::Accepted) => {
             out[VALUE] = 1;
             0
         }
+        Err(r) => u8::from(r) as u32,
     }
 }
 
@@ -46,18 +58,18 @@ fn tell_message(out: &mut [u64; OUT_WORDS], d: Delivery)
 }
 
 // Where none is ready the value is 0, and what goes with a message stays as it was.
-pub fn tell_fetched(out: &mut [u64; OUT_WORDS], a: Fetched) -> u32
-    ensures { (result ≡ fetched_number a) × (out.new ≡ fetched_out out.old a) }
+pub fn tell_fetched(out: &mut [u64; OUT_WORDS], a: Result<Option<Delivery>, Refusal>) -> u32
+    ensures { (result ≡ fetched_number (as_fetched a)) × (out.new ≡ fetched_out out.old (as_fetched a)) }
 {
     match a {
-        Fetched::Refused(n) => n as u32,
-        Fetched::NoneReady => {
+        Ok(None) => {
             out[VALUE] = 0;
             0
         }
-        Fetched::Message(d) => {
+        Ok(Some(d)) => {
             tell_message(out, d);
             0
         }
+        Err(r) => u8::from(r) as u32,
     }
 }
