@@ -6,6 +6,7 @@ use receiver_calls::create;
 use receiver_words::RECEIVER_WORDS;
 use trace_text::output::{Answers, put_answer, put_text};
 use trace_text::state::{STATE, STORE, bit, low32, wide};
+use types::Refusal;
 
 fn lent_create(
     head: &mut [u64; RECEIVER_WORDS],
@@ -13,14 +14,17 @@ fn lent_create(
     i_data: bool,
     tsn: u32,
     n: u64,
-) -> u8 {
+) -> Result<(), Refusal> {
     let from = last(store.len(), n);
     create(head, &store[from..], i_data, tsn)
 }
 
+// The refusal's number, 0 for none.
 fn head_line(head: &mut [u64; RECEIVER_WORDS], store: &[u8; STORE], state: &[u64; STATE]) -> u64 {
-    let refusal = lent_create(head, store, state[0] == 1, low32(state[1]), state[2]);
-    wide(refusal)
+    match lent_create(head, store, state[0] == 1, low32(state[1]), state[2]) {
+        Ok(()) => 0,
+        Err(r) => wide(u8::from(r)),
+    }
 }
 
 // "with its starting TSN and a store of zero bytes"

@@ -2,7 +2,7 @@
 use crate::lent::{last, put_all};
 use crate::state::{LENT_HEAD, settle_room};
 use crate::words::settle_head;
-use receiver_calls::{Delivery, Fetched, fetch};
+use receiver_calls::{Delivery, fetch};
 use receiver_words::RECEIVER_WORDS;
 use trace_answers::marks::{BEFORE, SHOWN, as_before, keep_store};
 use trace_answers::settle::refusal_number;
@@ -10,8 +10,14 @@ use trace_text::hex::put_part;
 use trace_text::output::{Answers, put_answer, put_broken, put_byte, put_number, put_text};
 use trace_text::payload::sum;
 use trace_text::state::{STATE, STORE, bit};
+use types::Refusal;
 
-fn fetch_at(head: &mut [u64; RECEIVER_WORDS], store: &[u8], buffer: &mut [u8], n: u64) -> Fetched {
+fn fetch_at(
+    head: &mut [u64; RECEIVER_WORDS],
+    store: &[u8],
+    buffer: &mut [u8],
+    n: u64,
+) -> Result<Option<Delivery>, Refusal> {
     let from = last(store.len(), n);
     fetch(head, &store[from..], buffer)
 }
@@ -38,17 +44,21 @@ struct Wrote {
     quiet: u64,
 }
 
-fn put_fetched(buffer: &[u8], f: Fetched, output: &mut Answers) -> Wrote {
+fn put_fetched(
+    buffer: &[u8],
+    f: Result<Option<Delivery>, Refusal>,
+    output: &mut Answers,
+) -> Wrote {
     match f {
-        Fetched::Refused(number) => {
-            put_answer(output, b'G', refusal_number(number));
+        Err(r) => {
+            put_answer(output, b'G', refusal_number(u8::from(r)));
             Wrote { bytes: 0, quiet: 1 }
         }
-        Fetched::NoneReady => {
+        Ok(None) => {
             put_text(output, b"G 0 0\n");
             Wrote { bytes: 0, quiet: 1 }
         }
-        Fetched::Message(d) => {
+        Ok(Some(d)) => {
             put_message(buffer, d, output);
             Wrote {
                 bytes: d.length,

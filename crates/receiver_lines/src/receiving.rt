@@ -8,42 +8,45 @@ use receiver_words::RECEIVER_WORDS;
 use trace_answers::settle::{refusal_number, settle_store};
 use trace_text::output::{Answers, put_answer, put_text};
 use trace_text::state::{PAYLOAD, STATE, STORE};
+use types::Refusal;
 
 fn receive_at(
     head: &mut [u64; RECEIVER_WORDS],
     store: &mut [u8],
     bytes: &[u8],
     n: u64,
-) -> Received {
+) -> Result<Received, Refusal> {
     let from = last(store.len(), n);
     receive(head, &mut store[from..], bytes)
 }
 
+// Refused with the refusal's number, or with one that no refusal has.
 fn lent_receive(
     head: &mut [u64; RECEIVER_WORDS],
     store: &mut [u8],
     payload: &[u8],
     length: usize,
     n: u64,
-) -> Received {
+) -> Result<Received, u8> {
     if length > payload.len() {
-        return Received::Refused(TOO_SHORT);
+        return Err(TOO_SHORT);
     }
-    receive_at(head, store, &payload[0..length], n)
+    let r = receive_at(head, store, &payload[0..length], n)?;
+    Ok(r)
 }
 
 // The answer's line, and 0 where the call may change something.
-fn put_received(r: Received, output: &mut Answers) -> u64 {
+fn put_received(r: Result<Received, u8>, output: &mut Answers) -> u64 {
     match r {
-        Received::Refused(number) => {
+        Err(number) => {
             put_answer(output, b'D', refusal_number(number));
             1
         }
-        Received::Repeated => {
+        Ok(Received::Repeated) => {
             put_text(output, b"D 0 0\n");
             1
         }
-        Received::Accepted => {
+        Ok(Received::Accepted) => {
             put_text(output, b"D 0 1\n");
             0
         }
