@@ -1,5 +1,8 @@
 -- The answers of discarding and closing, as the checked calls say them, and what they ask for below. Assumes nothing.
-use Rattle.std.specs.Prelude.{ℕ, ◌<◌, ◌≤◌, ◌≡◌, true, List}
+use Rattle.std.specs.Prelude.{ℕ, ◌<◌, ◌≤◌, ◌≡◌, true, List, Result, Ok, Err}
+use Rattle.types.specs.Refusal.{refusal_number}
+use Rattle.types.specs.declared.refusal.Refusal.{Refusal}
+use Rattle.types.specs.declared.refusal.Refusal.TheVariants as refusal
 use Rattle.queue_words.specs.Items.{item_at}
 use Rattle.queue_words.specs.Streams.{stream_at_words}
 use Rattle.queue_words.specs.declared.streams.OutgoingStream.{OutgoingStream}
@@ -8,15 +11,14 @@ use Rattle.queue_streams.specs.Call.{Call}
 use Rattle.queue_streams.specs.Call.{Accepted, Refused}
 use Rattle.message_chains.specs.Dropping.{MayDrop}
 use Rattle.queue_closing.specs.Walk.{may_sweep}
-use Rattle.owned_closing.specs.declared.closing.Closed.{Closed}
-use Rattle.owned_closing.specs.declared.closing.Closed.TheVariants as closed
-use Rattle.owned_closing.specs.declared.discarding.Discarded.{Discarded}
-use Rattle.owned_closing.specs.declared.discarding.Discarded.TheVariants as discarded
+use Rattle.owned_closing.specs.declared.refusals.EventListShort.{EventListShort}
+use Rattle.owned_closing.specs.declared.refusals.ClosingRefusal.{ClosingRefusal}
+use Rattle.owned_closing.specs.declared.refusals.ClosingRefusal.TheVariants as closing
 
 -- 3: "On next fragment, discard, close or setting a threshold, the event list has fewer than 2,305 places."
-abbrev pub discarded_as : Discarded → Call
-discarded_as (discarded.Done k) = Accepted k
-discarded_as discarded.EventsShort = Refused 3
+abbrev pub discarded_as : Result ℕ EventListShort → Call
+discarded_as (Ok k) = Accepted k
+discarded_as (Err e) = Refused 3
 
 -- The stream has a row and a first place of its table or none, and its head, if it is meant, may be dropped.
 pub record MayDiscard (ws : List ℕ) (id message row : ℕ) : Type 0 where
@@ -25,10 +27,13 @@ pub record MayDiscard (ws : List ℕ) (id message row : ℕ) : Type 0 where
   pub goes : (stream_at_words ws row).first < 1024 → (item_at ws (stream_at_words ws row).first).message_id.0 ≡ message → MayDrop ws id row
 
 -- 3 as for discarding; 6: "The call would make a 257th known stream."
-abbrev pub closing_as : Closed → Call
-closing_as (closed.Done k) = Accepted k
-closing_as closed.EventsShort = Refused 3
-closing_as closed.TooManyStreams = Refused 6
+abbrev pub closing_refusal : ClosingRefusal → Refusal
+closing_refusal closing.EventListShort = refusal.EventListShort
+closing_refusal closing.StreamsFull = refusal.StreamsFull
+
+abbrev pub closing_as : Result ℕ ClosingRefusal → Call
+closing_as (Ok k) = Accepted k
+closing_as (Err e) = Refused (refusal_number (closing_refusal e))
 
 -- The tests of closing an open stream say that it may be closed: 16 is not given. Of a half-sent head the messages behind it may go, of a whole one all; the scheduler ends its waiting.
 pub record MayClose (ws : List ℕ) (id row : ℕ) (s : OutgoingStream) : Type 0 where

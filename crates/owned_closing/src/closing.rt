@@ -9,22 +9,16 @@ ghost use Rattle.linked_dropping.specs.Meets.{CloseMeets};
 ghost use Rattle.owned_streams.specs.Own.{OwnWords};
 ghost use Rattle.owned_closing.specs.Own.{closing_as, MayClose};
 
+use crate::refusals::ClosingRefusal;
 use queue_closing::close::{close_new, sweep_behind, sweep_whole};
 use queue_streams::events::EVENT_WORDS;
-use queue_streams::owned::{OwnPlace, look_up_own};
+use queue_streams::known::Place;
+use queue_streams::owned::look_up_own;
 use queue_words::QUEUE_WORDS;
 use queue_words::items::load_item;
 use queue_words::limits::NO_MESSAGE;
 use queue_words::streams::{OutgoingStream, PauseState, load_stream, store_stream, with_pause};
 use stream_scheduler::own::remove_own;
-
-// Done, with so many events written; 3 and 6 are the refusals.
-#[derive(Clone, Copy)]
-pub enum Closed {
-    Done(usize),
-    EventsShort,
-    TooManyStreams,
-}
 
 // An open stream closed. The events written.
 fn close_open(
@@ -64,24 +58,26 @@ fn close_in(queue: &mut [u64; QUEUE_WORDS], events: &mut [u64], id: u16, row: us
     0
 }
 
-// Closes a stream; one that is not known becomes known and paused.
-pub fn prepare_reset_stream(queue: &mut [u64; QUEUE_WORDS], events: &mut [u64], id: u16) -> Closed
+// Closes a stream; one that is not known becomes known and paused. How many events are written.
+pub fn prepare_reset_stream(
+    queue: &mut [u64; QUEUE_WORDS],
+    events: &mut [u64],
+    id: u16,
+) -> Result<usize, ClosingRefusal>
     requires { OwnWords queue.old }
     ensures { CloseMeets queue.old events.old queue.new events.new id (closing_as result) }
 {
     if events.len() < EVENT_WORDS {
-        return Closed::EventsShort;
+        return Err(ClosingRefusal::EventListShort);
     }
-    let place = look_up_own(&*queue, id);
+    let Some(place) = look_up_own(&*queue, id) else {
+        return Err(ClosingRefusal::StreamsFull);
+    };
     match place {
-        OwnPlace::Row(row) => {
-            let k = close_in(queue, events, id, row);
-            Closed::Done(k)
-        }
-        OwnPlace::New(position) => {
+        Place::Row(row) => Ok(close_in(queue, events, id, row)),
+        Place::New(position) => {
             close_new(queue, id, position);
-            Closed::Done(0)
+            Ok(0)
         }
-        OwnPlace::Full => Closed::TooManyStreams,
     }
 }

@@ -8,6 +8,7 @@ ghost use Rattle.linked_dropping.specs.Meets.{DiscardMeets};
 ghost use Rattle.owned_streams.specs.Own.{OwnWords};
 ghost use Rattle.owned_closing.specs.Own.{discarded_as, MayDiscard};
 
+use crate::refusals::EventListShort;
 use message_chains::dropping::drop_own;
 use queue_streams::events::EVENT_WORDS;
 use queue_words::QUEUE_WORDS;
@@ -15,13 +16,6 @@ use queue_words::items::load_item;
 use queue_words::known::{Spot, find_own};
 use queue_words::limits::NO_MESSAGE;
 use queue_words::streams::load_stream;
-
-// Done, with so many events written; 3 is the one refusal.
-#[derive(Clone, Copy)]
-pub enum Discarded {
-    Done(usize),
-    EventsShort,
-}
 
 fn discard_in(
     queue: &mut [u64; QUEUE_WORDS],
@@ -44,24 +38,22 @@ fn discard_in(
     0
 }
 
+// How many events are written.
 pub fn discard(
     queue: &mut [u64; QUEUE_WORDS],
     events: &mut [u64],
     id: u16,
     message_id: u32,
-) -> Discarded
+) -> Result<usize, EventListShort>
     requires { OwnWords queue.old }
     ensures { DiscardMeets queue.old events.old queue.new events.new id message_id (discarded_as result) }
 {
     if events.len() < EVENT_WORDS {
-        return Discarded::EventsShort;
+        return Err(EventListShort);
     }
     let spot = find_own(&*queue, id);
     match spot {
-        Spot::At(_, row) => {
-            let k = discard_in(queue, events, id, message_id, row);
-            Discarded::Done(k)
-        }
-        Spot::Gap(_) => Discarded::Done(0),
+        Spot::At(_, row) => Ok(discard_in(queue, events, id, message_id, row)),
+        Spot::Gap(_) => Ok(0),
     }
 }

@@ -4,6 +4,8 @@
 
 pub mod closing;
 pub mod discarding;
+pub mod refusals;
 
-pub use closing::{Closed, prepare_reset_stream};
-pub use discarding::{Discarded, discard};
+pub use closing::prepare_reset_stream;
+pub use discarding::discard;
+pub use refusals::{ClosingRefusal, EventListShort};

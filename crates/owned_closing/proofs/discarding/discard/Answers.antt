@@ -14,11 +14,11 @@ returns-then-events-lt-EVENT_WORDS c = let a = c.args in let hid : a.id < 65536 
 pub find_own-spot-requires : goal.find_own-spot-requires
 find_own-spot-requires c = own_findable _ c.requires _
 
-pub discard_in-k-requires : goal.discard_in-k-requires
-discard_in-k-requires c = let a = c.args in let hid : a.id < 65536 = search rules in let hm : a.message_id < 4294967296 = search rules in let hes : length a.events.now < 18446744073709551616 = search rules in may_discard _ c.requires a.events.now _ _ _ _ c.if-events-lt-EVENT_WORDS.false hid hm hes (sym c.in-At.ensures)
+pub discard_in-requires : goal.discard_in-requires
+discard_in-requires c = let a = c.args in let hid : a.id < 65536 = search rules in let hm : a.message_id < 4294967296 = search rules in let hes : length a.events.now < 18446744073709551616 = search rules in may_discard _ c.requires a.events.now _ _ _ _ c.if-events-lt-EVENT_WORDS.false hid hm hes (sym c.in-At.ensures)
 
 pub returns-in-At : goal.returns-in-At
-returns-in-At c = let a = c.args in let hid : a.id < 65536 = search rules in let hm : a.message_id < 4294967296 = search rules in let hes : length a.events.now < 18446744073709551616 = search rules in discard_meets _ _ _ _ _ _ _ hid hm hes (words_found _ _ _ _ _ _ _ c.if-events-lt-EVENT_WORDS.false (sym c.in-At.ensures) c.discard_in-k.ensures)
+returns-in-At c = let a = c.args in let hid : a.id < 65536 = search rules in let hm : a.message_id < 4294967296 = search rules in let hes : length a.events.now < 18446744073709551616 = search rules in discard_meets _ _ _ _ _ _ _ hid hm hes (words_found _ _ _ _ _ _ _ c.if-events-lt-EVENT_WORDS.false (sym c.in-At.ensures) c.discard_in.ensures)
 
 pub returns-in-Gap : goal.returns-in-Gap
 returns-in-Gap c = let a = c.args in let hid : a.id < 65536 = search rules in let hm : a.message_id < 4294967296 = search rules in let hes : length a.events.now < 18446744073709551616 = search rules in discard_meets _ _ _ _ _ _ _ hid hm hes (words_none _ _ _ _ _ c.if-events-lt-EVENT_WORDS.false (sym c.in-Gap.ensures))
