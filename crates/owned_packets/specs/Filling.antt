@@ -7,18 +7,7 @@ use Rattle.packets.specs.Filling.{packet_code, events_code, reached}
 use Rattle.packets.specs.Filling as checked
 use Rattle.packets.specs.PacketFilled.{PacketFilled}
 use Rattle.packets.specs.PacketFilled as packet
-use Rattle.owned_packets.specs.declared.filling.Refusal.{Refusal}
-use Rattle.owned_packets.specs.declared.filling.Refusal.TheVariants as refusal
-use Rattle.owned_packets.specs.declared.filling.Filled.{Filled}
-use Rattle.owned_packets.specs.declared.filling.Filled.TheVariants as filled
 use Rattle.owned_packets.specs.declared.filling.Progress.{Progress}
-
--- The number of a refusal. "20 when the packet limit is outside 36 to 65,535, 21 when the packet buffer is shorter than the limit"; 3 and 4 are document 01's.
-abbrev pub refusal_number : Refusal → ℕ
-refusal_number refusal.Limit = 20
-refusal_number refusal.Buffer = 21
-refusal_number refusal.Events = 3
-refusal_number refusal.Time = 4
 
 -- The refusals that what is lent and asked for decides, where the store is the queue's own.
 abbrev pub lent_code : ℕ → ℕ → ℕ → ℕ → ℕ
@@ -46,7 +35,6 @@ pub record MayFill (ws st es bs : List ℕ) (time limit : ℕ) : Type 0 where
 abbrev pub filling_of : Progress → checked.Filling
 filling_of r = reached r.used r.events r.chunks 0
 
--- The answers as the checked call shows them.
-abbrev pub filled_as : Filled → PacketFilled
-filled_as (filled.Filled k bytes chunks) = packet.Filled k bytes chunks
-filled_as (filled.Refused r) = packet.Refused (refusal_number r)
+-- Refused only for what is lent and asked for: 20, 21, 3 and 4, and so never with 2 or 16.
+abbrev pub OnlyLent : PacketFilled → Type 0
+OnlyLent r = (n : ℕ) → r ≡ packet.Refused n → Lent n

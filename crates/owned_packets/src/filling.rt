@@ -1,75 +1,43 @@
 // One call for a whole packet (document 02, 5/13): a loop of calls for the next fragment, each payload read from the store to its place
 // in the packet.
 ghost use Rattle.std.specs.Prelude.{◌≡◌, ◌+◌, ◌≤◌, length};
+ghost use Rattle.types.specs.Refusal.{check_number};
 ghost use Rattle.queue_model.specs.Chunks.{padded};
 ghost use Rattle.queue_model.specs.Fill.{common_header_length};
+ghost use Rattle.queue_sending.specs.Answers.{made_of};
 ghost use Rattle.queue_sending.specs.Data.{produced_with};
 ghost use Rattle.queue_state.specs.Good.{Good};
 ghost use Rattle.chunks.specs.Layout.{header_size};
+ghost use Rattle.packets.specs.Answers.{as_filled, filled_of};
 ghost use Rattle.packets.specs.Filling.{one_filled, filling_with, fill_on_words, finished_answer, finished_packet};
 ghost use Rattle.linked_packets.specs.Meaning.{FillMeets};
 ghost use Rattle.owned_sending.specs.Passing.{Payable};
-ghost use Rattle.owned_sending.specs.Produce.{made_of};
-ghost use Rattle.owned_packets.specs.Filling.{lent_code, Lent, refusal_number, MayFill, filling_of, filled_as};
+ghost use Rattle.owned_packets.specs.Filling.{lent_code, OnlyLent, MayFill, filling_of};
 
 use chunks::{ChunkKind, header_size, padded};
-use owned_sending::{Made, produce_after};
-use packets::Packet;
+use owned_sending::produce_after;
 use packets::packet::{COMMON_HEADER, put_common_header};
 use packets::parts::{events_code, kind_of, next_tsn, packet_code, put_around, size_asked};
+use packets::{Filled, Packet};
+use queue_sending::Produced;
 use queue_words::QUEUE_WORDS;
 use queue_words::header::{load_options, load_totals};
-
-// What is refused: the packet limit, the packet buffer, the event list, the time.
-#[derive(Clone, Copy)]
-pub enum Refusal {
-    Limit,
-    Buffer,
-    Events,
-    Time,
-}
-
-// How many events are written, "the bytes and chunks written"; or refused.
-#[derive(Clone, Copy)]
-pub enum Filled {
-    Filled(usize, usize, usize),
-    Refused(Refusal),
-}
+use types::Refusal;
 
 // How far a filling has come: the bytes used, how many events and chunks are written.
-#[derive(Clone, Copy)]
+#[derive(Clone, Copy, Debug, PartialEq, Eq)]
 pub struct Progress {
     pub used: usize,
     pub events: usize,
     pub chunks: usize,
 }
 
-// The refusals that what is lent and asked for decides: 20, 21, 3, 4, or 0.
-fn lent_code(places: u64, room: usize, time: u64, limit: usize) -> u8
-    ensures { result ≡ lent_code places room time limit }
+// The refusals that what is lent and asked for decides: 20, 21, 3, 4.
+fn lent_code(places: u64, room: usize, time: u64, limit: usize) -> Result<(), Refusal>
+    ensures { check_number result ≡ lent_code places room time limit }
 {
-    let code = packet_code(room, limit);
-    if code > 0 {
-        return code;
-    }
+    packet_code(room, limit)?;
     events_code(places, time)
-}
-
-// The refusal with a number of the documents.
-fn refusal_of(code: u8) -> Refusal
-    requires { Lent code }
-    ensures { refusal_number result ≡ code }
-{
-    if code == 20 {
-        return Refusal::Limit;
-    }
-    if code == 21 {
-        return Refusal::Buffer;
-    }
-    if code == 3 {
-        return Refusal::Events;
-    }
-    Refusal::Time
 }
 
 // One call for the next fragment, after k events: its fragment buffer is the part of the packet in which the payload lies.
@@ -84,7 +52,7 @@ fn fill_one(
     k: usize,
     tsn: u32,
     size: usize,
-) -> Made
+) -> Produced
     requires { Payable queue.old store.now events.old k × ((header_size kind + size ≤ 65535) × (at + padded (header_size kind + size) ≤ length packet.old)) }
     ensures { produced_with (made_of result) queue.new events.new packet.new ≡ one_filled kind store.now time queue.old events.old packet.old at k tsn size }
 {
@@ -100,12 +68,12 @@ fn fill_one(
         k,
     );
     match made {
-        Made::Fragment(j, d) => {
+        Produced::Fragment(j, d) => {
             let data = d.data;
             put_around(packet, at, kind, tsn, data);
-            Made::Fragment(j, d)
+            Produced::Fragment(j, d)
         }
-        Made::Nothing(j) => Made::Nothing(j),
+        Produced::Nothing(j) => Produced::Nothing(j),
     }
 }
 
@@ -151,7 +119,7 @@ fn fill_chunks(
             queue, store, events, packet, kind, time, used, count, tsn, size,
         );
         match made {
-            Made::Fragment(j, d) => {
+            Produced::Fragment(j, d) => {
                 let data = d.data;
                 used = used + padded(header + data.length as usize);
                 count = j;
@@ -159,7 +127,7 @@ fn fill_chunks(
                 tsn = next_tsn(tsn);
                 left -= 1;
             }
-            Made::Nothing(j) => {
+            Produced::Nothing(j) => {
                 return Progress {
                     used,
                     events: j,
@@ -173,13 +141,21 @@ fn fill_chunks(
 // "without a fragment no packet is written and both are 0."
 fn finish(packet: &mut [u8], p: Packet, r: Progress) -> Filled
     requires { common_header_length ≤ length packet.old }
-    ensures { (filled_as result ≡ finished_answer (filling_of r)) × (packet.new ≡ finished_packet p (filling_of r) packet.old) }
+    ensures { (filled_of result ≡ finished_answer (filling_of r)) × (packet.new ≡ finished_packet p (filling_of r) packet.old) }
 {
     if r.chunks == 0 {
-        return Filled::Filled(r.events, 0, 0);
+        return Filled {
+            events: r.events,
+            bytes: 0,
+            chunks: 0,
+        };
     }
     put_common_header(packet, p);
-    Filled::Filled(r.events, r.used, r.chunks)
+    Filled {
+        events: r.events,
+        bytes: r.used,
+        chunks: r.chunks,
+    }
 }
 
 // Fills the lent packet; the store is the queue's own, the event list is lent as for the next fragment.
@@ -190,14 +166,12 @@ pub fn fill_packet(
     packet: &mut [u8],
     time: u64,
     p: Packet,
-) -> Filled
+) -> Result<Filled, Refusal>
     requires { Good queue.old store.now }
-    ensures { FillMeets queue.old store.now events.old packet.old time p (filled_as result) queue.new events.new packet.new }
+    ensures meets { FillMeets queue.old store.now events.old packet.old time p (as_filled result) queue.new events.new packet.new }
+    ensures lent { OnlyLent (as_filled result) }
 {
-    let code = lent_code(events.len() as u64, packet.len(), time, p.limit);
-    if code > 0 {
-        return Filled::Refused(refusal_of(code));
-    }
+    lent_code(events.len() as u64, packet.len(), time, p.limit)?;
     let o = load_options(&*queue);
     let t = load_totals(&*queue);
     let kind = kind_of(t.interleaving);
@@ -212,5 +186,5 @@ pub fn fill_packet(
         o.payload_limit,
         p.tsn,
     );
-    finish(packet, p, r)
+    Ok(finish(packet, p, r))
 }

@@ -4,4 +4,4 @@
 
 pub mod filling;
 
-pub use filling::{Filled, Refusal, fill_packet};
+pub use filling::fill_packet;

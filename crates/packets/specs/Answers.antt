@@ -16,6 +16,10 @@ ended_with (Some r) = refusal_number r
 abbrev pub as_filling : made.Filling → Filling
 as_filling f = reached f.used f.events f.chunks (ended_with f.refusal)
 
+-- the answer
+abbrev pub filled_of : Filled → PacketFilled
+filled_of f = packet.Filled f.events f.bytes f.chunks
+
 abbrev pub as_filled : Result Filled Refusal → PacketFilled
-as_filled (Ok f) = packet.Filled f.events f.bytes f.chunks
+as_filled (Ok f) = filled_of f
 as_filled (Err r) = packet.Refused (refusal_number r)
