@@ -1,6 +1,6 @@
 -- Restoring, second: the messages from their records. Assumes nothing.
-use Rattle.std.specs.Prelude.{Some, None}
-use Rattle.std.specs.Prelude.{ℕ, zero, suc, ◌+◌, ◌*◌, ◌-◌, Bool, List, ltb, length, take, drop}
+use Rattle.std.specs.Prelude.{Option, Some, None}
+use Rattle.std.specs.Prelude.{ℕ, zero, suc, ◌+◌, ◌*◌, ◌-◌, ◌<◌, Bool, List, ltb, length, take, drop}
 use Rattle.queue_model.specs.Reader.{has_flag}
 use Rattle.queue_words.specs.Flags.{pick}
 use Rattle.queue_words.specs.Header.{options_at, totals_at, put_totals}
@@ -101,6 +101,15 @@ pub record Homed : Type 0 where
 
 abbrev pub homed : Home → List ℕ → Homed
 homed h ws = record { home = h; words = ws }
+
+-- What the code finds, beside the words as it leaves them: a home, whose row lies in the table, or none.
+abbrev pub as_home : Option Home → List ℕ → Home
+as_home (Some h) ws = h
+as_home None ws = record { row = 256; stream = new_stream_words (options_at ws) }
+
+abbrev pub InTable : Option Home → Type 0
+InTable (Some h) = h.row < 256
+InTable None = Unit {0}
 
 unfoldable pub home_of : List ℕ → ℕ → Homed
 home_of ws id = homed (home_in ws (look_up ws id)) (made_known ws id (look_up ws id))

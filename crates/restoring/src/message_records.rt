@@ -2,7 +2,7 @@
 ghost use Rattle.std.specs.Prelude.{◌≡◌, ◌+◌, ◌≤◌, ◌<◌, length};
 ghost use Rattle.queue_model.specs.Reader.{has_flag};
 ghost use Rattle.queue_messages.specs.Add.{linked_last};
-ghost use Rattle.restoring.specs.Messages.{restored_numbers, restored_expiry, restored_item_words, unsent_of, counted_restored, restored, hung_at, hung, homed, home_of, hung_with, record_restored, message_restored, messages_restored};
+ghost use Rattle.restoring.specs.Messages.{restored_numbers, restored_expiry, restored_item_words, unsent_of, counted_restored, restored, hung_at, hung, homed, as_home, InTable, home_of, hung_with, record_restored, message_restored, messages_restored};
 
 use handover_records::records::HandoverStreamMessage;
 use image_reader::read_message;
@@ -13,7 +13,7 @@ use queue_streams::{Place, insert_stream, look_up, new_stream};
 use queue_words::QUEUE_WORDS;
 use queue_words::header::{load_options, load_totals, store_totals};
 use queue_words::items::{Item, MessageNumbers, load_next, store_item};
-use queue_words::limits::{LAST_MESSAGE, LAST_STREAM_ROW, NO_MESSAGE, STREAM_ROWS};
+use queue_words::limits::{LAST_MESSAGE, NO_MESSAGE};
 use queue_words::streams::{OutgoingStream, load_stream, store_chain};
 use types::{Fsn, Mid, OutgoingMessageId, Ssn};
 
@@ -128,7 +128,8 @@ fn hang_at(
     ensures { restored queue.new store.new result ≡ hung_at queue.old store.old row s place free m payload.now n at }
 {
     store_item(queue, place, m);
-    put_payload(queue, store, place, payload);
+    // An accepted image's payloads have room in the store.
+    let _ = put_payload(queue, store, place, payload);
     link(queue, row, s, place as u64, n);
     count_restored(queue, free, n);
     at
@@ -164,19 +165,16 @@ pub struct Home {
     pub stream: OutgoingStream,
 }
 
-// The home of a message of this stream, which becomes known if it is not; a row outside the table where it cannot.
-fn home_of(queue: &mut [u64; QUEUE_WORDS], id: u16) -> Home
-    ensures { homed result queue.new ≡ home_of queue.old id }
+// The home of a message of this stream, which becomes known if it is not; none where it cannot.
+fn home_of(queue: &mut [u64; QUEUE_WORDS], id: u16) -> Option<Home>
+    ensures { (homed (as_home result queue.new) queue.new ≡ home_of queue.old id) × (InTable result) }
 {
-    let place = look_up(&*queue, id);
-    match place {
-        Place::Row(row) => {
-            let s = load_stream(&*queue, row);
-            Home {
-                row: row,
-                stream: s,
-            }
-        }
+    let place = look_up(&*queue, id).ok()?;
+    let home = match place {
+        Place::Row(row) => Home {
+            row: row,
+            stream: load_stream(&*queue, row),
+        },
         Place::New(position) => {
             let o = load_options(&*queue);
             let s = new_stream(o);
@@ -187,15 +185,8 @@ fn home_of(queue: &mut [u64; QUEUE_WORDS], id: u16) -> Home
                 stream: s,
             }
         }
-        Place::Refused(_) => {
-            let o = load_options(&*queue);
-            let s = new_stream(o);
-            Home {
-                row: STREAM_ROWS,
-                stream: s,
-            }
-        }
-    }
+    };
+    Some(home)
 }
 
 // A message of a known stream, or of one that it makes known. `hang` has this one caller, so it is compiled into it.
@@ -210,12 +201,14 @@ fn hang_in(
 ) -> usize
     ensures { restored queue.new store.new result ≡ hung_with queue.old store.old id m payload.now n at }
 {
-    let h = home_of(queue, id);
-    if h.row > LAST_STREAM_ROW {
-        return at;
+    let home = home_of(queue, id);
+    match home {
+        Some(h) => {
+            let s = h.stream;
+            hang(queue, store, h.row, s, m, payload, n, at)
+        }
+        None => at,
     }
-    let s = h.stream;
-    hang(queue, store, h.row, s, m, payload, n, at)
 }
 
 // The message of the record r at `at`.

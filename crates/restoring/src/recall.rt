@@ -35,7 +35,7 @@ fn first_half_sent(queue: &[u64; QUEUE_WORDS], n: usize) -> Option<StreamId>
         let k = load_known(queue, i);
         let half = is_half_sent(queue, k);
         if half {
-            return Some(StreamId(k.id.0));
+            return Some(k.id);
         }
     }
     None
