@@ -1,36 +1,43 @@
 // Restoring an image.
 ghost use Rattle.std.specs.Prelude.{◌≡◌, ◌≤◌};
+ghost use Rattle.types.specs.Refusal.{check_number};
+ghost use Rattle.queue_streams.specs.Answers.{as_call};
 ghost use Rattle.queue_messages.specs.Add.{added, stored};
 ghost use Rattle.handover.specs.Restore.{restore_code, all_waiting, restored_from, restore};
 
 use handover_records::Trailer;
 use image_reader::read_trailer;
 use image_rules::image_code;
-use queue_streams::Call;
 use queue_words::QUEUE_WORDS;
 use queue_words::header::{load_options, load_totals};
 use queue_words::limits::{MAX_TIME, STREAMS};
 use restoring::{empty_queue, remember_half_sent, restore_messages, restore_streams, wait_all};
+use types::Refusal;
 
-// 2, 4, 12 to 15, the first that applies, else 0.
-fn restore_code(queue: &[u64; QUEUE_WORDS], len: u64, time: u64, image: &[u8]) -> u8
-    ensures { result ≡ restore_code queue.now len time image.now }
+// Whether the call is accepted; the first of the refusals 2, 4 and 12 to 15 else.
+fn restore_code(
+    queue: &[u64; QUEUE_WORDS],
+    len: u64,
+    time: u64,
+    image: &[u8],
+) -> Result<(), Refusal>
+    ensures { check_number result ≡ restore_code queue.now len time image.now }
 {
     let o = load_options(queue);
-    if o.store_length == len {
-        if time > MAX_TIME {
-            return 4;
-        }
-        let t = load_totals(queue);
-        if t.known > 0 {
-            return 12;
-        }
-        if t.next_message_id.0 > 0 {
-            return 12;
-        }
-        return image_code(image, o.strict_restart, o.default_priority, len);
+    if o.store_length != len {
+        return Err(Refusal::StoreWrong);
     }
-    2
+    if time > MAX_TIME {
+        return Err(Refusal::TimeLate);
+    }
+    let t = load_totals(queue);
+    if t.known > 0 {
+        return Err(Refusal::QueueUsed);
+    }
+    if t.next_message_id.0 > 0 {
+        return Err(Refusal::QueueUsed);
+    }
+    image_code(image, o.strict_restart, o.default_priority, len)
 }
 
 // Every stream with messages then waits; without interleaving the first with a half-sent message is remembered.
@@ -73,17 +80,19 @@ fn restore_from(
 }
 
 // Restores an image; the store is lent.
-pub fn restore(queue: &mut [u64; QUEUE_WORDS], store: &mut [u8], time: u64, image: &[u8]) -> Call
-    ensures { added result queue.new store.new ≡ restore queue.old store.old time image.now }
+pub fn restore(
+    queue: &mut [u64; QUEUE_WORDS],
+    store: &mut [u8],
+    time: u64,
+    image: &[u8],
+) -> Result<usize, Refusal>
+    ensures { added (as_call result) queue.new store.new ≡ restore queue.old store.old time image.now }
 {
-    let code = restore_code(&*queue, store.len() as u64, time, image);
-    if code > 0 {
-        return Call::Refused(code);
-    }
+    restore_code(&*queue, store.len() as u64, time, image)?;
     if image.len() < 20 {
-        return Call::Refused(13);
+        return Err(Refusal::ImageWrong);
     }
     let t = read_trailer(image, image.len() - 20);
     restore_from(queue, store, time, image, t);
-    Call::Accepted(0)
+    Ok(0)
 }
