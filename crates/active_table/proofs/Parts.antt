@@ -1,42 +1,47 @@
--- A search over a lent part of the table finds what a search over the queue's rows finds. The part is any list ys that is equal to those rows.
--- Assumes nothing.
-use mathlib.Core.Path.{◌≡◌, ap}
-use Prim.Native.Nat.{ℕ}
+-- A search over a lent part of the table finds what a search over the queue's rows finds: it looks only at the rows that the part has. Assumes nothing.
+use mathlib.Core.Path.{◌≡◌, refl, ap, ◌∙◌}
+use Prim.Native.Nat.{ℕ, zero, suc, ◌+◌, ◌<◌, min}
 use mathlib.Core.List.{List}
+use native.Mathlib.Omega.{arith}
 use lib.ListN.{length}
-use Rattle.active_table.specs.Parts.{rows_of, rows_from, four_rows, one_row}
+use Rattle.active_table.specs.Parts.{rows_of, rows_from, AreRows}
 use Rattle.active_table.specs.Rows.{seek_from, best_among}
 use Rattle.active_table.specs.Passing.{soonest, ids_behind_words}
 use Rattle.active_table.specs.declared.Best.{Best}
 use Rattle.queue_words.specs.declared.active.ActiveStreamInfo.{ActiveStreamInfo}
 
-module _ (ws : List ℕ) (from : ℕ) (ys : List ActiveStreamInfo) where
-  pub four_length : ys ≡ four_rows ws from → length ys ≡ 4
-  four_length e = ap length e
-
-  pub one_length : ys ≡ one_row ws from → length ys ≡ 1
-  one_length e = ap length e
-
-  pub four_seek : (id : ℕ) → ys ≡ four_rows ws from → seek_from (rows_of ys) id 0 (length ys) ≡ seek_from (rows_from ws from) id 0 4
+module _ (r s : ℕ → ActiveStreamInfo) where
+  same_seek : (id i n : ℕ) → ((k : ℕ) → k < i + n → r k ≡ s k) → seek_from r id i n ≡ seek_from s id i n
   unfolding seek_from
-  four_seek id e = ap (λ (t : List ActiveStreamInfo). seek_from (rows_of t) id 0 (length t)) e
+  same_seek id i zero e = refl
+  same_seek id i (suc n) e = rw (e i (omega arith), same_seek id (suc i) n (λ k h. e k (omega arith)))
 
-  pub one_seek : (id : ℕ) → ys ≡ one_row ws from → seek_from (rows_of ys) id 0 (length ys) ≡ seek_from (rows_from ws from) id 0 1
-  unfolding seek_from
-  one_seek id e = ap (λ (t : List ActiveStreamInfo). seek_from (rows_of t) id 0 (length t)) e
-
-  pub four_best : (start : Best) → ys ≡ four_rows ws from → best_among (rows_of ys) start from (length ys) ≡ best_among (rows_from ws from) start from 4
-  unfolding best_among
-  four_best start e = ap (λ (t : List ActiveStreamInfo). best_among (rows_of t) start from (length t)) e
-
-  pub one_best : (start : Best) → ys ≡ one_row ws from → best_among (rows_of ys) start from (length ys) ≡ best_among (rows_from ws from) start from 1
-  unfolding best_among
-  one_best start e = ap (λ (t : List ActiveStreamInfo). best_among (rows_of t) start from (length t)) e
-
-  pub four_soonest : ys ≡ four_rows ws from → soonest (rows_of ys) (length ys) ≡ soonest (rows_from ws from) 4
-  unfolding soonest
-  four_soonest e = ap (λ (t : List ActiveStreamInfo). soonest (rows_of t) (length t)) e
-
-  pub one_ids : (id : ℕ) → ys ≡ one_row ws from → ids_behind_words (rows_of ys) id 0 (length ys) ≡ ids_behind_words (rows_from ws from) id 0 1
+  same_ids : (id i n : ℕ) → ((k : ℕ) → k < i + n → r k ≡ s k) → ids_behind_words r id i n ≡ ids_behind_words s id i n
   unfolding ids_behind_words
-  one_ids id e = ap (λ (t : List ActiveStreamInfo). ids_behind_words (rows_of t) id 0 (length t)) e
+  same_ids id i zero e = refl
+  same_ids id i (suc n) e = rw (e i (omega arith), same_ids id (suc i) n (λ k h. e k (omega arith)))
+
+  same_best : (start : Best) (from n : ℕ) → ((k : ℕ) → k < n → r k ≡ s k) → best_among r start from n ≡ best_among s start from n
+  unfolding best_among
+  same_best start from zero e = refl
+  same_best start from (suc n) e = rw (e n (omega arith), same_best start from n (λ k h. e k (omega arith)))
+
+  same_soonest : (n : ℕ) → ((k : ℕ) → k < n → r k ≡ s k) → soonest r n ≡ soonest s n
+  unfolding soonest
+  same_soonest zero e = refl
+  same_soonest (suc n) e =
+      ap (λ (t : ℕ). min t (r n).virtual_finish_time) (same_soonest n (λ k h. e k (omega arith)))
+      ∙ ap (λ (row : ActiveStreamInfo). min (soonest s n) row.virtual_finish_time) (e n (omega arith))
+
+module _ {ws : List ℕ} {from n : ℕ} {ys : List ActiveStreamInfo} (e : AreRows ws from n ys) where
+  pub rows_seek : (id : ℕ) → seek_from (rows_of ys) id 0 (length ys) ≡ seek_from (rows_from ws from) id 0 n
+  rows_seek id = rw e.count (same_seek _ _ id 0 n (λ k h. e.each k (omega arith)))
+
+  pub rows_ids : (id : ℕ) → ids_behind_words (rows_of ys) id 0 (length ys) ≡ ids_behind_words (rows_from ws from) id 0 n
+  rows_ids id = rw e.count (same_ids _ _ id 0 n (λ k h. e.each k (omega arith)))
+
+  pub rows_best : (start : Best) → best_among (rows_of ys) start from (length ys) ≡ best_among (rows_from ws from) start from n
+  rows_best start = rw e.count (same_best _ _ start from n e.each)
+
+  pub rows_soonest : soonest (rows_of ys) (length ys) ≡ soonest (rows_from ws from) n
+  rows_soonest = rw e.count (same_soonest _ _ n e.each)

@@ -1,5 +1,5 @@
 -- Parts of the table of waiting streams, as they are lent. Assumes nothing.
-use Rattle.std.specs.Prelude.{ℕ, ◌+◌, List, [], ◌∷◌, get_or}
+use Rattle.std.specs.Prelude.{ℕ, ◌+◌, ◌<◌, ◌≡◌, List, length, get_or}
 use Rattle.queue_words.specs.Active.{active_at}
 use Rattle.queue_words.specs.declared.active.ActiveStreamInfo.{ActiveStreamInfo}
 
@@ -14,9 +14,7 @@ rows_of t i = get_or t i no_row
 abbrev pub rows_from : List ℕ → ℕ → ℕ → ActiveStreamInfo
 rows_from ws from i = active_at ws (from + i)
 
--- Four rows of the queue, and one.
-abbrev pub four_rows : List ℕ → ℕ → List ActiveStreamInfo
-four_rows ws from = rows_from ws from 0 ∷ rows_from ws from 1 ∷ rows_from ws from 2 ∷ rows_from ws from 3 ∷ []
-
-abbrev pub one_row : List ℕ → ℕ → List ActiveStreamInfo
-one_row ws from = rows_from ws from 0 ∷ []
+-- They are the n rows of the queue from one on.
+pub record AreRows (ws : List ℕ) (from n : ℕ) (rows : List ActiveStreamInfo) : Type 0 where
+  pub count : length rows ≡ n
+  pub each : (i : ℕ) → i < n → rows_of rows i ≡ rows_from ws from i

@@ -6,7 +6,7 @@ ghost use Rattle.queue_words.specs.Header.{scheduler_at};
 ghost use Rattle.active_table.specs.Groups.{groups_of, count_in, best_in, best_over, least_known};
 ghost use Rattle.active_table.specs.Groups.{is_fresh, stale_from, refreshed_at, group_fresh, refreshed};
 
-use crate::{Best, first_row, least_among, least_of_one, least_row};
+use crate::{Best, first_row, least_among, least_of, least_row};
 use queue_words::QUEUE_WORDS;
 use queue_words::header::load_scheduler_state;
 use queue_words::leasts::{GROUP, load_least, store_least};
@@ -43,7 +43,7 @@ fn best_in(queue: &[u64; QUEUE_WORDS], n: usize, g: usize, start: Best) -> Best
     let count = count_in(g, n);
     let w = load_least(queue, g);
     if w < count as u64 {
-        return least_of_one(queue, from + w as usize, start);
+        return least_of::<1>(queue, from + w as usize, start);
     }
     least_among(queue, from, count, start)
 }

@@ -9,12 +9,13 @@ pub mod groups;
 
 ghost use Rattle.std.specs.Prelude.{◌≡◌, ◌+◌, ◌-◌, ◌<◌, ◌≤◌, ◌^◌, length};
 ghost use Rattle.active_table.specs.Rows.{seek_from, seek, best_of, better, best_among, best_to};
-ghost use Rattle.active_table.specs.Parts.{rows_of, rows_from, four_rows, one_row};
+ghost use Rattle.active_table.specs.Parts.{rows_of, rows_from, AreRows};
 ghost use Rattle.active_table.specs.Groups.{best_at};
 ghost use Rattle.active_table.specs.Passing.{latest, finish_of, soonest, ids_behind_words, four_behind};
 
 use queue_words::QUEUE_WORDS;
 use queue_words::active::{ActiveStreamInfo, load_active};
+use std::array;
 
 // The latest time there is.
 const LATEST: u64 = 18446744073709551615;
@@ -95,71 +96,44 @@ pub fn ids_behind(table: &[ActiveStreamInfo], id: u16) -> bool
 
 // The parts of the table that are lent.
 
-fn four_rows(queue: &[u64; QUEUE_WORDS], from: usize) -> [ActiveStreamInfo; 4]
-    requires { from + 4 ≤ 256 }
-    ensures { result ≡ four_rows queue.now from }
+// N rows of the queue from `from` on.
+fn rows_at<const N: usize>(queue: &[u64; QUEUE_WORDS], from: usize) -> [ActiveStreamInfo; N]
+    requires { from + N ≤ 256 }
+    ensures { AreRows queue.now from N result }
 {
-    let a = load_active(queue, from + 0);
-    let b = load_active(queue, from + 1);
-    let c = load_active(queue, from + 2);
-    let d = load_active(queue, from + 3);
-    [a, b, c, d]
+    array::from_fn(|i| load_active(queue, from + i))
 }
 
-fn one_row(queue: &[u64; QUEUE_WORDS], from: usize) -> [ActiveStreamInfo; 1]
-    requires { from + 1 ≤ 256 }
-    ensures { result ≡ one_row queue.now from }
+fn position_in<const N: usize>(queue: &[u64; QUEUE_WORDS], from: usize, stream_id: u16) -> usize
+    requires { from + N ≤ 256 }
+    ensures { result ≡ seek_from (rows_from queue.now from) stream_id 0 N }
 {
-    let a = load_active(queue, from + 0);
-    [a]
-}
-
-fn position_in_four(queue: &[u64; QUEUE_WORDS], from: usize, stream_id: u16) -> usize
-    requires { from + 4 ≤ 256 }
-    ensures { result ≡ seek_from (rows_from queue.now from) stream_id 0 4 }
-{
-    let table = four_rows(queue, from);
+    let table = rows_at::<N>(queue, from);
     position(&table, stream_id)
 }
 
-fn position_in_one(queue: &[u64; QUEUE_WORDS], from: usize, stream_id: u16) -> usize
-    requires { from + 1 ≤ 256 }
-    ensures { result ≡ seek_from (rows_from queue.now from) stream_id 0 1 }
+// It tells too that the first row finishes by the latest time, which `least_row` starts from.
+fn least_of<const N: usize>(queue: &[u64; QUEUE_WORDS], from: usize, start: Best) -> Best
+    requires { from + N ≤ 256 }
+    ensures { (result ≡ best_among (rows_from queue.now from) start from N) × (finish_of (rows_from queue.now from) 0 ≤ latest) }
 {
-    let table = one_row(queue, from);
-    position(&table, stream_id)
-}
-
-fn least_of_four(queue: &[u64; QUEUE_WORDS], from: usize, start: Best) -> Best
-    requires { from + 4 ≤ 256 }
-    ensures { result ≡ best_among (rows_from queue.now from) start from 4 }
-{
-    let table = four_rows(queue, from);
+    let table = rows_at::<N>(queue, from);
     least(&table, from, start)
 }
 
-// It tells too that the row finishes by the latest time, which `least_row` starts from.
-fn least_of_one(queue: &[u64; QUEUE_WORDS], from: usize, start: Best) -> Best
-    requires { from + 1 ≤ 256 }
-    ensures { (result ≡ best_among (rows_from queue.now from) start from 1) × (finish_of (rows_from queue.now from) 0 ≤ latest) }
+fn soonest_of<const N: usize>(queue: &[u64; QUEUE_WORDS], from: usize) -> u64
+    requires { from + N ≤ 256 }
+    ensures { result ≡ soonest (rows_from queue.now from) N }
 {
-    let table = one_row(queue, from);
-    least(&table, from, start)
-}
-
-fn soonest_of_four(queue: &[u64; QUEUE_WORDS], from: usize) -> u64
-    requires { from + 4 ≤ 256 }
-    ensures { result ≡ soonest (rows_from queue.now from) 4 }
-{
-    let table = four_rows(queue, from);
+    let table = rows_at::<N>(queue, from);
     soonest(&table)
 }
 
-fn ids_behind_in_one(queue: &[u64; QUEUE_WORDS], from: usize, id: u16) -> bool
-    requires { from + 1 ≤ 256 }
-    ensures { result ≡ ids_behind_words (rows_from queue.now from) id 0 1 }
+fn ids_behind_in<const N: usize>(queue: &[u64; QUEUE_WORDS], from: usize, id: u16) -> bool
+    requires { from + N ≤ 256 }
+    ensures { result ≡ ids_behind_words (rows_from queue.now from) id 0 N }
 {
-    let table = one_row(queue, from);
+    let table = rows_at::<N>(queue, from);
     ids_behind(&table, id)
 }
 
@@ -169,7 +143,7 @@ fn ids_behind_in_four(queue: &[u64; QUEUE_WORDS], from: usize, id: u16) -> bool
     ensures { result ≡ ids_behind_words (rows_from queue.now from) id 0 4 }
 {
     for k in 0..4 {
-        if !ids_behind_in_one(queue, from + k, id) {
+        if !ids_behind_in::<1>(queue, from + k, id) {
             return false;
         }
     }
@@ -181,7 +155,7 @@ fn four_behind(queue: &[u64; QUEUE_WORDS], from: usize, best: Best) -> bool
     requires { from + 4 ≤ 256 }
     ensures { result ≡ four_behind queue.now from best }
 {
-    let earliest = soonest_of_four(queue, from);
+    let earliest = soonest_of::<4>(queue, from);
     if best.finish < earliest {
         return true;
     }
@@ -200,7 +174,7 @@ fn least_past(queue: &[u64; QUEUE_WORDS], from: usize, best: Best) -> Best
     if behind {
         return best;
     }
-    least_of_four(queue, from, best)
+    least_of::<4>(queue, from, best)
 }
 
 // The first row of a stream among n rows of the queue, or n.
@@ -209,13 +183,13 @@ pub fn seek(queue: &[u64; QUEUE_WORDS], stream_id: u16, n: usize) -> usize
     ensures { result ≡ seek queue.now stream_id n }
 {
     for g in 0..n / 4 {
-        let k = position_in_four(queue, g * 4, stream_id);
+        let k = position_in::<4>(queue, g * 4, stream_id);
         if k < 4 {
             return g * 4 + k;
         }
     }
     for i in n / 4 * 4..n {
-        let k = position_in_one(queue, i, stream_id);
+        let k = position_in::<1>(queue, i, stream_id);
         if k < 1 {
             return i + k;
         }
@@ -233,7 +207,7 @@ fn first_row(queue: &[u64; QUEUE_WORDS], from: usize) -> Best
         at: from,
         finish: LATEST,
     };
-    least_of_one(queue, from, last)
+    least_of::<1>(queue, from, last)
 }
 
 // The best of `start` and n rows from `from` on.
@@ -246,7 +220,7 @@ fn least_among(queue: &[u64; QUEUE_WORDS], from: usize, n: usize, start: Best) -
         best = least_past(queue, from + g * 4, best);
     }
     for i in n / 4 * 4..n {
-        best = least_of_one(queue, from + i, best);
+        best = least_of::<1>(queue, from + i, best);
     }
     best
 }

@@ -12,4 +12,4 @@ loop-g-preserved c =
     rw t (among_part _ _ _ _ 4 _ _ c.loop-g.invariant c.least_past-best.ensures)
 
 pub loop-i-preserved : goal.loop-i-preserved
-loop-i-preserved c = among_part _ _ _ _ 1 _ _ c.loop-i.invariant c.least_of_one-best.ensures.0
+loop-i-preserved c = among_part _ _ _ _ 1 _ _ c.loop-i.invariant c.least_of-best.ensures.0
