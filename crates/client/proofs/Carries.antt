@@ -7,6 +7,9 @@ use native.Mathlib.Omega.{arith}
 use borrow.Author.Tests.{le-ltb}
 use lib.ListN.{length, take, drop, length-drop, take-append-drop}
 use lib.Seq.{take_at, length-take-le}
+use Rattle.std.specs.Prelude.{Result, Ok, Err}
+use Rattle.std.specs.Result.{is_ok}
+use Rattle.types.specs.declared.refusal.Refusal.{Refusal}
 use Rattle.queue_model.specs.Types.{Answer, Queue, fragment, Step, done, reply}
 use Rattle.queue_model.specs.Streams.{new_queue}
 use Rattle.queue_model.specs.Refusals.{first_refusal, create_refusal, creation_or, create, new}
@@ -24,9 +27,14 @@ use Rattle.linked_adding.specs.Create.{CreateMeets, answer_of}
 use Rattle.linked_adding.specs.Add.{AddMeets}
 use Rattle.linked_adding.specs.Message.{message_of_words}
 use Rattle.linked_sending.specs.Meaning.{produced_of, buffer_of, Sends, ProduceMeets}
-use Rattle.queue_streams.specs.Answers.{is_accepted}
+use Rattle.queue_streams.specs.Answers.{as_call, is_accepted}
 use Rattle.client.specs.Carried.{plain_message, is_fragment, Fits, Carried}
 use Rattle.client.proofs.Steps.{options, Gives, passes}
+
+-- an answer that is no refusal is an accepted call's
+pub ok_accepted : (r : Result ℕ Refusal) (told : Bool) → told ≡ is_ok r → told ≡ is_accepted (as_call r)
+ok_accepted (Ok k) told e = e
+ok_accepted (Err n) told e = e
 
 -- After a call: it was accepted, and the words and the store stand for this queue.
 record Now (told : Bool) (ws st : List ℕ) (q : Queue) : Type 0 where

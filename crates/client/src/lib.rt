@@ -2,15 +2,15 @@
 #![tactic(auto)]
 
 ghost use Rattle.std.specs.Prelude.{◌≡◌, length};
+ghost use Rattle.queue_sending.specs.Answers.{as_produced};
 ghost use Rattle.client.specs.Carried.{plain_message, is_fragment, Fits, Carried};
 
 use linked_adding::{add, create};
 use linked_sending::produce;
 use queue_messages::Message;
 use queue_sending::Produced;
-use queue_streams::answers::is_accepted;
 use queue_words::{QUEUE_WORDS, RestartRule};
-use types::StreamId;
+use types::{Refusal, StreamId};
 
 // An ordered message without a lifetime or a limit of retransmissions.
 fn plain_message(stream: u16) -> Message
@@ -26,14 +26,10 @@ fn plain_message(stream: u16) -> Message
     }
 }
 
-fn is_fragment(p: Produced) -> bool
-    ensures { result ≡ is_fragment p }
+fn is_fragment(p: Result<Produced, Refusal>) -> bool
+    ensures { result ≡ is_fragment (as_produced p) }
 {
-    match p {
-        Produced::Nothing(_) => false,
-        Produced::Fragment(_, _) => true,
-        Produced::Refused(_) => false,
-    }
+    matches!(p, Ok(Produced::Fragment(_, _)))
 }
 
 // Adds two messages, on streams 1 and 2, to a new queue and takes three fragments of at most 1,200 bytes. True exactly if every call
@@ -58,9 +54,9 @@ pub fn carry(
     let one_made = produce(queue, &*store, events, one, 0, 1200);
     let two_made = produce(queue, &*store, events, two, 0, 1200);
     let three_made = produce(queue, &*store, events, three, 0, 1200);
-    let a = is_accepted(created);
-    let b = is_accepted(first_added);
-    let c = is_accepted(second_added);
+    let a = created.is_ok();
+    let b = first_added.is_ok();
+    let c = second_added.is_ok();
     let d = is_fragment(one_made);
     let e = is_fragment(two_made);
     let f = is_fragment(three_made);

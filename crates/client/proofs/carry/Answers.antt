@@ -1,5 +1,5 @@
 -- `client::carry` meets its contract: what its six calls promise of the model (proofs/Carries.antt). Assumes nothing.
-use Rattle.client.proofs.Carries.{carries}
+use Rattle.client.proofs.Carries.{ok_accepted, carries}
 use Rattle.client.proofs.carry.Goals as goal
 
 -- what is known after each of the calls
@@ -13,9 +13,9 @@ returns c =
     _ _ _ _ c.produce-two_made.ensures c.events-2-1.given
     _ _ _ _ c.produce-three_made.ensures
     _ _ _ _ _ _
-    c.is_accepted-a.ensures
-    c.is_accepted-b.ensures
-    c.is_accepted-c.ensures
+    (ok_accepted _ _ c.is_ok-a.ensures.value)
+    (ok_accepted _ _ c.is_ok-b.ensures.value)
+    (ok_accepted _ _ c.is_ok-c.ensures.value)
     c.is_fragment-d.ensures
     c.is_fragment-e.ensures
     c.is_fragment-f.ensures
