@@ -30,7 +30,7 @@ pub enum ChunkKind {
 }
 
 // A chunk read: the payload is the fragment.data.length bytes from payload_at on.
-#[derive(Clone, Copy)]
+#[derive(Clone, Copy, Debug, PartialEq, Eq)]
 pub struct Chunk {
     pub kind: ChunkKind,
     pub tsn: u32,

@@ -7,7 +7,7 @@ use queue_sending::own::look_own;
 use queue_words::QUEUE_WORDS;
 
 // Where passing over ends, after so many events: nothing waits, or a head to send, by the scheduler's row, its stream's id and row.
-#[derive(Clone, Copy)]
+#[derive(Clone, Copy, Debug, PartialEq, Eq)]
 pub enum Turn {
     Nothing(usize),
     Head(usize, usize, u16, usize),

@@ -15,7 +15,7 @@ pub const LEAST_LIMIT: usize = 36;
 pub const MOST_LIMIT: usize = 65535;
 
 // A packet as it is asked for: its limit in bytes, "two ports, verification tag", and the TSN of its first chunk.
-#[derive(Clone, Copy)]
+#[derive(Clone, Copy, Debug, PartialEq, Eq)]
 pub struct Packet {
     pub limit: usize,
     pub source_port: u16,

@@ -6,7 +6,7 @@ use message_chains::amounts::remaining;
 use queue_words::items::{Item, mid_in, ssn_in};
 use types::{Fsn, Mid, OutgoingMessageId, Ssn, StreamId, StreamKey};
 
-#[derive(Clone, Copy)]
+#[derive(Clone, Copy, Debug, PartialEq, Eq)]
 pub struct Data {
     pub stream_key: StreamKey,
     pub ssn: Ssn,
@@ -19,7 +19,7 @@ pub struct Data {
     pub length: u64,
 }
 
-#[derive(Clone, Copy)]
+#[derive(Clone, Copy, Debug, PartialEq, Eq)]
 pub struct DataToSend {
     pub message_id: OutgoingMessageId,
     pub data: Data,
@@ -29,7 +29,7 @@ pub struct DataToSend {
 }
 
 // The next fragment: nothing waits, or a fragment, each with so many events written.
-#[derive(Clone, Copy)]
+#[derive(Clone, Copy, Debug, PartialEq, Eq)]
 pub enum Produced {
     Nothing(usize),
     Fragment(usize, DataToSend),

@@ -162,7 +162,7 @@ fn write_sent(
 }
 
 // A fragment handed out: how many events are written then, and what goes with it.
-#[derive(Clone, Copy)]
+#[derive(Clone, Copy, Debug, PartialEq, Eq)]
 pub struct Handed {
     pub count: usize,
     pub fragment: DataToSend,

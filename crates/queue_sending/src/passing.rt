@@ -69,7 +69,7 @@ pub fn pass_over(
 
 // How far passing over has come: what is found then, how many messages may still be dropped, how many events are written and how many
 // drops are in the log.
-#[derive(Clone, Copy)]
+#[derive(Clone, Copy, Debug, PartialEq, Eq)]
 pub struct Passing {
     pub found: Result<Ahead, Broken>,
     pub left: usize,
