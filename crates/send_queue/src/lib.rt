@@ -24,10 +24,10 @@ pub use linked_streams::{set_buffered_amount_low_threshold, set_priority};
 // Priorities for a wanted order.
 pub use priority_plan::{MAX_PLANNED, PlannedPriorities, plan_priorities};
 // Chunks on the wire.
-pub use chunks::{Chunk, ChunkKind, ChunkRead, ChunkWritten, read_chunk, write_chunk};
+pub use chunks::{Chunk, ChunkKind, read_chunk, write_chunk};
 // Packets on the wire.
 pub use linked_packets::fill_packet;
-pub use packets::{Packet, PacketFilled};
+pub use packets::{Filled, Packet};
 // The questions.
 pub use linked_restarts::count_streams_ready_to_reset;
 pub use linked_streams::{
@@ -38,7 +38,6 @@ pub use linked_streams::{
 // The changeover image.
 pub use linked_restoring::restore;
 pub use linked_saving::save;
-pub use saving::Saved;
 // Answers, the words and the event list.
 pub use queue_streams::{EVENT_PLACES, EVENT_WORDS, PLACE_WORDS};
 pub use queue_words::QUEUE_WORDS;
