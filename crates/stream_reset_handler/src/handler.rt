@@ -4,7 +4,7 @@ ghost use Rattle.types.specs.Wrap.{wrap_suc};
 ghost use Rattle.reset_model.specs.Handler as model;
 ghost use Rattle.stream_reset_handler.specs.Handler.{handler_of, is_underway, ended_as};
 
-#[derive(Clone, Copy)]
+#[derive(Clone, Copy, Debug, PartialEq, Eq)]
 pub struct StreamResetHandler {
     pub next_number: u32,
     // The number of the request underway.
@@ -37,5 +37,8 @@ pub fn is_underway(handler: StreamResetHandler, number: u32) -> bool
 pub fn ended(handler: StreamResetHandler) -> StreamResetHandler
     ensures { result ≡ ended_as handler }
 {
-    StreamResetHandler { underway: None, ..handler }
+    StreamResetHandler {
+        underway: None,
+        ..handler
+    }
 }

@@ -2,6 +2,7 @@
 ghost use Rattle.std.specs.Prelude.{◌≡◌, ◌≤◌, length, take};
 ghost use Rattle.reset_model.specs.Wire.{request_size};
 ghost use Rattle.send_queue.specs.Number as number;
+ghost use Rattle.send_queue.specs.ReadyStreams.{as_ready};
 ghost use Rattle.send_queue.specs.Restarts.{CountMeets};
 ghost use Rattle.std.specs.Prelude.{None};
 ghost use Rattle.stream_reset_handler.specs.Answers.{as_made};
@@ -9,7 +10,9 @@ ghost use Rattle.stream_reset_handler.specs.Making.{next_handler, message_in, Ma
 
 use crate::handler::{StreamResetHandler, number_after};
 use reset_wire::{request_size, write_request};
-use send_queue::{QUEUE_WORDS, Refusal, count_streams_ready_to_reset, get_streams_ready_to_reset};
+use send_queue::{
+    QUEUE_WORDS, ReadyStreams, Refusal, count_streams_ready_to_reset, get_streams_ready_to_reset,
+};
 
 #[derive(Clone, Copy, Debug, PartialEq, Eq)]
 pub struct MadeRequest {
@@ -39,6 +42,16 @@ pub fn write_next(
     }
 }
 
+// The ids that are told; all are 0 where there is a refusal, which does not come once they are counted.
+fn ids_of(ready: Result<ReadyStreams, Refusal>) -> [u16; 256]
+    ensures { result ≡ (as_ready ready).ids }
+{
+    match ready {
+        Ok(ready) => ready.ids,
+        Err(_) => [0u16; 256],
+    }
+}
+
 // With so many streams ready. 26: "the output is shorter than the message"; the ids are not taken then.
 fn request_for(
     queue: &mut [u64; QUEUE_WORDS],
@@ -65,7 +78,7 @@ fn request_for(
         };
     }
     let ready = get_streams_ready_to_reset(queue);
-    let ids = ready.ids;
+    let ids = ids_of(ready);
     let next = write_next(
         output,
         handler,
@@ -92,14 +105,7 @@ fn request_now(
 {
     let counted = count_streams_ready_to_reset(&*queue);
     match counted {
-        Ok(count) => request_for(
-            queue,
-            handler,
-            output,
-            response_number,
-            last_tsn,
-            count,
-        ),
+        Ok(count) => request_for(queue, handler, output, response_number, last_tsn, count),
         Err(refusal) => MadeRequest {
             answer: Err(refusal),
             handler: handler,

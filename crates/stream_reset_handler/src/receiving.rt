@@ -29,10 +29,7 @@ pub struct QueueReset {
     pub handler: StreamResetHandler,
 }
 
-fn answered(
-    answer: Result<ResponseAnswer, Refusal>,
-    handler: StreamResetHandler,
-) -> HandledResponse
+fn answered(answer: Result<ResponseAnswer, Refusal>, handler: StreamResetHandler) -> HandledResponse
     ensures { as_handled result ≡ handled (as_response answer) handler }
 {
     HandledResponse { answer, handler }
@@ -98,7 +95,7 @@ pub fn handle_response(
     handler: StreamResetHandler,
     bytes: &[u8],
 ) -> HandledResponse
-    ensures { HandleMeets queue.old handler bytes.now result queue.new }
+    ensures { HandleMeets queue.old handler bytes.now (as_handled result) queue.new }
 {
     let step = step_for(handler, bytes);
     match step {

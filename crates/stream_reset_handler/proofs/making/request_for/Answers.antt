@@ -9,4 +9,4 @@ pub returns-then-output-size : goal.returns-then-output-size
 returns-then-output-size c = made_short _ _ _ c.requires.0 _ _ _ c.requires.1 c.if-count-eq0.false _ c.request_size-size.ensures c.if-output-size.true
 
 pub returns : goal.returns
-returns c = made_next _ _ _ c.requires.0 _ _ _ c.requires.1 c.if-count-eq0.false _ c.request_size-size.ensures c.if-output-size.false _ _ c.get_streams_ready_to_reset-ready.ensures _ _ c.write_next-next.ensures
+returns c = made_next _ _ _ c.requires.0 _ _ _ c.requires.1 c.if-count-eq0.false _ c.request_size-size.ensures c.if-output-size.false _ _ c.get_streams_ready_to_reset-ready.ensures _ _ (rw (← c.ids_of-ids.ensures) c.write_next-next.ensures)
