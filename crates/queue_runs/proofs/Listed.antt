@@ -72,10 +72,9 @@ use Rattle.types.specs.Wrap.{wrap_suc}
 use Rattle.queue_model.specs.Chunks.{padded}
 use Rattle.chunks.specs.Layout.{header_size}
 use Rattle.chunks.specs.declared.chunk.ChunkKind.{ChunkKind}
-use Rattle.packets.specs.declared.filling.Filling.{Filling}
 use Rattle.packets.specs.declared.packet.Packet.{Packet}
 use Rattle.packets.specs.PacketFilled as packet
-use Rattle.packets.specs.Filling.{kind_of, fill_code, one_filled, FillingWith, filling_with, reached, after_one, and_on_words, size_asked_words, fill_on_words, filled_with_words, filled_number, finished_answer, finished, fill_packet}
+use Rattle.packets.specs.Filling.{Filling, kind_of, fill_code, one_filled, FillingWith, filling_with, reached, after_one, and_on_words, size_asked_words, fill_on_words, filled_with_words, filled_number, finished_answer, finished, fill_packet}
 use Rattle.queue_runs.specs.Numbers.{among, RefusalsListed}
 use Rattle.payload_store.proofs.Cases.{false_true}
 

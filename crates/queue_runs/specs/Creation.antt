@@ -3,7 +3,6 @@ use Rattle.std.specs.Prelude.{ℕ, ◌<◌, ◌^◌, ◌≡◌, Bool, false, Lis
 use Rattle.queue_model.specs.Types as plain
 use Rattle.queue_streams.specs.Settings.{Called}
 use Rattle.queue_words.specs.declared.header.RestartRule.{RestartRule}
-use Rattle.queue_streams.specs.Call as answer
 use Rattle.queue_streams.specs.Call as call
 use Rattle.queue_streams.specs.Flag.{Flag}
 use Rattle.queue_streams.specs.Flag as flag_answer
@@ -52,7 +51,7 @@ pub record Creates (a : Arguments) (s : State) : Type 0 where
 
 -- ------------------------------------------------------------------ refusal 16
 
-abbrev sixteen_call : answer.Call → Bool
+abbrev sixteen_call : call.Call → Bool
 sixteen_call (call.Accepted n) = false
 sixteen_call (call.Refused n) = eqb n 16
 

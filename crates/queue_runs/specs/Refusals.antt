@@ -1,6 +1,5 @@
 -- "nothing changes in the queue or in any lent buffer when a call is refused", on any words at all. Assumes nothing.
 use Rattle.std.specs.Prelude.{ℕ, ◌≡◌, Bool, true, false, List, []}
-use Rattle.queue_streams.specs.Call as answer
 use Rattle.queue_streams.specs.Call as call
 use Rattle.queue_streams.specs.Flag.{Flag}
 use Rattle.queue_streams.specs.Flag as flags
@@ -14,7 +13,7 @@ use Rattle.queue_runs.specs.Calls.{Call, add, produce, fill, discard, close, rea
 use Rattle.queue_runs.specs.Run.{State, step}
 
 -- Whether an answer is a refusal.
-abbrev pub call_refused : answer.Call → Bool
+abbrev pub call_refused : call.Call → Bool
 call_refused (call.Accepted k) = false
 call_refused (call.Refused n) = true
 
