@@ -3,9 +3,8 @@ ghost use Rattle.std.specs.Prelude.{◌≡◌};
 ghost use Rattle.queue_streams.specs.Answers.{as_call, call_number};
 ghost use Rattle.host_numbers.specs.Numbers.{call_out};
 
-use std::convert::From;
-
 use out_array::{EVENTS, OUT_WORDS};
+use std::convert::From;
 use types::Refusal;
 
 // A call that tells nothing else.
@@ -22,11 +21,8 @@ pub fn call_number(c: Result<usize, Refusal>) -> u32
 pub fn tell_call(out: &mut [u64; OUT_WORDS], c: Result<usize, Refusal>) -> u32
     ensures { (result ≡ call_number (as_call c)) × (out.new ≡ call_out out.old (as_call c)) }
 {
-    match c {
-        Ok(k) => {
-            out[EVENTS] = k as u64;
-            0
-        }
-        Err(refusal) => u8::from(refusal) as u32,
+    if let Ok(k) = c {
+        out[EVENTS] = k as u64;
     }
+    call_number(c)
 }

@@ -2,10 +2,14 @@
 #![tactic(auto)]
 
 ghost use Rattle.std.specs.Prelude.{◌≡◌};
-ghost use Rattle.packet_numbers.specs.Packets.{packet_with, told_packet};
+ghost use Rattle.packets.specs.Answers.{as_filled};
+ghost use Rattle.packets.specs.Filling.{filled_number};
+ghost use Rattle.packet_numbers.specs.Packets.{packet_with, told_packet, filled_out};
 
 use out_array::{EVENTS, LENGTH, OUT_WORDS, VALUE};
-use packets::Packet;
+use packets::{Filled, Packet};
+use std::convert::From;
+use types::Refusal;
 
 pub fn packet_of(
     limit: u64,
@@ -32,4 +36,17 @@ pub fn tell_packet(out: &mut [u64; OUT_WORDS], k: usize, bytes: usize, chunks: u
     out[VALUE] = chunks as u64;
     out[EVENTS] = k as u64;
     out[LENGTH] = bytes as u64;
+}
+
+// 0, or the refusal's number.
+pub fn tell_filled(out: &mut [u64; OUT_WORDS], a: Result<Filled, Refusal>) -> u32
+    ensures { (result ≡ filled_number (as_filled a)) × (out.new ≡ filled_out out.old (as_filled a)) }
+{
+    match a {
+        Ok(f) => {
+            tell_packet(out, f.events, f.bytes, f.chunks);
+            0
+        }
+        Err(refusal) => u8::from(refusal) as u32,
+    }
 }
