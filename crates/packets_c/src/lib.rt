@@ -2,27 +2,13 @@
 // (send_queue_c) and is compiled into dsq_produce.
 #![tactic(auto)]
 
-ghost use Rattle.std.specs.Prelude.{◌≡◌};
-ghost use Rattle.packets.specs.Filling.{filled_number, fill_packet};
-ghost use Rattle.packet_numbers.specs.Packets.{packet_with, filled_out, GivesPacket};
+ghost use Rattle.packets.specs.Filling.{fill_packet};
+ghost use Rattle.packet_numbers.specs.Packets.{packet_with, GivesPacket};
 
 use linked_packets::fill_packet;
 use out_array::OUT_WORDS;
-use packet_numbers::{packet_of, tell_packet};
-use packets::PacketFilled;
+use packet_numbers::{packet_of, tell_filled};
 use queue_words::QUEUE_WORDS;
-
-fn tell_filled(out: &mut [u64; OUT_WORDS], a: PacketFilled) -> u32
-    ensures { (result ≡ filled_number a) × (out.new ≡ filled_out out.old a) }
-{
-    match a {
-        PacketFilled::Filled(k, bytes, chunks) => {
-            tell_packet(out, k, bytes, chunks);
-            0
-        }
-        PacketFilled::Refused(n) => n as u32,
-    }
-}
 
 #[unsafe(no_mangle)]
 pub extern "C" fn dsq_fill_packet(
