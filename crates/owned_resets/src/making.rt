@@ -5,12 +5,11 @@ ghost use Rattle.stream_reset_handler.specs.Making.{MakeMeets};
 ghost use Rattle.owned_streams.specs.Own.{OwnWords};
 ghost use Rattle.owned_resets.specs.Answers.{made_as, request_refusal};
 
-use std::convert::From;
-
 use owned_restarts::get_streams_ready_to_reset;
 use owned_streams::count_streams_ready_to_reset;
 use queue_words::QUEUE_WORDS;
 use reset_wire::request_size;
+use std::convert::From;
 use stream_reset_handler::{StreamResetHandler, write_next};
 use types::Refusal;
 

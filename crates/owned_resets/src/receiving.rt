@@ -4,10 +4,9 @@ ghost use Rattle.stream_reset_handler.specs.Receiving.{handled, HandleMeets, Res
 ghost use Rattle.owned_streams.specs.Own.{OwnWords};
 ghost use Rattle.owned_resets.specs.Answers.{response_as, handled_as, reset_as, wrong_response};
 
-use std::convert::From;
-
 use owned_restarts::{commit_reset_streams, rollback_reset_streams};
 use queue_words::QUEUE_WORDS;
+use std::convert::From;
 use stream_reset_handler::{ResponseAnswer, ResponseStep, StreamResetHandler, ended, step_for};
 use types::Refusal;
 
