@@ -2,14 +2,12 @@
 // is lent, in a function of its own for each array.
 #![tactic(auto)]
 
-use std::convert::From;
-
 use send_queue::{
-    Message, Produced, QUEUE_WORDS, Refusal, RestartRule, add,
-    commit_reset_streams, create, discard, enable_message_interleaving, prepare_reset_stream,
-    produce, reset, restore, rollback_reset_streams, save, set_buffered_amount_low_threshold,
-    set_priority,
+    Message, Produced, QUEUE_WORDS, Refusal, RestartRule, add, commit_reset_streams, create,
+    discard, enable_message_interleaving, prepare_reset_stream, produce, reset, restore,
+    rollback_reset_streams, save, set_buffered_amount_low_threshold, set_priority,
 };
+use std::convert::From;
 
 // What the program itself answers where an array is shorter than the length asked for. No document has this number.
 pub const TOO_SHORT: u64 = 99;
@@ -54,7 +52,12 @@ fn rule_of(strict: bool) -> RestartRule {
     RestartRule::Dcsctp
 }
 
-pub fn lent_create(queue: &mut [u64; QUEUE_WORDS], store: &[u8], n: usize, c: Creation) -> Result<usize, LentError> {
+pub fn lent_create(
+    queue: &mut [u64; QUEUE_WORDS],
+    store: &[u8],
+    n: usize,
+    c: Creation,
+) -> Result<usize, LentError> {
     if n > store.len() {
         return Err(LentError::TooShort);
     }
