@@ -5,13 +5,14 @@ use input_trials::state::{
     STORE_BYTES, STREAM, STRICT, THRESHOLD, TIME, low8, low16, low32,
 };
 use lent_calls::{
-    Creation, LentError, lent_add, lent_create, lent_event_call, lent_produce, lifetime_of, plain_call,
+    Creation, LentError, lent_add, lent_create, lent_event_call, lent_produce, lifetime_of,
+    plain_call,
 };
 use send_queue::{
-    DataToSend, Message, Produced, QUEUE_WORDS, Refusal, StreamId,
-    buffered_amount, buffered_amount_low_threshold, count_streams_ready_to_reset,
-    get_handover_readiness, get_priority, get_streams_ready_to_reset, has_data_to_send,
-    has_streams_ready_to_be_reset, is_empty, total_buffered_amount,
+    DataToSend, Message, Produced, QUEUE_WORDS, Refusal, StreamId, buffered_amount,
+    buffered_amount_low_threshold, count_streams_ready_to_reset, get_handover_readiness,
+    get_priority, get_streams_ready_to_reset, has_data_to_send, has_streams_ready_to_be_reset,
+    is_empty, total_buffered_amount,
 };
 
 // 0 for accepted.
@@ -40,7 +41,11 @@ fn produced_of(p: Produced, state: &mut [u64; STATE]) -> usize {
     }
 }
 
-fn create_call(queue: &mut [u64; QUEUE_WORDS], store: &[u8; STORE], state: &[u64; STATE]) -> Result<usize, LentError> {
+fn create_call(
+    queue: &mut [u64; QUEUE_WORDS],
+    store: &[u8; STORE],
+    state: &[u64; STATE],
+) -> Result<usize, LentError> {
     let c = Creation {
         limit: state[LIMIT],
         priority: low16(state[PRIORITY]),
@@ -65,7 +70,11 @@ fn message_of(state: &[u64; STATE]) -> Message {
     }
 }
 
-fn add_call(queue: &mut [u64; QUEUE_WORDS], store: &mut [u8; STORE], state: &[u64; STATE]) -> Result<usize, LentError> {
+fn add_call(
+    queue: &mut [u64; QUEUE_WORDS],
+    store: &mut [u8; STORE],
+    state: &[u64; STATE],
+) -> Result<usize, LentError> {
     let payload = [165u8; PAYLOAD];
     let m = message_of(state);
     lent_add(
@@ -125,7 +134,11 @@ fn event_call(
     )
 }
 
-fn words_call(queue: &mut [u64; QUEUE_WORDS], state: &[u64; STATE], letter: u8) -> Result<usize, LentError> {
+fn words_call(
+    queue: &mut [u64; QUEUE_WORDS],
+    state: &[u64; STATE],
+    letter: u8,
+) -> Result<usize, LentError> {
     plain_call(
         queue,
         small(letter),

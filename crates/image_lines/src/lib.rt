@@ -8,8 +8,7 @@ use lent_calls::{LentError, lent_restore, lent_save};
 use send_queue::QUEUE_WORDS;
 use trace_answers::marks::{keep_store, mark_bytes};
 use trace_answers::settle::{
-    events_of, refusal_of, settle_image, settle_no_events, settle_store,
-    settle_words,
+    events_of, refusal_of, settle_image, settle_no_events, settle_store, settle_words,
 };
 use trace_text::output::{Answers, put_answer, put_broken, put_byte, put_number, put_text};
 use trace_text::payload::sum_of;

@@ -2,11 +2,9 @@
 // what is settled after it.
 #![tactic(auto)]
 
-use std::convert::From;
-
 use lent_calls::{
-    Creation, LentError, lent_add, lent_create, lent_event_call, lent_produce, lifetime_of, plain_call,
-    retransmissions_of,
+    Creation, LentError, lent_add, lent_create, lent_event_call, lent_produce, lifetime_of,
+    plain_call, retransmissions_of,
 };
 use send_queue::{
     Message, Produced, QUEUE_WORDS, ReadyStreams, Refusal, StreamId, buffered_amount,
@@ -14,11 +12,12 @@ use send_queue::{
     get_handover_readiness, get_priority, get_streams_ready_to_reset, has_data_to_send,
     has_streams_ready_to_be_reset, is_empty, total_buffered_amount,
 };
+use std::convert::From;
 use trace_answers::fragments::put_fields;
 use trace_answers::marks::{EVENT_BUFFER, clear_store, event_words, keep_words, mark_bytes};
 use trace_answers::settle::{
-    events_of, refusal_of, settle_events, settle_fragment, settle_no_events,
-    settle_store, settle_words,
+    events_of, refusal_of, settle_events, settle_fragment, settle_no_events, settle_store,
+    settle_words,
 };
 use trace_text::output::{Answers, put_answer, put_broken, put_byte, put_number, put_text};
 use trace_text::payload::{fill, sum_of};
@@ -58,7 +57,11 @@ fn keep_arguments(state: &mut [u64; STATE]) {
 }
 
 // A queue with the arguments kept.
-fn create_kept(queue: &mut [u64; QUEUE_WORDS], store: &[u8; STORE], state: &[u64; STATE]) -> Result<usize, LentError> {
+fn create_kept(
+    queue: &mut [u64; QUEUE_WORDS],
+    store: &[u8; STORE],
+    state: &[u64; STATE],
+) -> Result<usize, LentError> {
     let c = Creation {
         limit: state[CREATED_LIMIT],
         priority: low16(state[CREATED_PRIORITY]),
@@ -92,11 +95,15 @@ pub fn answer_create(
 }
 
 // The arguments of a queue that is there are right, so a queue alike is created, and the choice is never refused.
-fn settle_alike(created: Result<usize, LentError>, chosen: Result<usize, LentError>, output: &mut Answers) {
-    if refusal_of(created) > 0 {
+fn settle_alike(
+    created: Result<usize, LentError>,
+    chosen: Result<usize, Refusal>,
+    output: &mut Answers,
+) {
+    if created.is_err() {
         put_broken(output, b"a queue alike is refused");
     }
-    if refusal_of(chosen) > 0 {
+    if chosen.is_err() {
         put_broken(output, b"the interleaving choice is refused");
     }
 }
@@ -199,7 +206,11 @@ struct Wrote {
     bytes: u64,
 }
 
-fn put_produced(fragment: &[u8; PAYLOAD], output: &mut Answers, p: Result<Produced, LentError>) -> Wrote {
+fn put_produced(
+    fragment: &[u8; PAYLOAD],
+    output: &mut Answers,
+    p: Result<Produced, LentError>,
+) -> Wrote {
     match p {
         Ok(Produced::Nothing(n)) => {
             put_text(output, b"p 0 0\n");

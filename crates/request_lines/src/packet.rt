@@ -1,8 +1,8 @@
 // Filling a packet: the line `F now limit buffer source destination tag tsn`.
-use lent_calls::TOO_SHORT;
-use send_queue::{Packet, PacketFilled, QUEUE_WORDS, fill_packet};
+use lent_calls::LentError;
+use send_queue::{Filled, Packet, QUEUE_WORDS, fill_packet};
 use trace_answers::marks::{BEFORE, EVENT_BUFFER, OUTPUT, SHOWN, as_before, event_words};
-use trace_answers::settle::{refusal_number, settle_events, settle_words};
+use trace_answers::settle::{settle_events, settle_words};
 use trace_text::hex::put_part;
 use trace_text::output::{Answers, put_answer, put_broken, put_byte, put_number, put_text};
 use trace_text::payload::sum_of;
@@ -24,7 +24,7 @@ fn fill_part(
     events: &mut [u64],
     packet: &mut [u8],
     state: &[u64; STATE],
-) -> Result<PacketFilled, LentError> {
+) -> Result<Filled, LentError> {
     let room = state[2] as usize;
     if room > packet.len() {
         return Err(LentError::TooShort);
@@ -39,7 +39,7 @@ fn fill_events(
     events: &mut [u64],
     packet: &mut [u8],
     state: &[u64; STATE],
-) -> Result<PacketFilled, LentError> {
+) -> Result<Filled, LentError> {
     let words = event_words(state[LENT_EVENTS]);
     if words > events.len() {
         return Err(LentError::TooShort);
@@ -54,7 +54,7 @@ fn lent_fill(
     events: &mut [u64],
     packet: &mut [u8],
     state: &[u64; STATE],
-) -> Result<PacketFilled, LentError> {
+) -> Result<Filled, LentError> {
     let n = state[LENT_STORE] as usize;
     if n > store.len() {
         return Err(LentError::TooShort);
@@ -84,14 +84,19 @@ struct Wrote {
     bytes: usize,
 }
 
-fn put_filled(packet: &[u8], a: Result<PacketFilled, LentError>, output: &mut Answers, room: usize) -> Wrote {
+fn put_filled(
+    packet: &[u8],
+    a: Result<Filled, LentError>,
+    output: &mut Answers,
+    room: usize,
+) -> Wrote {
     match a {
-        PacketFilled::Filled(k, bytes, chunks) => {
-            put_packet(packet, bytes, chunks, output, room);
+        Ok(f) => {
+            put_packet(packet, f.bytes, f.chunks, output, room);
             Wrote {
                 refusal: 0,
-                events: k,
-                bytes: bytes,
+                events: f.events,
+                bytes: f.bytes,
             }
         }
         Err(e) => {

@@ -64,7 +64,11 @@ fn take_sizes(state: &[u64; STATE], sizes: &mut [u64; LISTED]) {
 }
 
 // The priorities for the first so many ids and sizes.
-fn plan_first(state: &[u64; STATE], ids: &[u16], sizes: &[u64]) -> Result<PlannedPriorities, LentError> {
+fn plan_first(
+    state: &[u64; STATE],
+    ids: &[u16],
+    sizes: &[u64],
+) -> Result<PlannedPriorities, LentError> {
     let n = count_at(state, IDS);
     let m = count_at(state, IDS + 1 + n);
     if n > ids.len() {

@@ -112,18 +112,18 @@ fn put_requested(message: &[u8], t: Told, output: &mut Answers, room: usize) {
 
 // What a call of the handler's leaves, and the handler.
 #[derive(Clone, Copy)]
-struct Lent<T> {
+struct Answered<T> {
     answer: Result<T, LentError>,
     handler: StreamResetHandler,
 }
 
-fn lent<T: Copy>(answer: Result<T, Refusal>, handler: StreamResetHandler) -> Lent<T> {
+fn lent<T: Copy>(answer: Result<T, Refusal>, handler: StreamResetHandler) -> Answered<T> {
     match answer {
-        Ok(value) => Lent {
+        Ok(value) => Answered {
             answer: Ok(value),
             handler,
         },
-        Err(refusal) => Lent {
+        Err(refusal) => Answered {
             answer: Err(LentError::Refused(refusal)),
             handler,
         },
@@ -134,11 +134,11 @@ fn lent_request(
     queue: &mut [u64; QUEUE_WORDS],
     message: &mut [u8],
     state: &[u64; STATE],
-) -> Lent<Option<usize>> {
+) -> Answered<Option<usize>> {
     let room = state[0] as usize;
     let handler = handler_of(state);
     if room > message.len() {
-        return Lent {
+        return Answered {
             answer: Err(LentError::TooShort),
             handler,
         };
@@ -215,11 +215,11 @@ fn lent_response(
     queue: &mut [u64; QUEUE_WORDS],
     payload: &[u8],
     state: &[u64; STATE],
-) -> Lent<ResponseAnswer> {
+) -> Answered<ResponseAnswer> {
     let n = state[0] as usize;
     let handler = handler_of(state);
     if n > payload.len() {
-        return Lent {
+        return Answered {
             answer: Err(LentError::TooShort),
             handler,
         };

@@ -1,11 +1,10 @@
 // Chunks on the wire: the lines `W kind buffer tsn stream unordered ssn mid fsn ppid first last length seed` and `R bytes`.
-use std::convert::From;
-
 use lent_calls::LentError;
 use send_queue::{
-    Chunk, ChunkKind, Data, DataToSend, Fsn, Mid, OutgoingMessageId, Ssn,
-    StreamId, StreamKey, read_chunk, write_chunk,
+    Chunk, ChunkKind, Data, DataToSend, Fsn, Mid, OutgoingMessageId, Ssn, StreamId, StreamKey,
+    read_chunk, write_chunk,
 };
+use std::convert::From;
 use trace_answers::fragments::put_fields;
 use trace_answers::marks::{BEFORE, OUTPUT, SHOWN, as_before};
 use trace_text::hex::put_part;
@@ -49,7 +48,11 @@ fn fragment_of(state: &[u64; STATE]) -> DataToSend {
     }
 }
 
-fn lent_write(chunk: &mut [u8], payload: &mut [u8], state: &[u64; STATE]) -> Result<usize, LentError> {
+fn lent_write(
+    chunk: &mut [u8],
+    payload: &mut [u8],
+    state: &[u64; STATE],
+) -> Result<usize, LentError> {
     let room = state[1] as usize;
     if room > chunk.len() {
         return Err(LentError::TooShort);
@@ -83,7 +86,12 @@ fn put_chunk(chunk: &[u8], n: usize, output: &mut Answers, room: usize) {
 }
 
 // The answer's line, and how many bytes are written.
-fn put_written(chunk: &[u8], w: Result<usize, LentError>, output: &mut Answers, room: usize) -> usize {
+fn put_written(
+    chunk: &[u8],
+    w: Result<usize, LentError>,
+    output: &mut Answers,
+    room: usize,
+) -> usize {
     match w {
         Ok(n) => {
             put_chunk(chunk, n, output, room);
