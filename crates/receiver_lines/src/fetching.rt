@@ -44,11 +44,7 @@ struct Wrote {
     quiet: u64,
 }
 
-fn put_fetched(
-    buffer: &[u8],
-    f: Result<Option<Delivery>, Refusal>,
-    output: &mut Answers,
-) -> Wrote {
+fn put_fetched(buffer: &[u8], f: Result<Option<Delivery>, Refusal>, output: &mut Answers) -> Wrote {
     match f {
         Err(r) => {
             put_answer(output, b'G', refusal_number(u8::from(r)));
