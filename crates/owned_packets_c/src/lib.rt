@@ -2,41 +2,16 @@
 // fragment has one caller in its library (owned_c) and is compiled into dsq_owned_produce. No part of c/send_queue.h.
 #![tactic(auto)]
 
-ghost use Rattle.std.specs.Prelude.{◌≡◌};
 ghost use Rattle.queue_state.specs.Good.{Good};
-ghost use Rattle.packets.specs.Filling.{filled_number, fill_packet};
-ghost use Rattle.owned_packets.specs.Filling.{refusal_number, filled_as};
-ghost use Rattle.packet_numbers.specs.Packets.{packet_with, filled_out, GivesPacket};
+ghost use Rattle.packets.specs.Filling.{fill_packet};
+ghost use Rattle.packet_numbers.specs.Packets.{packet_with, GivesPacket};
 
 use out_array::OUT_WORDS;
-use owned_packets::{Filled, Refusal, fill_packet};
-use packet_numbers::{packet_of, tell_packet};
+use owned_packets::fill_packet;
+use packet_numbers::{packet_of, tell_filled};
 use queue_words::QUEUE_WORDS;
 
 pub mod layout;
-
-fn refusal_number(r: Refusal) -> u32
-    ensures { result ≡ refusal_number r }
-{
-    match r {
-        Refusal::Limit => 20,
-        Refusal::Buffer => 21,
-        Refusal::Events => 3,
-        Refusal::Time => 4,
-    }
-}
-
-fn tell_filled(out: &mut [u64; OUT_WORDS], a: Filled) -> u32
-    ensures { (result ≡ filled_number (filled_as a)) × (out.new ≡ filled_out out.old (filled_as a)) }
-{
-    match a {
-        Filled::Filled(k, bytes, chunks) => {
-            tell_packet(out, k, bytes, chunks);
-            0
-        }
-        Filled::Refused(r) => refusal_number(r),
-    }
-}
 
 // 0, or the refusal's number, which is 20, 21, 3 or 4.
 #[unsafe(no_mangle)]
