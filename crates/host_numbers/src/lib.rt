@@ -9,7 +9,7 @@ pub mod layout;
 pub mod message;
 
 pub use answers::{call_number, tell_call};
-pub use fragment::show;
+pub use fragment::{show, tell_produced};
 pub use ids::{copy_first, tell_ids};
 pub use image::tell_saved;
 pub use layout::host_layout;
