@@ -6,9 +6,8 @@ ghost use Rattle.queue_streams.specs.Answers.{as_call, call_number};
 ghost use Rattle.stream_reset_handler.specs.Answers.{as_request, as_response};
 ghost use Rattle.host_handler.specs.Handler.{handler_in, handler_numbers, request_number, request_out, request_handler, response_number_words, response_out, response_handler, reset_handler};
 
-use std::convert::From;
-
 use out_array::{OUT_WORDS, VALUE};
+use std::convert::From;
 use stream_reset_handler::{
     HandledResponse, MadeRequest, QueueReset, ResponseAnswer, StreamResetHandler,
 };
@@ -121,7 +120,9 @@ pub fn put_ended(handler: &mut [u32; HANDLER_NUMBERS], h: HandledResponse)
     let a = h.answer;
     let next = h.handler;
     match a {
-        Ok(ResponseAnswer::Committed) | Ok(ResponseAnswer::RolledBack) => put_handler(handler, next),
+        Ok(ResponseAnswer::Committed) | Ok(ResponseAnswer::RolledBack) => put_handler(
+            handler, next,
+        ),
         Ok(ResponseAnswer::Ignored) | Ok(ResponseAnswer::StillWaiting) | Err(_) => (),
     }
 }
