@@ -3,10 +3,9 @@ ghost use Rattle.std.specs.Prelude.{◌≡◌};
 ghost use Rattle.queue_streams.specs.Answers.{as_number, as_flag, number_number, flag_number};
 ghost use Rattle.send_queue_c.specs.Numbers.{number_out, flag_out};
 
-use std::convert::From;
-
 use out_array::{OUT_WORDS, VALUE};
 use send_queue::Refusal;
+use std::convert::From;
 
 // A question for a number.
 pub fn tell_number(out: &mut [u64; OUT_WORDS], a: Result<u64, Refusal>) -> u32

@@ -6,10 +6,9 @@ ghost use Rattle.queue_streams.specs.Answers.{call_number};
 ghost use Rattle.send_queue_c.specs.Numbers.{planned_places};
 ghost use Rattle.send_queue_c.specs.Given.{GivesPriorities};
 
-use std::convert::From;
-
 use host_numbers::copy_first;
 use send_queue::{MAX_PLANNED, PlannedPriorities, Refusal, plan_priorities};
+use std::convert::From;
 
 // Does nothing at run time; gives a proof that there are 32 places.
 fn whole(values: &[u16; MAX_PLANNED])

@@ -8,8 +8,6 @@ ghost use Rattle.queue_streams.specs.Settings.{set_priority_words, set_threshold
 ghost use Rattle.send_queue_c.specs.Numbers.{is_yes, ready_number, ready_ids, ready_out};
 ghost use Rattle.send_queue_c.specs.Given.{Gives, GivesEvents, GivesIds};
 
-use std::convert::From;
-
 use host_numbers::{call_number, copy_first, is_yes, tell_call};
 use out_array::{OUT_WORDS, VALUE};
 use send_queue::{
@@ -17,6 +15,7 @@ use send_queue::{
     get_streams_ready_to_reset, prepare_reset_stream, reset, rollback_reset_streams,
     set_buffered_amount_low_threshold, set_priority,
 };
+use std::convert::From;
 
 // Closes a stream.
 #[unsafe(no_mangle)]
@@ -39,7 +38,11 @@ fn whole(ids: &[u16; 256])
     let _ids: &[u16] = ids;
 }
 
-fn tell_ready(ids: &mut [u16; 256], out: &mut [u64; OUT_WORDS], a: Result<ReadyStreams, Refusal>) -> u32
+fn tell_ready(
+    ids: &mut [u16; 256],
+    out: &mut [u64; OUT_WORDS],
+    a: Result<ReadyStreams, Refusal>,
+) -> u32
     requires { (as_ready a).count ≤ 256 }
     ensures { (result ≡ ready_number (as_ready a)) × (ids.new ≡ ready_ids ids.old (as_ready a)) × (out.new ≡ ready_out out.old (as_ready a)) }
 {

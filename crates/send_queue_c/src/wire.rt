@@ -1,19 +1,19 @@
 // Chunks on the wire.
 ghost use Rattle.std.specs.Prelude.{◌≡◌, length};
+ghost use Rattle.chunks.specs.Answers.{as_read, as_written};
 ghost use Rattle.chunks.specs.Writing.{write_chunk};
 ghost use Rattle.chunks.specs.Reading.{read_chunk};
 ghost use Rattle.send_queue_c.specs.Numbers.{is_yes};
 ghost use Rattle.send_queue_c.specs.Chunks.{kind_of, kind_number, fragment_of, written_number, written_out, read_number, read_out, places_of, read_places};
 ghost use Rattle.send_queue_c.specs.Given.{GivesWritten, GivesRead};
 
-use std::convert::From;
-
 use host_numbers::{is_yes, show};
 use out_array::{OUT_WORDS, VALUE};
 use send_queue::{
-    Chunk, ChunkKind, Data, DataToSend, Fsn, Mid, OutgoingMessageId, Refusal, Ssn,
-    StreamId, StreamKey, read_chunk, write_chunk,
+    Chunk, ChunkKind, Data, DataToSend, Fsn, Mid, OutgoingMessageId, Refusal, Ssn, StreamId,
+    StreamKey, read_chunk, write_chunk,
 };
+use std::convert::From;
 
 // The places of a chunk-array, and how many.
 pub const CHUNK_WORDS: usize = 3;
@@ -125,7 +125,11 @@ fn tell_places(chunk: &mut [u64; CHUNK_WORDS], kind: ChunkKind, tsn: u32, at: us
     chunk[PAYLOAD_AT] = at as u64;
 }
 
-fn tell_read(out: &mut [u64; OUT_WORDS], chunk: &mut [u64; CHUNK_WORDS], a: Result<Chunk, Refusal>) -> u32
+fn tell_read(
+    out: &mut [u64; OUT_WORDS],
+    chunk: &mut [u64; CHUNK_WORDS],
+    a: Result<Chunk, Refusal>,
+) -> u32
     ensures { (result ≡ read_number (as_read a)) × (out.new ≡ read_out out.old (as_read a)) × (chunk.new ≡ read_places chunk.old (as_read a)) }
 {
     match a {
