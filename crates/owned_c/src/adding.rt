@@ -3,32 +3,21 @@ ghost use Rattle.std.specs.Prelude.{◌≡◌};
 ghost use Rattle.queue_streams.specs.Answers.{call_number};
 ghost use Rattle.queue_messages.specs.Add.{add};
 ghost use Rattle.queue_state.specs.Good.{Good};
-ghost use Rattle.owned_adding.specs.Add.{refusal_number, call_of};
+ghost use Rattle.owned_adding.specs.Add.{call_of};
 ghost use Rattle.host_numbers.specs.Numbers.{message_of_words};
 ghost use Rattle.host_numbers.specs.Given.{GivesStore};
 
 use host_numbers::message_of;
-use owned_adding::{Added, Refusal};
+use owned_adding::Refusal;
 use queue_words::QUEUE_WORDS;
+use std::convert::From;
 
-fn refusal_number(r: Refusal) -> u32
-    ensures { result ≡ refusal_number r }
-{
-    match r {
-        Refusal::Time => 4,
-        Refusal::Payload => 5,
-        Refusal::Streams => 6,
-        Refusal::Messages => 7,
-        Refusal::Store => 8,
-    }
-}
-
-fn added_number(a: Added) -> u32
+fn added_number(a: Result<(), Refusal>) -> u32
     ensures { result ≡ call_number (call_of a) }
 {
     match a {
-        Added::Accepted => 0,
-        Added::Refused(r) => refusal_number(r),
+        Ok(()) => 0,
+        Err(own) => u8::from(types::Refusal::from(own)) as u32,
     }
 }
 

@@ -1,5 +1,6 @@
 // Closing a stream: 0, or the refusal's number, which is 3 or 6.
 ghost use Rattle.std.specs.Prelude.{◌≡◌};
+ghost use Rattle.queue_streams.specs.Answers.{as_call};
 ghost use Rattle.queue_closing.specs.Close.{close};
 ghost use Rattle.owned_streams.specs.Own.{OwnWords};
 ghost use Rattle.owned_closing.specs.Own.{closing_as};
@@ -7,19 +8,15 @@ ghost use Rattle.host_numbers.specs.Given.{GivesEvents};
 
 use host_numbers::tell_call;
 use out_array::OUT_WORDS;
-use owned_closing::Closed;
-use queue_streams::Call;
+use owned_closing::ClosingRefusal;
 use queue_words::QUEUE_WORDS;
+use types::Refusal;
 
 // As the checked call says it.
-fn closing_as(a: Closed) -> Call
-    ensures { result ≡ closing_as a }
+fn closing_as(a: Result<usize, ClosingRefusal>) -> Result<usize, Refusal>
+    ensures { as_call result ≡ closing_as a }
 {
-    match a {
-        Closed::Done(k) => Call::Accepted(k),
-        Closed::EventsShort => Call::Refused(3),
-        Closed::TooManyStreams => Call::Refused(6),
-    }
+    Ok(a?)
 }
 
 #[unsafe(no_mangle)]

@@ -1,26 +1,22 @@
 // Discarding a message: 0, or 3.
 ghost use Rattle.std.specs.Prelude.{◌≡◌};
-ghost use Rattle.queue_streams.specs.Answers.{call_number};
+ghost use Rattle.queue_streams.specs.Answers.{as_call};
 ghost use Rattle.queue_messages.specs.Discard.{discard};
 ghost use Rattle.owned_streams.specs.Own.{OwnWords};
 ghost use Rattle.owned_closing.specs.Own.{discarded_as};
-ghost use Rattle.host_numbers.specs.Numbers.{call_out};
 ghost use Rattle.host_numbers.specs.Given.{GivesEvents};
 
-use out_array::{EVENTS, OUT_WORDS};
-use owned_closing::Discarded;
+use host_numbers::tell_call;
+use out_array::OUT_WORDS;
+use owned_closing::EventListShort;
 use queue_words::QUEUE_WORDS;
+use types::Refusal;
 
-fn tell_discarded(out: &mut [u64; OUT_WORDS], a: Discarded) -> u32
-    ensures { (result ≡ call_number (discarded_as a)) × (out.new ≡ call_out out.old (discarded_as a)) }
+// As the checked call says it.
+fn discarded_as(a: Result<usize, EventListShort>) -> Result<usize, Refusal>
+    ensures { as_call result ≡ discarded_as a }
 {
-    match a {
-        Discarded::Done(k) => {
-            out[EVENTS] = k as u64;
-            0
-        }
-        Discarded::EventsShort => 3,
-    }
+    Ok(a?)
 }
 
 #[unsafe(no_mangle)]
@@ -35,5 +31,6 @@ pub extern "C" fn dsq_owned_discard(
     ensures { GivesEvents (discard queue.old events.old stream_id message_id) out.old result queue.new events.new out.new }
 {
     let a = owned_closing::discard(queue, events, stream_id, message_id);
-    tell_discarded(out, a)
+    let c = discarded_as(a);
+    tell_call(out, c)
 }

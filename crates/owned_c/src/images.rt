@@ -1,24 +1,21 @@
 // Saving: 0, or the refusal's number, which is 4 or 11.
 ghost use Rattle.std.specs.Prelude.{◌≡◌};
-ghost use Rattle.saving.specs.Save.{save_image};
+ghost use Rattle.saving.specs.Save.{as_saved, save_image};
 ghost use Rattle.queue_state.specs.Good.{Good};
 ghost use Rattle.owned_saving.specs.Save.{saved_as};
 ghost use Rattle.host_numbers.specs.Given.{GivesImage};
 
 use host_numbers::tell_saved;
 use out_array::OUT_WORDS;
-use owned_saving::Saved;
+use owned_saving::SaveRefusal;
 use queue_words::QUEUE_WORDS;
+use types::Refusal;
 
 // As the checked call says it.
-fn saved_as(s: Saved) -> saving::Saved
-    ensures { result ≡ saved_as s }
+fn saved_as(s: Result<usize, SaveRefusal>) -> Result<usize, Refusal>
+    ensures { as_saved result ≡ saved_as s }
 {
-    match s {
-        Saved::Image(n) => saving::Saved::Image(n),
-        Saved::TimeOutside => saving::Saved::Refused(4),
-        Saved::ImageShort => saving::Saved::Refused(11),
-    }
+    Ok(s?)
 }
 
 #[unsafe(no_mangle)]

@@ -1,22 +1,24 @@
 // Setting a stream's priority and its threshold: 0, or the refusal's number, which is 3 or 6.
 ghost use Rattle.std.specs.Prelude.{◌≡◌};
-ghost use Rattle.queue_streams.specs.Answers.{call_number};
+ghost use Rattle.queue_streams.specs.Answers.{as_call, call_number};
 ghost use Rattle.queue_streams.specs.Settings.{set_priority_words, set_threshold_words};
 ghost use Rattle.owned_streams.specs.Own.{OwnWords};
 ghost use Rattle.owned_streams.specs.Settings.{priority_set_as, threshold_set_as};
-ghost use Rattle.host_numbers.specs.Numbers.{call_out};
 ghost use Rattle.host_numbers.specs.Given.{Gives, GivesEvents};
 
-use out_array::{EVENTS, OUT_WORDS};
-use owned_streams::{PrioritySet, ThresholdSet};
+use host_numbers::tell_call;
+use out_array::OUT_WORDS;
+use owned_streams::{StreamsFull, ThresholdRefusal};
 use queue_words::QUEUE_WORDS;
+use std::convert::From;
+use types::Refusal;
 
-fn priority_number(a: PrioritySet) -> u32
+fn priority_number(a: Result<(), StreamsFull>) -> u32
     ensures { result ≡ call_number (priority_set_as a) }
 {
     match a {
-        PrioritySet::Done => 0,
-        PrioritySet::TooManyStreams => 6,
+        Ok(()) => 0,
+        Err(full) => u8::from(Refusal::from(full)) as u32,
     }
 }
 
@@ -33,17 +35,11 @@ pub extern "C" fn dsq_owned_set_priority(
     priority_number(a)
 }
 
-fn tell_threshold(out: &mut [u64; OUT_WORDS], a: ThresholdSet) -> u32
-    ensures { (result ≡ call_number (threshold_set_as a)) × (out.new ≡ call_out out.old (threshold_set_as a)) }
+// As the checked call says it.
+fn threshold_set_as(a: Result<usize, ThresholdRefusal>) -> Result<usize, Refusal>
+    ensures { as_call result ≡ threshold_set_as a }
 {
-    match a {
-        ThresholdSet::Done(k) => {
-            out[EVENTS] = k as u64;
-            0
-        }
-        ThresholdSet::EventsShort => 3,
-        ThresholdSet::TooManyStreams => 6,
-    }
+    Ok(a?)
 }
 
 #[unsafe(no_mangle)]
@@ -58,5 +54,6 @@ pub extern "C" fn dsq_owned_set_buffered_amount_low_threshold(
     ensures { GivesEvents (set_threshold_words queue.old events.old stream_id threshold) out.old result queue.new events.new out.new }
 {
     let a = owned_streams::set_buffered_amount_low_threshold(queue, events, stream_id, threshold);
-    tell_threshold(out, a)
+    let c = threshold_set_as(a);
+    tell_call(out, c)
 }
