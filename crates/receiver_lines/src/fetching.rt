@@ -5,7 +5,6 @@ use crate::words::settle_head;
 use receiver_calls::{Delivery, fetch};
 use receiver_words::RECEIVER_WORDS;
 use trace_answers::marks::{BEFORE, SHOWN, as_before, keep_store};
-use trace_answers::settle::refusal_number;
 use trace_text::hex::put_part;
 use trace_text::output::{Answers, put_answer, put_broken, put_byte, put_number, put_text};
 use trace_text::payload::sum;
@@ -47,7 +46,7 @@ struct Wrote {
 fn put_fetched(buffer: &[u8], f: Result<Option<Delivery>, Refusal>, output: &mut Answers) -> Wrote {
     match f {
         Err(r) => {
-            put_answer(output, b'G', refusal_number(u8::from(r)));
+            put_answer(output, b'G', u8::from(r) as u64);
             Wrote { bytes: 0, quiet: 1 }
         }
         Ok(None) => {

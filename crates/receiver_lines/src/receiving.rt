@@ -2,10 +2,10 @@
 use crate::lent::last;
 use crate::state::{LENT_HEAD, settle_room};
 use crate::words::settle_head;
-use lent_calls::TOO_SHORT;
+use lent_calls::LentError;
 use receiver_calls::{Received, receive};
 use receiver_words::RECEIVER_WORDS;
-use trace_answers::settle::{refusal_number, settle_store};
+use trace_answers::settle::settle_store;
 use trace_text::output::{Answers, put_answer, put_text};
 use trace_text::state::{PAYLOAD, STATE, STORE};
 use types::Refusal;
@@ -20,26 +20,25 @@ fn receive_at(
     receive(head, &mut store[from..], bytes)
 }
 
-// Refused with the refusal's number, or with one that no refusal has.
 fn lent_receive(
     head: &mut [u64; RECEIVER_WORDS],
     store: &mut [u8],
     payload: &[u8],
     length: usize,
     n: u64,
-) -> Result<Received, u8> {
+) -> Result<Received, LentError> {
     if length > payload.len() {
-        return Err(TOO_SHORT);
+        return Err(LentError::TooShort);
     }
     let r = receive_at(head, store, &payload[0..length], n)?;
     Ok(r)
 }
 
 // The answer's line, and 0 where the call may change something.
-fn put_received(r: Result<Received, u8>, output: &mut Answers) -> u64 {
+fn put_received(r: Result<Received, LentError>, output: &mut Answers) -> u64 {
     match r {
-        Err(number) => {
-            put_answer(output, b'D', refusal_number(number));
+        Err(e) => {
+            put_answer(output, b'D', e.number());
             1
         }
         Ok(Received::Repeated) => {
