@@ -5,11 +5,12 @@ ghost use Rattle.queue_words.specs.Active.{parameters_of, parameters_word};
 
 use crate::QUEUE_WORDS;
 use crate::leasts::{GROUP, STALE, store_least};
+use std::convert::From;
 use types::StreamId;
 
 const BASE: usize = 19488;
 
-#[derive(Clone, Copy)]
+#[derive(Clone, Copy, Debug, PartialEq, Eq)]
 pub struct ActiveStreamInfo {
     pub stream_id: StreamId,
     // A word of SchedulingParameters.
@@ -62,27 +63,31 @@ pub fn store_active(queue: &mut [u64; QUEUE_WORDS], i: usize, a: ActiveStreamInf
 }
 
 // How a stream's cost is counted: without interleaving each fragment costs 1, with it bytes by the stream's weight.
-#[derive(Clone, Copy)]
+#[derive(Clone, Copy, Debug, PartialEq, Eq)]
 pub enum SchedulingParameters {
     RoundRobin,
     WeightedFairQueuing(u16),
 }
 
 // The parameters of a word: a weight below 65,536, else round robin.
-pub fn parameters_of(w: u32) -> SchedulingParameters
-    ensures { result ≡ parameters_of w }
-{
-    if w < 65536 {
-        return SchedulingParameters::WeightedFairQueuing(w as u16);
+impl From<u32> for SchedulingParameters {
+    ghost from_gives = { λ w p. p ≡ parameters_of w };
+
+    fn from(w: u32) -> SchedulingParameters {
+        if w < 65536 {
+            return SchedulingParameters::WeightedFairQueuing(w as u16);
+        }
+        SchedulingParameters::RoundRobin
     }
-    SchedulingParameters::RoundRobin
 }
 
-pub fn parameters_word(p: SchedulingParameters) -> u32
-    ensures { result ≡ parameters_word p }
-{
-    match p {
-        SchedulingParameters::RoundRobin => 65536,
-        SchedulingParameters::WeightedFairQueuing(weight) => weight as u32,
+impl From<SchedulingParameters> for u32 {
+    ghost from_gives = { λ p w. w ≡ parameters_word p };
+
+    fn from(p: SchedulingParameters) -> u32 {
+        match p {
+            SchedulingParameters::RoundRobin => 65536,
+            SchedulingParameters::WeightedFairQueuing(weight) => weight as u32,
+        }
     }
 }

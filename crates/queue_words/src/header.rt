@@ -31,7 +31,7 @@ impl RestartRule {
 }
 
 // What a queue was created with.
-#[derive(Clone, Copy)]
+#[derive(Clone, Copy, Debug, PartialEq, Eq)]
 pub struct Options {
     pub payload_limit: u16,
     pub default_priority: u16,
@@ -44,7 +44,7 @@ pub struct Options {
 }
 
 // Free bytes of the store that are known: those from `end` up to `limit`, where the next payload goes, and those from `from` up to `upto`.
-#[derive(Clone, Copy)]
+#[derive(Clone, Copy, Debug, PartialEq, Eq)]
 pub struct Gaps {
     pub end: u64,
     pub limit: u64,
@@ -52,7 +52,7 @@ pub struct Gaps {
     pub upto: u64,
 }
 
-#[derive(Clone, Copy)]
+#[derive(Clone, Copy, Debug, PartialEq, Eq)]
 pub struct Totals {
     pub interleaving: bool,
     pub next_message_id: OutgoingMessageId,
@@ -91,7 +91,7 @@ fn remembered_word(r: Option<StreamId>) -> u64
     }
 }
 
-#[derive(Clone, Copy)]
+#[derive(Clone, Copy, Debug, PartialEq, Eq)]
 pub struct SchedulerState {
     // "the stream in mid-message if one is remembered".
     pub current: Option<StreamId>,
@@ -200,7 +200,7 @@ fn scheduler_out(queue: &[u64; QUEUE_WORDS]) -> SchedulerState
 {
     let current = remembered_of(queue[SCHEDULER + 0]);
     SchedulerState {
-        current: current,
+        current,
         system_virtual_time: queue[SCHEDULER + 1],
         active: queue[SCHEDULER + 2],
     }
@@ -209,8 +209,7 @@ fn scheduler_out(queue: &[u64; QUEUE_WORDS]) -> SchedulerState
 fn scheduler_in(queue: &mut [u64; QUEUE_WORDS], s: SchedulerState)
     ensures { queue.new ≡ scheduler_in queue.old s }
 {
-    let current = s.current;
-    let word = remembered_word(current);
+    let word = remembered_word(s.current);
     queue[SCHEDULER + 0] = word;
     queue[SCHEDULER + 1] = s.system_virtual_time;
     queue[SCHEDULER + 2] = s.active;

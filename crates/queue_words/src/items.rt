@@ -1,5 +1,5 @@
 // The messages: 1,024 rows of 16 words from word 3104 on, 15 of them used.
-ghost use Rattle.std.specs.Prelude.{◌≡◌, ◌<◌};
+ghost use Rattle.std.specs.Prelude.{◌≡◌, ◌+◌, ◌*◌, ◌<◌, slice_index, slice_set};
 ghost use Rattle.queue_words.specs.Items.{expiry_of, numbers_of, mid_in, ssn_in};
 ghost use Rattle.queue_words.specs.Items.{item_out, item_row_in, item_at, put_item};
 ghost use Rattle.queue_words.specs.Items.{put_next, put_place, put_length};
@@ -12,7 +12,7 @@ const BASE: usize = 3104;
 fn expiry_of(flag: u64, at: u64) -> Option<u64>
     ensures { result ≡ expiry_of flag at }
 {
-    if flag == 1 { Some(at) } else { None }
+    (flag == 1).then_some(at)
 }
 
 // A message's MID and SSN, which it gets together.
@@ -25,16 +25,14 @@ pub struct MessageNumbers {
 fn numbers_of(flag: u64, mid: u64, ssn: u64) -> Option<MessageNumbers>
     ensures { result ≡ numbers_of flag mid ssn }
 {
-    if flag == 1 {
-        return Some(MessageNumbers {
-            mid: Mid((mid % 4294967296) as u32),
-            ssn: Ssn((ssn % 65536) as u16),
-        });
-    }
-    None
+    let numbers = MessageNumbers {
+        mid: Mid((mid % 4294967296) as u32),
+        ssn: Ssn((ssn % 65536) as u16),
+    };
+    (flag == 1).then_some(numbers)
 }
 
-#[derive(Clone, Copy)]
+#[derive(Clone, Copy, Debug, PartialEq, Eq)]
 pub struct Item {
     pub max_retransmissions: u16,
     pub unordered: bool,
@@ -84,9 +82,9 @@ fn item_out(queue: &[u64; QUEUE_WORDS], i: usize) -> Item
         unordered: queue[at + 2] == 1,
         message_id: OutgoingMessageId((queue[at + 5] % 4294967296) as u32),
         ppid: (queue[at + 6] % 4294967296) as u32,
-        numbers: numbers,
+        numbers,
         fsn: Fsn((queue[at + 8] % 4294967296) as u32),
-        expires_at: expires_at,
+        expires_at,
         lifecycle_id: queue[at + 10],
         place: queue[at + 11],
         length: queue[at + 12],
@@ -140,52 +138,65 @@ pub fn store_item(queue: &mut [u64; QUEUE_WORDS], i: usize, m: Item)
     item_in(queue, i, m)
 }
 
-// One word of a row: the next place, the payload's place, the payload's length.
+// One word of a row: the payload's place, its length, the next place.
+const PLACE: usize = 11;
+
+const LENGTH: usize = 12;
+
+const NEXT: usize = 14;
+
+fn load_word(queue: &[u64; QUEUE_WORDS], i: usize, k: usize) -> u64
+    requires { (i < 1024) × (k < 16) }
+    ensures { result ≡ slice_index queue.now (3104 + i * 16 + k) }
+{
+    queue[BASE + i * 16 + k]
+}
+
+fn store_word(queue: &mut [u64; QUEUE_WORDS], i: usize, k: usize, v: u64)
+    requires { (i < 1024) × (k < 16) }
+    ensures { queue.new ≡ slice_set queue.old (3104 + i * 16 + k) v }
+{
+    queue[BASE + i * 16 + k] = v;
+}
 
 pub fn load_next(queue: &[u64; QUEUE_WORDS], i: usize) -> u64
     requires { i < 1024 }
     ensures { result ≡ (item_at queue.now i).next }
 {
-    let at = BASE + i * 16;
-    queue[at + 14]
+    load_word(queue, i, NEXT)
 }
 
 pub fn store_next(queue: &mut [u64; QUEUE_WORDS], i: usize, v: u64)
     requires { i < 1024 }
     ensures { queue.new ≡ put_next queue.old i v }
 {
-    let at = BASE + i * 16;
-    queue[at + 14] = v;
+    store_word(queue, i, NEXT, v)
 }
 
 pub fn load_place(queue: &[u64; QUEUE_WORDS], i: usize) -> u64
     requires { i < 1024 }
     ensures { result ≡ (item_at queue.now i).place }
 {
-    let at = BASE + i * 16;
-    queue[at + 11]
+    load_word(queue, i, PLACE)
 }
 
 pub fn store_place(queue: &mut [u64; QUEUE_WORDS], i: usize, v: u64)
     requires { i < 1024 }
     ensures { queue.new ≡ put_place queue.old i v }
 {
-    let at = BASE + i * 16;
-    queue[at + 11] = v;
+    store_word(queue, i, PLACE, v)
 }
 
 pub fn load_length(queue: &[u64; QUEUE_WORDS], i: usize) -> u64
     requires { i < 1024 }
     ensures { result ≡ (item_at queue.now i).length }
 {
-    let at = BASE + i * 16;
-    queue[at + 12]
+    load_word(queue, i, LENGTH)
 }
 
 pub fn store_length(queue: &mut [u64; QUEUE_WORDS], i: usize, v: u64)
     requires { i < 1024 }
     ensures { queue.new ≡ put_length queue.old i v }
 {
-    let at = BASE + i * 16;
-    queue[at + 12] = v;
+    store_word(queue, i, LENGTH, v)
 }

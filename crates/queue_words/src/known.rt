@@ -12,7 +12,7 @@ use types::StreamId;
 const BASE: usize = 32;
 
 // A known stream's id, and the place of its row in the table of streams.
-#[derive(Clone, Copy)]
+#[derive(Clone, Copy, Debug, PartialEq, Eq)]
 pub struct Known {
     pub id: StreamId,
     pub place: u64,
@@ -58,7 +58,7 @@ pub fn known_fits(k: Known)
 
 // Where a stream is: its position among the known and the place of its row, or the position at which it would be put in.
 // Broken: more than 256 streams are said to be known, or the place found is no row.
-#[derive(Clone, Copy)]
+#[derive(Clone, Copy, Debug, PartialEq, Eq)]
 pub enum Found {
     At(usize, usize),
     Gap(usize),
@@ -66,7 +66,7 @@ pub enum Found {
 }
 
 // A search half done: the ids before low are below the one sought, those behind the size positions from low on are not.
-#[derive(Clone, Copy)]
+#[derive(Clone, Copy, Debug, PartialEq, Eq)]
 pub struct Probe {
     pub low: usize,
     pub size: usize,
@@ -86,10 +86,7 @@ fn probe_once(queue: &[u64; QUEUE_WORDS], id: u16, p: Probe) -> Probe
             size: p.size - half - 1,
         };
     }
-    Probe {
-        low: p.low,
-        size: half,
-    }
+    Probe { size: half, ..p }
 }
 
 // Steps until no position is left.
@@ -108,7 +105,7 @@ fn probe_all(queue: &[u64; QUEUE_WORDS], id: u16, known: usize) -> Probe
 }
 
 // Where a stream of a queue is. The place is the one told, a row or not.
-#[derive(Clone, Copy)]
+#[derive(Clone, Copy, Debug, PartialEq, Eq)]
 pub enum Spot {
     At(usize, usize),
     Gap(usize),

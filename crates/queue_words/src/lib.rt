@@ -26,10 +26,7 @@ pub mod leasts;
 pub mod limits;
 pub mod streams;
 
-pub use active::{
-    ActiveStreamInfo, SchedulingParameters, load_active, parameters_of, parameters_word,
-    store_active,
-};
+pub use active::{ActiveStreamInfo, SchedulingParameters, load_active, store_active};
 pub use header::{
     Gaps, Options, RestartRule, SchedulerState, Totals, load_options, load_scheduler_state,
     load_totals, options_fits, store_options, store_scheduler_state, store_totals, totals_fits,

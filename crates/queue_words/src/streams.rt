@@ -4,6 +4,7 @@ ghost use Rattle.queue_words.specs.Streams.{pause_state_of, pause_state_word, is
 ghost use Rattle.queue_words.specs.Streams.{stream_out, stream_row_in, stream_at_words, put_stream_words, put_chain, with_pause};
 
 use crate::QUEUE_WORDS;
+use std::convert::From;
 use types::{Mid, Ssn};
 
 const BASE: usize = 544;
@@ -44,29 +45,33 @@ impl PauseState {
 }
 
 // The state of a word: 0 to 3 in the order above. A word above 3, which no queue holds, is taken for the last.
-fn pause_state_of(w: u64) -> PauseState
-    ensures { result ≡ pause_state_of w }
-{
-    match w {
-        0 => PauseState::NotPaused,
-        1 => PauseState::Pending,
-        2 => PauseState::Paused,
-        _ => PauseState::Resetting,
+impl From<u64> for PauseState {
+    ghost from_gives = { λ w p. p ≡ pause_state_of w };
+
+    fn from(w: u64) -> PauseState {
+        match w {
+            0 => PauseState::NotPaused,
+            1 => PauseState::Pending,
+            2 => PauseState::Paused,
+            _ => PauseState::Resetting,
+        }
     }
 }
 
-fn pause_state_word(p: PauseState) -> u64
-    ensures { result ≡ pause_state_word p }
-{
-    match p {
-        PauseState::NotPaused => 0,
-        PauseState::Pending => 1,
-        PauseState::Paused => 2,
-        PauseState::Resetting => 3,
+impl From<PauseState> for u64 {
+    ghost from_gives = { λ p w. w ≡ pause_state_word p };
+
+    fn from(p: PauseState) -> u64 {
+        match p {
+            PauseState::NotPaused => 0,
+            PauseState::Pending => 1,
+            PauseState::Paused => 2,
+            PauseState::Resetting => 3,
+        }
     }
 }
 
-#[derive(Clone, Copy)]
+#[derive(Clone, Copy, Debug, PartialEq, Eq)]
 pub struct OutgoingStream {
     pub priority: u16,
     pub pause_state: PauseState,
@@ -85,10 +90,10 @@ fn stream_out(queue: &[u64; QUEUE_WORDS], i: usize) -> OutgoingStream
     ensures { result ≡ stream_out queue.now i }
 {
     let at = BASE + i * 10;
-    let state = pause_state_of(queue[at + 1]);
+    let pause_state = PauseState::from(queue[at + 1]);
     OutgoingStream {
         priority: (queue[at + 0] % 65536) as u16,
-        pause_state: state,
+        pause_state,
         next_ssn: Ssn((queue[at + 2] % 65536) as u16),
         next_unordered_mid: Mid((queue[at + 3] % 4294967296) as u32),
         next_ordered_mid: Mid((queue[at + 4] % 4294967296) as u32),
@@ -103,11 +108,10 @@ fn stream_in(queue: &mut [u64; QUEUE_WORDS], i: usize, s: OutgoingStream)
     requires { i < 256 }
     ensures { queue.new ≡ stream_row_in queue.old i s }
 {
-    let state = s.pause_state;
-    let word = pause_state_word(state);
+    let state = u64::from(s.pause_state);
     let at = BASE + i * 10;
     queue[at + 0] = s.priority as u64;
-    queue[at + 1] = word;
+    queue[at + 1] = state;
     queue[at + 2] = s.next_ssn.0 as u64;
     queue[at + 3] = s.next_unordered_mid.0 as u64;
     queue[at + 4] = s.next_ordered_mid.0 as u64;

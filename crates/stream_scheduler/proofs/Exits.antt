@@ -3,15 +3,12 @@ use Rattle.std.specs.Prelude.{Some, None}
 use mathlib.Core.Path.{◌≡◌, refl, sym, ◌∙◌}
 use mathlib.Core.Bool.{Bool, true, false}
 use mathlib.Core.List.{List, [], ◌∷◌}
-use Prim.Native.Nat.{ℕ, zero, suc, ◌+◌, ◌-◌, ◌*◌, ◌/◌, ◌≤◌, ◌<◌, min, max}
-use native.Mathlib.Nat.{div-one}
+use Prim.Native.Nat.{ℕ, zero, suc, ◌+◌, ◌-◌, ◌≤◌, ◌<◌, min}
 use native.Mathlib.Omega.{arith}
 use lib.Dec.{eqb, ltb}
 use lib.ListN.{get_or, set}
 use borrow.Author.Tests.{lt-ltb, le-ltb, le-leb, lt-leb, eq-eqb, ne_eqb, ltb-true, ltb-false}
 use Rattle.std.specs.Prelude.{if◌then◌else◌}
-use Rattle.queue_model.specs.Scheduler.{cost, saturating}
-use Rattle.queue_model.specs.Types.{weighted}
 use Rattle.queue_model.proofs.Tests.{holds}
 use Rattle.queue_words.specs.Active.{active_at, put_active_words, parameters_of, parameters_word}
 use Rattle.queue_words.specs.Header.{options_at, scheduler_at, remembered_word, put_scheduler}
@@ -30,26 +27,6 @@ use Rattle.stream_scheduler.specs.Words.{Outcome, outcome, current_row, peek_amo
 use Rattle.stream_scheduler.specs.declared.Peeked.TheVariants.{At, Nothing, Broken}
 
 -- ------------------------------------------------------------------ cost and times
-
-module _ (w bytes whole : ℕ) (e : whole ≡ saturating (bytes * 1000000)) where
-  pub cost_zero : w ≡ 0 → whole ≡ cost (weighted w) bytes
-  unfolding cost
-  cost_zero z = rw (z, div-one, e)
-
-  pub cost_some : (w ≡ 0 → ⊥) → whole / w ≡ cost (weighted w) bytes
-  unfolding cost
-  cost_some z =
-      let m : max w 1 ≡ w = omega arith in
-      rw (m, e)
-
-module _ (w start bytes r : ℕ) (p : SchedulingParameters) (ep : p ≡ parameters_of w) where
-  pub advanced_one : p ≡ RoundRobin → r ≡ saturating (start + 1) → r ≡ advanced w start bytes
-  unfolding advanced cost
-  advanced_one ev er = rw (← ep, ev, er)
-
-  pub advanced_weighted : (v x : ℕ) → p ≡ WeightedFairQueuing v → x ≡ cost (weighted v) bytes → r ≡ saturating (start + x) → r ≡ advanced w start bytes
-  unfolding advanced
-  advanced_weighted v x ev ex er = rw (← ep, ev, er, ex)
 
 pub chunk_row : (limit id w start bytes chunk finish : ℕ) → chunk ≡ min bytes limit → finish ≡ advanced w start chunk
     → ◌≡◌ {A = ActiveStreamInfo} (record {

@@ -7,10 +7,11 @@ ghost use Rattle.stream_scheduler.specs.Own.{HasRow};
 use crate::{calculate_vt, drop_row, rest_time, schedule_next_chunk};
 use active_table::groups::refresh;
 use queue_words::QUEUE_WORDS;
-use queue_words::active::{SchedulingParameters, load_active, parameters_word, store_active};
+use queue_words::active::{SchedulingParameters, load_active, store_active};
 use queue_words::header::{
     SchedulerState, load_options, load_scheduler_state, store_scheduler_state,
 };
+use std::convert::From;
 
 // Of n rows the row `at` begins anew with so many bytes, at a time; no stream is remembered.
 fn begin_anew(
@@ -62,7 +63,7 @@ pub fn accept_last_own(
         refresh(queue, at);
         return;
     }
-    let parameters = parameters_word(priority);
+    let parameters = u32::from(priority);
     begin_anew(queue, at, stream_id, time, bytes, parameters, n);
     refresh(queue, at);
 }

@@ -10,78 +10,42 @@ pub mod anew;
 pub mod own;
 
 ghost use Rattle.std.specs.Prelude.{◌≡◌, true};
-ghost use Prim.Native.Nat.{◌+◌, ◌-◌, ◌*◌, ◌<◌, ◌≤◌, min};
-ghost use Rattle.queue_model.specs.Scheduler.{cost, saturating};
+ghost use Prim.Native.Nat.{◌+◌, ◌-◌, ◌*◌, ◌<◌, ◌≤◌};
+ghost use Rattle.queue_model.specs.Scheduler.{cost};
 ghost use Rattle.queue_model.specs.Types.{weighted};
 ghost use Rattle.stream_scheduler.specs.Rows.{advanced, scheduled_row};
 ghost use Rattle.stream_scheduler.specs.declared.Peeked.TheVariants.{At};
-ghost use Rattle.stream_scheduler.specs.Words.{outcome, forgotten, rested, remembered_by, kept_unless, current_row, peek_among, peek_words, waits_in, dropped_row, taken_out, remove_stream_words, set_in, set_bytes_remaining_words};
+ghost use Rattle.stream_scheduler.specs.Words.{outcome, forgotten, rested, remembered_by, current_row, peek_among, peek_words, waits_in, dropped_row, taken_out, remove_stream_words, set_in, set_bytes_remaining_words};
 ghost use Rattle.stream_scheduler.specs.Own.{can_wait};
 
 use crate::own::{remove_own, set_at};
 use active_table::groups::least_known;
 use active_table::seek;
 use queue_words::QUEUE_WORDS;
-use queue_words::active::{
-    ActiveStreamInfo, SchedulingParameters, load_active, parameters_of, store_active,
-};
+use queue_words::active::{ActiveStreamInfo, SchedulingParameters, load_active, store_active};
 use queue_words::header::{
     SchedulerState, load_options, load_scheduler_state, store_scheduler_state,
 };
 use queue_words::limits::{STREAM_ROWS, STREAMS};
+use std::convert::From;
 use types::StreamId;
 
-// "Sums stop at 2^64 - 1."
-fn saturating_add(a: u64, b: u64) -> u64
-    ensures { result ≡ saturating (a + b) }
-{
-    if b <= u64::MAX - a {
-        return a + b;
-    }
-    u64::MAX
-}
-
-fn saturating_million(bytes: u64) -> u64
-    ensures { result ≡ saturating (bytes * 1000000) }
-{
-    if bytes <= 18446744073709 {
-        return bytes * 1000000;
-    }
-    u64::MAX
-}
-
-// "bytes × 1,000,000 / weight rounded down, weight 0 counting as 1".
+// "Sums stop at 2^64 - 1."; "bytes × 1,000,000 / weight rounded down, weight 0 counting as 1".
 fn weighted_cost(weight: u16, bytes: u64) -> u64
     ensures { result ≡ cost (weighted weight) bytes }
 {
-    let whole = saturating_million(bytes);
-    if weight == 0 {
-        return whole;
-    }
-    whole / (weight as u64)
+    bytes.saturating_mul(1000000) / weight.max(1) as u64
 }
 
 // The time reached by handing out `bytes` from `start` on.
 fn calculate_vt(parameters: u32, start: u64, bytes: u64) -> u64
     ensures { result ≡ advanced parameters start bytes }
 {
-    let p = parameters_of(parameters);
-    match p {
-        SchedulingParameters::RoundRobin => saturating_add(start, 1),
-        SchedulingParameters::WeightedFairQueuing(weight) => {
-            let increment = weighted_cost(weight, bytes);
-            saturating_add(start, increment)
-        }
-    }
-}
-
-fn min(a: u64, b: u64) -> u64
-    ensures { result ≡ Prim.Native.Nat.min a b }
-{
-    if a < b {
-        return a;
-    }
-    b
+    let increment = match SchedulingParameters::from(parameters) {
+        SchedulingParameters::RoundRobin => 1,
+        SchedulingParameters::WeightedFairQueuing(weight) => weighted_cost(weight, bytes),
+    };
+    start.saturating_add(increment)
 }
 
 // A stream's row from a start on: "finish = start + cost of min(remaining, payload limit)".
@@ -94,19 +58,17 @@ fn schedule_next_chunk(
 ) -> ActiveStreamInfo
     ensures { result ≡ scheduled_row limit stream_id parameters start bytes }
 {
-    let chunk = min(bytes, limit);
-    let finish = calculate_vt(parameters, start, chunk);
     ActiveStreamInfo {
         stream_id: StreamId(stream_id),
         parameters,
         virtual_start_time: start,
-        virtual_finish_time: finish,
+        virtual_finish_time: calculate_vt(parameters, start, bytes.min(limit)),
         bytes_remaining: bytes,
     }
 }
 
 // What the scheduler would hand out from.
-#[derive(Clone, Copy)]
+#[derive(Clone, Copy, Debug, PartialEq, Eq)]
 pub enum Peeked {
     At(usize),
     Nothing,
@@ -178,22 +140,10 @@ fn rest_time(time: u64, n: u64) -> u64
 }
 
 // The remembered stream, unless it is this one.
-fn kept(id: u16, stream_id: u16) -> Option<StreamId>
-    ensures { result ≡ kept_unless id stream_id }
-{
-    if id == stream_id {
-        return None;
-    }
-    Some(StreamId(id))
-}
-
 fn forget(current: Option<StreamId>, stream_id: u16) -> Option<StreamId>
     ensures { result ≡ forgotten current stream_id }
 {
-    match current {
-        None => None,
-        Some(id) => kept(id.0, stream_id),
-    }
+    current.filter(|id| id.0 != stream_id)
 }
 
 // Takes a row out: the last of n rows takes its place.
@@ -227,8 +177,7 @@ fn take_out(queue: &mut [u64; QUEUE_WORDS], stream_id: u16, at: usize, n: usize)
     ensures { queue.new ≡ taken_out queue.old stream_id at n }
 {
     let s = load_scheduler_state(&*queue);
-    let before = s.current;
-    let current = forget(before, stream_id);
+    let current = forget(s.current, stream_id);
     let time = s.system_virtual_time;
     if at < n {
         drop_row(queue, at, current, time, n);
@@ -289,17 +238,14 @@ fn set_new(queue: &mut [u64; QUEUE_WORDS], stream_id: u16, bytes: u64, parameter
 {
     let o = load_options(&*queue);
     let s = load_scheduler_state(&*queue);
-    let current = s.current;
     let start = s.system_virtual_time;
     let row = schedule_next_chunk(o.payload_limit as u64, stream_id, parameters, start, bytes);
     store_active(queue, n, row);
-    let more = (n + 1) as u64;
     store_scheduler_state(
         queue,
         SchedulerState {
-            current: current,
-            system_virtual_time: start,
-            active: more,
+            active: (n + 1) as u64,
+            ..s
         },
     );
 }
@@ -308,13 +254,7 @@ fn set_new(queue: &mut [u64; QUEUE_WORDS], stream_id: u16, bytes: u64, parameter
 fn can_wait(bytes: u64, at: usize, n: usize) -> bool
     ensures { result ≡ can_wait bytes at n }
 {
-    if bytes == 0 {
-        return true;
-    }
-    if at < n {
-        return true;
-    }
-    n < STREAM_ROWS
+    bytes == 0 || at < n || n < STREAM_ROWS
 }
 
 // Lets a stream wait with so many bytes, or ends its waiting with 0.
@@ -344,8 +284,7 @@ pub fn set_bytes_remaining(
 fn remember(stream_id: u16, parameters: u32) -> Option<StreamId>
     ensures { result ≡ remembered_by stream_id parameters }
 {
-    let p = parameters_of(parameters);
-    match p {
+    match SchedulingParameters::from(parameters) {
         SchedulingParameters::RoundRobin => Some(StreamId(stream_id)),
         SchedulingParameters::WeightedFairQueuing(_) => None,
     }

@@ -11,13 +11,14 @@ use crate::{
 use active_table::groups::refresh;
 use active_table::seek;
 use queue_words::QUEUE_WORDS;
-use queue_words::active::{SchedulingParameters, load_active, parameters_word, store_active};
+use queue_words::active::{SchedulingParameters, load_active, store_active};
 use queue_words::header::{
     SchedulerState, load_options, load_scheduler_state, store_scheduler_state,
 };
+use std::convert::From;
 
 // What the scheduler would hand out from.
-#[derive(Clone, Copy)]
+#[derive(Clone, Copy, Debug, PartialEq, Eq)]
 pub enum Front {
     Row(usize),
     Nothing,
@@ -64,7 +65,7 @@ pub(crate) fn set_at(
         take_out(queue, stream_id, at, n);
         return;
     }
-    let parameters = parameters_word(priority);
+    let parameters = u32::from(priority);
     if at < n {
         set_old(queue, stream_id, bytes, parameters, at, n);
         return;
@@ -99,7 +100,7 @@ pub fn begin_own(
     ensures { outcome true queue.new ≡ begin_waiting queue.old stream_id bytes priority }
 {
     let s = load_scheduler_state(&*queue);
-    let parameters = parameters_word(priority);
+    let parameters = u32::from(priority);
     set_new(queue, stream_id, bytes, parameters, s.active as usize);
 }
 
@@ -133,7 +134,7 @@ pub fn accept_own(queue: &mut [u64; QUEUE_WORDS], at: usize, bytes: u64)
         SchedulerState {
             current,
             system_virtual_time: time,
-            active: n as u64,
+            ..s
         },
     );
     refresh(queue, at);

@@ -1,9 +1,8 @@
 -- `queue_words::items::load_length` meets its contract. Assumes nothing.
-use mathlib.Core.Path.{refl}
 use Rattle.queue_words.specs.Items.{item_at}
 use Rattle.queue_words.proofs.items.load_length.Goals as goal
 
 -- `queue_words::items::load_length` meets its contract. Assumes nothing.
 pub returns : goal.returns
 unfolding item_at
-returns c = refl
+returns c = c.load_word.ensures

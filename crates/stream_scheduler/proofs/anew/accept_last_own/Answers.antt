@@ -20,4 +20,4 @@ refresh-requires-2 c =
 
 pub returns : goal.returns
 returns c =
-    last_anew _ _ _ _ _ _ _ c.load_scheduler_state-s.ensures (few_rows _ _ c.load_scheduler_state-s.ensures c.requires.0) (has_row _ _ c.load_scheduler_state-s.ensures _ c.requires.1) _ c.load_active-a.ensures _ c.calculate_vt-time.ensures _ _ _ c.if-bytes-eq0.false c.parameters_word-parameters.ensures c.begin_anew.ensures c.refresh-2.ensures
+    last_anew _ _ _ _ _ _ _ c.load_scheduler_state-s.ensures (few_rows _ _ c.load_scheduler_state-s.ensures c.requires.0) (has_row _ _ c.load_scheduler_state-s.ensures _ c.requires.1) _ c.load_active-a.ensures _ c.calculate_vt-time.ensures _ _ _ c.if-bytes-eq0.false c.from-parameters.ensures c.begin_anew.ensures c.refresh-2.ensures

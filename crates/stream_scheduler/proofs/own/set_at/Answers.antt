@@ -13,10 +13,10 @@ pub set_old-requires : goal.set_old-requires
 set_old-requires c = (c.if-at-n.true, rows_fit _ _ _ _ c.requires.2 _ _ c.requires.0 c.requires.1)
 
 pub returns-then-at-n : goal.returns-then-at-n
-returns-then-at-n c = set_some _ _ _ _ c.requires.2 _ _ c.requires.0 c.requires.1 _ _ c.if-bytes-eq0.false c.parameters_word-parameters.ensures c.set_old.ensures
+returns-then-at-n c = set_some _ _ _ _ c.requires.2 _ _ c.requires.0 c.requires.1 _ _ c.if-bytes-eq0.false c.from-parameters.ensures c.set_old.ensures
 
 pub set_new-requires : goal.set_new-requires
 set_new-requires c = set_free _ _ _ _ c.requires.2 _ _ c.requires.0 c.requires.1 c.if-bytes-eq0.false c.if-at-n.false
 
 pub returns : goal.returns
-returns c = set_behind _ _ _ _ c.requires.2 _ _ c.requires.0 c.requires.1 _ _ c.if-bytes-eq0.false c.parameters_word-parameters.ensures c.if-at-n.false c.set_new.ensures
+returns c = set_behind _ _ _ _ c.requires.2 _ _ c.requires.0 c.requires.1 _ _ c.if-bytes-eq0.false c.from-parameters.ensures c.if-at-n.false c.set_new.ensures
