@@ -3,7 +3,7 @@ use mathlib.Core.Path.{◌≡◌, refl, sym, ap, ◌∙◌}
 use mathlib.Core.Logic.{◌⊎◌, inl, inr, ⊎_elim}
 use mathlib.Core.Bool.{Bool, true, false}
 use mathlib.Core.List.{List}
-use Prim.Native.Nat.{ℕ, zero, suc, ◌+◌, ◌-◌, ◌*◌, ◌/◌, ◌≤◌, ◌<◌}
+use Prim.Native.Nat.{ℕ, zero, suc, ◌+◌, ◌-◌, ◌*◌, ◌/◌, ◌≤◌, ◌<◌, min, max}
 use native.Mathlib.Omega.{arith}
 use native.Mathlib.Nat.{div-lt_iff_lt-mul, div-mul-le_self}
 use native.Mathlib.Numerals.{add-one}
@@ -195,6 +195,15 @@ pub record Runs (rs : List ℕ) (n : ℕ) (r : Run) : Type 0 where
   pub aside : (k : ℕ) → k < r.high → get_or rs k 0 ≤ r.low
   pub beside : (r.high ≤ r.from) ⊎ ((r.upto ≤ r.low) × (r.low < r.high))
   pub ended : ((r.from ≡ r.start) × (r.upto ≡ n)) ⊎ (r.upto ≤ r.start)
+
+-- std's methods
+pub max_greater : (a b : ℕ) → max a b ≡ greater a b
+unfolding greater
+max_greater a b = by_lt a b (λ h. rw (lt-ltb a b h) (omega arith)) (λ h. rw (le-ltb a b h) (omega arith))
+
+pub min_within : (len x : ℕ) → min len x ≡ within len x
+unfolding within
+min_within len x = by_lt len x (λ h. rw (lt-ltb len x h) (omega arith)) (λ h. rw (le-ltb len x h) (omega arith))
 
 greater_left : (a b : ℕ) → a ≤ greater a b
 unfolding greater

@@ -8,8 +8,15 @@
 ghost use Rattle.std.specs.Prelude.{◌≡◌, ◌≤◌};
 ghost use Rattle.payload_store.specs.Gaps.{gaps_wrong, near, gap_for, keeps, gaps_left};
 
-use crate::searching::{PIECE, less};
+use crate::searching::PIECE;
 use queue_words::header::Gaps;
+
+pub const NO_GAPS: Gaps = Gaps {
+    end: 0,
+    limit: 0,
+    from: 0,
+    upto: 0,
+};
 
 // Does a gap lie outside a store of len bytes, or end before its start?
 pub fn gaps_wrong(g: Gaps, len: u64) -> bool
@@ -50,8 +57,7 @@ pub fn gap_for(g: Gaps, n: u64) -> Gaps
     let turned = Gaps {
         end: g.from,
         limit: g.upto,
-        from: 0,
-        upto: 0,
+        ..NO_GAPS
     };
     let close = near(g);
     if close {
@@ -74,11 +80,11 @@ fn keeps(g: Gaps, n: u64) -> bool
     if g.from % PIECE > 0 {
         return false;
     }
-    let spare = less(g.upto, g.from);
+    let spare = g.upto.saturating_sub(g.from);
     if spare < n {
         return false;
     }
-    let room = less(g.limit, g.end);
+    let room = g.limit.saturating_sub(g.end);
     room / 2 < spare
 }
 
@@ -91,29 +97,18 @@ pub fn gaps_left(g: Gaps, place: u64, n: u64) -> Gaps
     }
     let top = place + n;
     if place == g.limit {
-        return Gaps {
-            end: g.end,
-            limit: top,
-            from: g.from,
-            upto: g.upto,
-        };
+        return Gaps { limit: top, ..g };
     }
     if place == g.upto {
-        return Gaps {
-            end: g.end,
-            limit: g.limit,
-            from: g.from,
-            upto: top,
-        };
+        return Gaps { upto: top, ..g };
     }
     let stays = keeps(g, n);
     if stays {
         return g;
     }
     Gaps {
-        end: g.end,
-        limit: g.limit,
         from: place,
         upto: top,
+        ..g
     }
 }

@@ -21,7 +21,7 @@ ghost use Rattle.payload_store.specs.Reading.{read_code, read_part};
 ghost use Rattle.payload_store.specs.Dropping.{drop_code_words, drop_payload};
 
 use copying::copy;
-use gaps::{gap_for, gaps_left, gaps_wrong};
+use gaps::{NO_GAPS, gap_for, gaps_left, gaps_wrong};
 use nearest::{GROUP, GROUPS, UNKNOWN, next_row};
 use queue_words::header::{Gaps, load_totals, store_totals};
 use queue_words::items::{load_length, load_place, store_length, store_place};
@@ -122,27 +122,18 @@ fn row_fits(queue: &[u64; QUEUE_WORDS], len: u64, i: usize, t: Tally) -> Tally
     }
     let size = load_length(queue, i);
     if size > len {
-        return Tally {
-            ok: false,
-            left: t.left,
-        };
+        return Tally { ok: false, ..t };
     }
     let place = load_place(queue, i);
     if place > len - size {
-        return Tally {
-            ok: false,
-            left: t.left,
-        };
+        return Tally { ok: false, ..t };
     }
     if size > t.left {
-        return Tally {
-            ok: false,
-            left: t.left,
-        };
+        return Tally { ok: false, ..t };
     }
     Tally {
-        ok: t.ok,
         left: t.left - size,
+        ..t
     }
 }
 
@@ -244,9 +235,7 @@ fn place_payload(
         t.used + n,
         Gaps {
             end: g.end + n,
-            limit: g.limit,
-            from: g.from,
-            upto: g.upto,
+            ..g
         },
     );
 }
@@ -272,8 +261,7 @@ fn put_elsewhere(queue: &mut [u64; QUEUE_WORDS], store: &mut [u8], i: usize, pay
         Gaps {
             end: t.used,
             limit: len,
-            from: 0,
-            upto: 0,
+            ..NO_GAPS
         },
         i,
         payload,
@@ -402,10 +390,8 @@ pub fn drop_payload(queue: &mut [u64; QUEUE_WORDS], i: usize)
             queue,
             0,
             Gaps {
-                end: 0,
                 limit: g.limit,
-                from: 0,
-                upto: 0,
+                ..NO_GAPS
             },
         );
         return;

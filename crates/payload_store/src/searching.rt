@@ -2,9 +2,10 @@
 // reach that begin in it, row by row, and the longest run of pieces into which none reaches is the gap, the second longest the one
 // beside it. What is smaller than a piece, or lies across two, is not found. Rows behind those whose payloads are the used bytes
 // are not looked at: a queue has no payload there.
-ghost use Rattle.std.specs.Prelude.{◌≡◌, ◌-◌, ◌<◌, ◌≤◌, length, replicate};
-ghost use Rattle.payload_store.specs.Searching.{lies, raised, reached, reach_to, free_at, greater, run_on, run_to, within, found};
+ghost use Rattle.std.specs.Prelude.{◌≡◌, ◌<◌, ◌≤◌, length, replicate};
+ghost use Rattle.payload_store.specs.Searching.{lies, raised, reached, reach_to, free_at, run_on, run_to, found};
 
+use crate::gaps::NO_GAPS;
 use queue_words::QUEUE_WORDS;
 use queue_words::header::Gaps;
 use queue_words::items::{load_length, load_place};
@@ -36,16 +37,6 @@ pub fn lies(place: u64, size: u64, len: u64) -> bool
         return false;
     }
     place <= len - size
-}
-
-// n without m, or nothing.
-pub fn less(n: u64, m: u64) -> u64
-    ensures { result ≡ n - m }
-{
-    if n < m {
-        return 0;
-    }
-    n - m
 }
 
 // The payloads that begin in piece k reach up to piece x, or further.
@@ -86,7 +77,7 @@ fn reach_all(queue: &[u64; QUEUE_WORDS], used: u64, reach: &mut [u64])
         }
         let size = load_length(queue, i);
         reach_row(queue, reach, i, size);
-        left = less(left, size);
+        left = left.saturating_sub(size);
     }
 }
 
@@ -100,9 +91,7 @@ fn free_at(r: Run, k: usize) -> Run
         return Run {
             from: r.start,
             upto: next,
-            low: r.low,
-            high: r.high,
-            start: r.start,
+            ..r
         };
     }
     if next - r.start > r.upto - r.from {
@@ -111,28 +100,17 @@ fn free_at(r: Run, k: usize) -> Run
             upto: next,
             low: r.from,
             high: r.upto,
-            start: r.start,
+            ..r
         };
     }
     if next - r.start > r.high - r.low {
         return Run {
-            from: r.from,
-            upto: r.upto,
             low: r.start,
             high: next,
-            start: r.start,
+            ..r
         };
     }
     r
-}
-
-fn greater(a: usize, b: usize) -> usize
-    ensures { result ≡ greater a b }
-{
-    if a < b {
-        return b;
-    }
-    a
 }
 
 // The runs with piece k; the payloads that begin in it reach up to piece x, 0 for none.
@@ -141,14 +119,9 @@ fn run_on(r: Run, x: usize, k: usize) -> Run
     ensures { result ≡ run_on r x k }
 {
     if x > 0 {
-        let far = greater(r.start, x);
-        let start = greater(far, k + 1);
         return Run {
-            from: r.from,
-            upto: r.upto,
-            low: r.low,
-            high: r.high,
-            start: start,
+            start: r.start.max(x).max(k + 1),
+            ..r
         };
     }
     if r.start > k {
@@ -175,37 +148,21 @@ fn longest(reach: &[u64], n: usize) -> Run
     r
 }
 
-fn within(len: u64, x: u64) -> u64
-    ensures { result ≡ within len x }
-{
-    if len < x {
-        return len;
-    }
-    x
-}
-
 // The gaps that are found; they may be empty, or have too few bytes.
 pub fn find_gaps(queue: &[u64; QUEUE_WORDS], used: u64, len: u64) -> Gaps
     ensures { result ≡ found queue.now used len }
 {
     if len >= SEARCHED {
-        return Gaps {
-            end: 0,
-            limit: 0,
-            from: 0,
-            upto: 0,
-        };
+        return NO_GAPS;
     }
     let mut reach = [0u64; PIECES];
     reach_all(queue, used, &mut reach);
     let n = (len + PIECE - 1) / PIECE;
     let r = longest(&reach, n as usize);
-    let limit = within(len, r.upto as u64 * PIECE);
-    let upto = within(len, r.high as u64 * PIECE);
     Gaps {
         end: r.from as u64 * PIECE,
-        limit: limit,
+        limit: len.min(r.upto as u64 * PIECE),
         from: r.low as u64 * PIECE,
-        upto: upto,
+        upto: len.min(r.high as u64 * PIECE),
     }
 }

@@ -13,7 +13,7 @@ returns-then-g-gt0 c = rw (ne_eqb _ _ c.if-g-eq0.false, lt-ltb _ _ c.if-g-gt0.tr
 
 pub returns-then-spare-n : goal.returns-then-spare-n
 unfolding keeps
-returns-then-spare-n c = rw (ne_eqb _ _ c.if-g-eq0.false, le-ltb _ _ c.if-g-gt0.false, ← c.less-spare.ensures, lt-ltb _ _ c.if-spare-n.true)
+returns-then-spare-n c = rw (ne_eqb _ _ c.if-g-eq0.false, le-ltb _ _ c.if-g-gt0.false, ← c.saturating_sub-spare.ensures, lt-ltb _ _ c.if-spare-n.true)
 
 pub returns : goal.returns
 unfolding keeps
@@ -21,7 +21,7 @@ returns c =
     rw (
       ne_eqb _ _ c.if-g-eq0.false,
       le-ltb _ _ c.if-g-gt0.false,
-      ← c.less-spare.ensures,
+      ← c.saturating_sub-spare.ensures,
       le-ltb _ _ c.if-spare-n.false,
-      ← c.less-room.ensures,
+      ← c.saturating_sub-room.ensures,
     )

@@ -12,4 +12,4 @@ pub returns-then-left-eq0 : goal.returns-then-left-eq0
 returns-then-left-eq0 c = reach_early _ _ _ _ _ (omega arith) c.loop-i.invariant.1 c.if-left-eq0.true c.loop-i.invariant.0
 
 pub loop-i-preserved : goal.loop-i-preserved
-loop-i-preserved c = all_step _ _ _ _ _ _ _ _ c.loop-i.invariant.0 c.loop-i.invariant.1 c.if-left-eq0.false c.load_length-size.ensures c.reach_row.ensures c.less-left.ensures
+loop-i-preserved c = all_step _ _ _ _ _ _ _ _ c.loop-i.invariant.0 c.loop-i.invariant.1 c.if-left-eq0.false c.load_length-size.ensures c.reach_row.ensures c.saturating_sub-left.ensures
