@@ -52,6 +52,7 @@ impl StreamKey {
 // "The Rust gives MID, SSN and FSN each a type, and so does the port. [..] MID (message identifier)
 // and FSN (fragment number) are 32 bits, SSN (stream sequence number) 16, and each adds modulo its
 // width". A sum that passes the last number comes round; one law, over the width, proves all four.
+// The four `add_to` stay apart: a trait would be written out for each type again, and no macro may write an impl.
 
 // The number of an ordered message of a stream.
 #[derive(Clone, Copy, Debug, PartialEq, Eq)]
