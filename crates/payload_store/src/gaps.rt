@@ -11,6 +11,7 @@ ghost use Rattle.payload_store.specs.Gaps.{gaps_wrong, near, gap_for, keeps, gap
 use crate::searching::PIECE;
 use queue_words::header::Gaps;
 
+// No free bytes that are known.
 pub const NO_GAPS: Gaps = Gaps {
     end: 0,
     limit: 0,

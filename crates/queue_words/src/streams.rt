@@ -12,10 +12,10 @@ const BASE: usize = 544;
 // "States: open, pending, paused, resetting." Open is the Rust's NotPaused.
 #[derive(Clone, Copy, Debug, PartialEq, Eq)]
 pub enum PauseState {
-    NotPaused,
-    Pending,
-    Paused,
-    Resetting,
+    NotPaused = 0,
+    Pending = 1,
+    Paused = 2,
+    Resetting = 3,
 }
 
 impl PauseState {
@@ -62,12 +62,7 @@ impl From<PauseState> for u64 {
     ghost from_gives = { λ p w. w ≡ pause_state_word p };
 
     fn from(p: PauseState) -> u64 {
-        match p {
-            PauseState::NotPaused => 0,
-            PauseState::Pending => 1,
-            PauseState::Paused => 2,
-            PauseState::Resetting => 3,
-        }
+        p as u64
     }
 }
 
