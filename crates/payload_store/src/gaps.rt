@@ -40,10 +40,7 @@ fn near(g: Gaps) -> bool
     requires { g.from ≤ g.upto }
     ensures { result ≡ near g }
 {
-    if g.upto > g.end {
-        return false;
-    }
-    g.end - g.upto <= g.upto - g.from
+    g.upto <= g.end && g.end - g.upto <= g.upto - g.from
 }
 
 // The gap that n bytes go to, with none beside it where it is the second one. The second one comes first where it is near: so

@@ -152,10 +152,7 @@ fn all_fit(queue: &[u64; QUEUE_WORDS], len: u64, used: u64) -> bool
         }
         t = row_fits(queue, len, i, t);
     }
-    if t.ok {
-        return t.left == 0;
-    }
-    false
+    t.ok && t.left == 0
 }
 
 // Where a payload has room: in a gap that is known, or elsewhere.

@@ -33,10 +33,7 @@ pub struct Run {
 pub fn lies(place: u64, size: u64, len: u64) -> bool
     ensures { result ≡ lies place size len }
 {
-    if size > len {
-        return false;
-    }
-    place <= len - size
+    size <= len && place <= len - size
 }
 
 // The payloads that begin in piece k reach up to piece x, or further.

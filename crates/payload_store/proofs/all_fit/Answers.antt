@@ -18,5 +18,5 @@ loop-i-preserved c = c.row_fits-t.ensures ∙ rw (add-one, c.loop-i.invariant)
 pub returns-then-t : goal.returns-then-t
 returns-then-t c = all_ok _ _ _ _ _ c.loop-i.invariant (omega arith) c.if-t.true
 
-pub returns : goal.returns
-returns c = all_bad _ _ _ _ _ c.loop-i.invariant (omega arith) c.if-t.false
+pub returns-else-t : goal.returns-else-t
+returns-else-t c = c.if-t.false ∙ all_bad _ _ _ _ _ c.loop-i.invariant (omega arith) c.if-t.false
