@@ -27,11 +27,7 @@ fn count_in(g: usize, n: usize) -> usize
     requires { (g * 24 < n) × (n ≤ 256) }
     ensures { result ≡ count_in g n }
 {
-    let left = n - g * GROUP;
-    if left < GROUP {
-        return left;
-    }
-    GROUP
+    GROUP.min(n - g * GROUP)
 }
 
 // The best of `start` and group g, by its least row if the group is fresh.
