@@ -11,7 +11,6 @@ use queue_words::active::{SchedulingParameters, load_active, store_active};
 use queue_words::header::{
     SchedulerState, load_options, load_scheduler_state, store_scheduler_state,
 };
-use std::convert::From;
 
 // Of n rows the row `at` begins anew with so many bytes, at a time; no stream is remembered.
 fn begin_anew(

@@ -10,7 +10,7 @@ pub mod anew;
 pub mod own;
 
 ghost use Rattle.std.specs.Prelude.{◌≡◌, true};
-ghost use Prim.Native.Nat.{◌+◌, ◌-◌, ◌*◌, ◌<◌, ◌≤◌};
+ghost use Prim.Native.Nat.{◌<◌, ◌≤◌};
 ghost use Rattle.queue_model.specs.Scheduler.{cost};
 ghost use Rattle.queue_model.specs.Types.{weighted};
 ghost use Rattle.stream_scheduler.specs.Rows.{advanced, scheduled_row};
@@ -27,7 +27,6 @@ use queue_words::header::{
     SchedulerState, load_options, load_scheduler_state, store_scheduler_state,
 };
 use queue_words::limits::{STREAM_ROWS, STREAMS};
-use std::convert::From;
 use types::StreamId;
 
 // "Sums stop at 2^64 - 1."; "bytes × 1,000,000 / weight rounded down, weight 0 counting as 1".

@@ -15,7 +15,6 @@ use queue_words::active::{SchedulingParameters, load_active, store_active};
 use queue_words::header::{
     SchedulerState, load_options, load_scheduler_state, store_scheduler_state,
 };
-use std::convert::From;
 
 // What the scheduler would hand out from.
 #[derive(Clone, Copy, Debug, PartialEq, Eq)]
