@@ -164,7 +164,10 @@ pub fn switch_own(queue: &mut [u64; QUEUE_WORDS], enabled: bool)
     switch_all(queue, enabled, n);
 }
 
-pub fn enable_message_interleaving(queue: &mut [u64; QUEUE_WORDS], enabled: bool) -> Result<usize, Refusal>
+pub fn enable_message_interleaving(
+    queue: &mut [u64; QUEUE_WORDS],
+    enabled: bool,
+) -> Result<usize, Refusal>
     ensures { called (as_call result) queue.new ≡ set_interleaving_words enabled queue.old }
 {
     let t = load_totals(&*queue);

@@ -37,7 +37,11 @@ pub fn set_priority_of_new(queue: &mut [u64; QUEUE_WORDS], id: u16, priority: u1
     insert_stream(queue, position, id, s);
 }
 
-pub fn set_priority(queue: &mut [u64; QUEUE_WORDS], id: u16, priority: u16) -> Result<usize, Refusal>
+pub fn set_priority(
+    queue: &mut [u64; QUEUE_WORDS],
+    id: u16,
+    priority: u16,
+) -> Result<usize, Refusal>
     ensures { called (as_call result) queue.new ≡ set_priority_words queue.old id priority }
 {
     let place = look_up(&*queue, id)?;
