@@ -7,7 +7,6 @@ ghost use Rattle.stream_reset_handler.specs.Answers.{as_request, as_response};
 ghost use Rattle.host_handler.specs.Handler.{handler_in, handler_numbers, request_number, request_out, request_handler, response_number_words, response_out, response_handler, reset_handler};
 
 use out_array::{OUT_WORDS, VALUE};
-use std::convert::From;
 use stream_reset_handler::{
     HandledResponse, MadeRequest, QueueReset, ResponseAnswer, StreamResetHandler,
 };

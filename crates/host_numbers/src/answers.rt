@@ -4,7 +4,6 @@ ghost use Rattle.queue_streams.specs.Answers.{as_call, call_number};
 ghost use Rattle.host_numbers.specs.Numbers.{call_out};
 
 use out_array::{EVENTS, OUT_WORDS};
-use std::convert::From;
 use types::Refusal;
 
 // A call that tells nothing else.

@@ -9,7 +9,6 @@ use out_array::{
     MESSAGE_ID, MID, OUT_WORDS, PPID, SSN, STREAM_ID, UNORDERED, VALUE,
 };
 use queue_sending::{DataToSend, Produced};
-use std::convert::From;
 use types::Refusal;
 
 fn expiry_number(e: Option<u64>) -> u64

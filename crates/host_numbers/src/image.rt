@@ -4,7 +4,6 @@ ghost use Rattle.saving.specs.Save.{as_saved, saved_number};
 ghost use Rattle.host_numbers.specs.Numbers.{saved_out};
 
 use out_array::{OUT_WORDS, VALUE};
-use std::convert::From;
 use types::Refusal;
 
 pub fn tell_saved(out: &mut [u64; OUT_WORDS], s: Result<usize, Refusal>) -> u32

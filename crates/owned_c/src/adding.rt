@@ -10,7 +10,6 @@ ghost use Rattle.host_numbers.specs.Given.{GivesStore};
 use host_numbers::message_of;
 use owned_adding::Refusal;
 use queue_words::QUEUE_WORDS;
-use std::convert::From;
 
 fn added_number(a: Result<(), Refusal>) -> u32
     ensures { result ≡ call_number (call_of a) }

@@ -10,7 +10,6 @@ use host_numbers::tell_call;
 use out_array::OUT_WORDS;
 use owned_streams::{StreamsFull, ThresholdRefusal};
 use queue_words::QUEUE_WORDS;
-use std::convert::From;
 use types::Refusal;
 
 fn priority_number(a: Result<(), StreamsFull>) -> u32

@@ -8,7 +8,6 @@ ghost use Rattle.packet_numbers.specs.Packets.{packet_with, told_packet, filled_
 
 use out_array::{EVENTS, LENGTH, OUT_WORDS, VALUE};
 use packets::{Filled, Packet};
-use std::convert::From;
 use types::Refusal;
 
 pub fn packet_of(

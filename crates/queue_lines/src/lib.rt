@@ -12,7 +12,6 @@ use send_queue::{
     get_handover_readiness, get_priority, get_streams_ready_to_reset, has_data_to_send,
     has_streams_ready_to_be_reset, is_empty, total_buffered_amount,
 };
-use std::convert::From;
 use trace_answers::fragments::put_fields;
 use trace_answers::marks::{EVENT_BUFFER, clear_store, event_words, keep_words, mark_bytes};
 use trace_answers::settle::{

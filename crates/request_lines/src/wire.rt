@@ -4,7 +4,6 @@ use send_queue::{
     Chunk, ChunkKind, Data, DataToSend, Fsn, Mid, OutgoingMessageId, Ssn, StreamId, StreamKey,
     read_chunk, write_chunk,
 };
-use std::convert::From;
 use trace_answers::fragments::put_fields;
 use trace_answers::marks::{BEFORE, OUTPUT, SHOWN, as_before};
 use trace_text::hex::put_part;

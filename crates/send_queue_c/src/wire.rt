@@ -13,8 +13,6 @@ use send_queue::{
     Chunk, ChunkKind, Data, DataToSend, Fsn, Mid, OutgoingMessageId, Refusal, Ssn, StreamId,
     StreamKey, read_chunk, write_chunk,
 };
-use std::convert::From;
-
 // The places of a chunk-array, and how many.
 pub const CHUNK_WORDS: usize = 3;
 
