@@ -80,7 +80,7 @@ fn is_line(
     }
 }
 
-// A proved loop has to end, and nothing says that a trace does. So the loop counts down from a number that no run uses up.
+// A proved loop has to end, and nothing says that a trace does. So the loop takes as many turns as no run uses up.
 fn run(
     rt: &impl Eprint,
     stdin: &mut Stdin,
@@ -96,8 +96,7 @@ fn run(
     output: &mut Answers,
     state: &mut [u64; STATE],
 ) -> io::Result<()> {
-    let mut left = u64::MAX;
-    while left > 0 {
+    for _ in 0..u64::MAX {
         let more = next_call(rt, stdin, payload, input, output, state)?;
         if more == false {
             return Ok(());
@@ -105,7 +104,6 @@ fn run(
         answer(
             queue, kept, store, kept_store, events, payload, image, head, output, state,
         );
-        left -= 1;
     }
     Ok(())
 }

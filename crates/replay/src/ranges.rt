@@ -166,12 +166,10 @@ fn numbers_fit(state: &[u64; STATE], letter: u8, count: usize) -> bool {
     if count > 13 {
         return false;
     }
-    let mut k = 0;
-    while k < count {
+    for k in 0..count {
         if state[k] > most(letter, k) {
             return false;
         }
-        k += 1;
     }
     true
 }
