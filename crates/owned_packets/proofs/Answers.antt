@@ -2,6 +2,7 @@
 use mathlib.Core.Path.{◌≡◌, refl, sym, subst}
 use mathlib.Core.Bool.{Bool, true, false}
 use mathlib.Core.List.{List}
+use mathlib.Core.Logic.{◌⊎◌, inl, inr}
 use Prim.Native.Nat.{ℕ, ◌≤◌, ◌<◌}
 use native.Mathlib.Omega.{arith}
 use borrow.Author.Tests.{lt-ltb, eq-eqb, ltb-false}
@@ -27,6 +28,19 @@ use Rattle.owned_packets.specs.Filling.{lent_code, Lent, OnlyLent, MayFill, fill
 use Rattle.owned_packets.specs.declared.filling.Progress.{Progress}
 
 -- ---- the refusals
+
+-- they are these four, and no other: 2 and 16 are none of them
+pub lent_listed : (code : ℕ) → Lent code → (code ≡ 20) ⊎ ((code ≡ 21) ⊎ ((code ≡ 3) ⊎ (code ≡ 4)))
+lent_listed code l =
+    go (ltb l.limit 36) (ltb 65535 l.limit) (ltb l.room l.limit) (ltb l.places event_words) (ltb 4611686018427387903 l.time) l.is_code
+  where
+    go : (a b c d f : Bool) → code ≡ pick a 20 (pick b 20 (pick c 21 (pick d 3 (pick f 4 0)))) → (code ≡ 20) ⊎ ((code ≡ 21) ⊎ ((code ≡ 3) ⊎ (code ≡ 4)))
+    go true b c d f e = inl e
+    go false true c d f e = inl e
+    go false false true d f e = inr (inl e)
+    go false false false true f e = inr (inr (inl e))
+    go false false false false true e = inr (inr (inr e))
+    go false false false false false e = absurd (omega (arith, e, l.is_refused))
 
 refused_same : (i j : ℕ) → packet.Refused i ≡ packet.Refused j → i ≡ j
 refused_same i j e = cc

@@ -2,6 +2,7 @@
 use mathlib.Core.Path.{◌≡◌, refl, sym, ap, ◌∙◌, subst}
 use mathlib.Core.Bool.{Bool, true, false}
 use mathlib.Core.List.{List}
+use mathlib.Core.Logic.{◌⊎◌, inl, inr}
 use Prim.Native.Nat.{ℕ, ◌+◌, ◌≤◌, ◌<◌}
 use native.Mathlib.Omega.{arith}
 use borrow.Author.Tests.{lt-ltb, le-ltb, eq-eqb, ltb-false}
@@ -52,6 +53,19 @@ lent_fits places room time size h =
     go false ea false false true f ef h = absurd (omega arith)
     go false ea false false false true ef h = absurd (omega arith)
     go false ea false false false false ef h = (ltb-false places event_words ea, ltb-false room size ef)
+
+-- they are these four, and no other
+pub lent_listed : (code : ℕ) → Lent code → (code ≡ 3) ⊎ ((code ≡ 4) ⊎ ((code ≡ 9) ⊎ (code ≡ 10)))
+lent_listed code l =
+    go (ltb l.places event_words) (ltb 4611686018427387903 l.time) (eqb l.size 0) (ltb 262144 l.size) (ltb l.room l.size) l.is_code
+  where
+    go : (a b c d f : Bool) → code ≡ pick a 3 (pick b 4 (pick c 9 (pick d 9 (pick f 10 0)))) → (code ≡ 3) ⊎ ((code ≡ 4) ⊎ ((code ≡ 9) ⊎ (code ≡ 10)))
+    go true b c d f e = inl e
+    go false true c d f e = inr (inl e)
+    go false false true d f e = inr (inr (inl e))
+    go false false false true f e = inr (inr (inl e))
+    go false false false false true e = inr (inr (inr e))
+    go false false false false false e = absurd (omega (arith, e, l.is_refused))
 
 -- none of the four is 16
 lent_fine : (code : ℕ) → Lent code → code ≡ 16 → ⊥
