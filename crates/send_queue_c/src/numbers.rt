@@ -5,6 +5,7 @@ ghost use Rattle.send_queue_c.specs.Numbers.{number_out, flag_out};
 
 use out_array::{OUT_WORDS, VALUE};
 use send_queue::Refusal;
+
 // A question for a number.
 pub fn tell_number(out: &mut [u64; OUT_WORDS], a: Result<u64, Refusal>) -> u32
     ensures { (result ≡ number_number (as_number a)) × (out.new ≡ number_out out.old (as_number a)) }

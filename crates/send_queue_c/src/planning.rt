@@ -8,6 +8,7 @@ ghost use Rattle.send_queue_c.specs.Given.{GivesPriorities};
 
 use host_numbers::copy_first;
 use send_queue::{MAX_PLANNED, PlannedPriorities, Refusal, plan_priorities};
+
 // Does nothing at run time; gives a proof that there are 32 places.
 fn whole(values: &[u16; MAX_PLANNED])
     ensures { length values.now ≡ max_planned }

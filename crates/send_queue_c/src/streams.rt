@@ -15,6 +15,7 @@ use send_queue::{
     get_streams_ready_to_reset, prepare_reset_stream, reset, rollback_reset_streams,
     set_buffered_amount_low_threshold, set_priority,
 };
+
 // Closes a stream.
 #[unsafe(no_mangle)]
 pub extern "C" fn dsq_prepare_reset_stream(

@@ -13,6 +13,7 @@ use send_queue::{
     Chunk, ChunkKind, Data, DataToSend, Fsn, Mid, OutgoingMessageId, Refusal, Ssn, StreamId,
     StreamKey, read_chunk, write_chunk,
 };
+
 // The places of a chunk-array, and how many.
 pub const CHUNK_WORDS: usize = 3;
 
