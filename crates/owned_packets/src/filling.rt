@@ -1,6 +1,7 @@
 // One call for a whole packet (document 02, 5/13): a loop of calls for the next fragment, each payload read from the store to its place
 // in the packet.
 ghost use Rattle.std.specs.Prelude.{◌≡◌, ◌+◌, ◌≤◌, length};
+ghost use Rattle.types.specs.Refusal as types_refusal;
 ghost use Rattle.types.specs.Refusal.{check_number};
 ghost use Rattle.queue_model.specs.Chunks.{padded};
 ghost use Rattle.queue_model.specs.Fill.{common_header_length};
@@ -8,12 +9,13 @@ ghost use Rattle.queue_sending.specs.Answers.{made_of};
 ghost use Rattle.queue_sending.specs.Data.{produced_with};
 ghost use Rattle.queue_state.specs.Good.{Good};
 ghost use Rattle.chunks.specs.Layout.{header_size};
-ghost use Rattle.packets.specs.Answers.{as_filled, filled_of};
+ghost use Rattle.packets.specs.Answers.{filled_of};
 ghost use Rattle.packets.specs.Filling.{one_filled, filling_with, fill_on_words, finished_answer, finished_packet};
 ghost use Rattle.linked_packets.specs.Meaning.{FillMeets};
 ghost use Rattle.owned_sending.specs.Passing.{Payable};
-ghost use Rattle.owned_packets.specs.Filling.{lent_code, OnlyLent, MayFill, filling_of};
+ghost use Rattle.owned_packets.specs.Filling.{lent_code, Lent, OnlyLent, refusal_number, MayFill, filling_of, filled_as};
 
+use crate::refusals::FillRefusal;
 use chunks::{ChunkKind, header_size, padded};
 use owned_sending::produce_after;
 use packets::packet::{COMMON_HEADER, put_common_header};
@@ -38,6 +40,19 @@ fn lent_code(places: u64, room: usize, time: u64, limit: usize) -> Result<(), Re
 {
     packet_code(room, limit)?;
     events_code(places, time)
+}
+
+// The refusal of what is lent and asked for.
+fn refusal_of(r: Refusal) -> FillRefusal
+    requires { Lent (types_refusal.refusal_number r) }
+    ensures { refusal_number result ≡ types_refusal.refusal_number r }
+{
+    match r {
+        Refusal::PacketLimitWrong => FillRefusal::PacketLimitWrong,
+        Refusal::PacketBufferShort => FillRefusal::PacketBufferShort,
+        Refusal::EventListShort => FillRefusal::EventListShort,
+        _ => FillRefusal::TimeLate,
+    }
 }
 
 // One call for the next fragment, after k events: its fragment buffer is the part of the packet in which the payload lies.
@@ -166,12 +181,14 @@ pub fn fill_packet(
     packet: &mut [u8],
     time: u64,
     p: Packet,
-) -> Result<Filled, Refusal>
+) -> Result<Filled, FillRefusal>
     requires { Good queue.old store.now }
-    ensures meets { FillMeets queue.old store.now events.old packet.old time p (as_filled result) queue.new events.new packet.new }
-    ensures lent { OnlyLent (as_filled result) }
+    ensures meets { FillMeets queue.old store.now events.old packet.old time p (filled_as result) queue.new events.new packet.new }
+    ensures lent { OnlyLent (filled_as result) }
 {
-    lent_code(events.len() as u64, packet.len(), time, p.limit)?;
+    if let Err(refused) = lent_code(events.len() as u64, packet.len(), time, p.limit) {
+        return Err(refusal_of(refused));
+    }
     let o = load_options(&*queue);
     let t = load_totals(&*queue);
     let kind = kind_of(t.interleaving);

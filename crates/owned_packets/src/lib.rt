@@ -3,5 +3,8 @@
 #![tactic(auto)]
 
 pub mod filling;
+pub mod refusals;
 
 pub use filling::fill_packet;
+pub use packets::Filled;
+pub use refusals::FillRefusal;

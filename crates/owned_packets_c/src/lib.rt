@@ -2,16 +2,27 @@
 // fragment has one caller in its library (owned_c) and is compiled into dsq_owned_produce. No part of c/send_queue.h.
 #![tactic(auto)]
 
+ghost use Rattle.std.specs.Prelude.{◌≡◌};
 ghost use Rattle.queue_state.specs.Good.{Good};
+ghost use Rattle.packets.specs.Answers.{as_filled};
 ghost use Rattle.packets.specs.Filling.{fill_packet};
+ghost use Rattle.owned_packets.specs.Filling.{filled_as};
 ghost use Rattle.packet_numbers.specs.Packets.{packet_with, GivesPacket};
 
 use out_array::OUT_WORDS;
-use owned_packets::fill_packet;
+use owned_packets::{FillRefusal, Filled, fill_packet};
 use packet_numbers::{packet_of, tell_filled};
 use queue_words::QUEUE_WORDS;
+use types::Refusal;
 
 pub mod layout;
+
+// As the checked call says it.
+fn filled_as(a: Result<Filled, FillRefusal>) -> Result<Filled, Refusal>
+    ensures { as_filled result ≡ filled_as a }
+{
+    Ok(a?)
+}
 
 // 0, or the refusal's number, which is 20, 21, 3 or 4.
 #[unsafe(no_mangle)]
@@ -33,5 +44,6 @@ pub extern "C" fn dsq_owned_fill_packet(
 {
     let p = packet_of(limit, source_port, destination_port, verification_tag, tsn);
     let a = fill_packet(queue, store, events, packet, time, p);
-    tell_filled(out, a)
+    let told = filled_as(a);
+    tell_filled(out, told)
 }

@@ -4,5 +4,8 @@
 
 pub mod next_fragment;
 pub mod passing;
+pub mod refusals;
 
 pub use next_fragment::{produce, produce_after};
+pub use queue_sending::Produced;
+pub use refusals::ProduceRefusal;

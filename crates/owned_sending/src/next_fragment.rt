@@ -1,18 +1,33 @@
 // The next fragment (Rust: produce, get_stream_to_produce_from).
 ghost use Rattle.std.specs.Prelude.{◌≡◌, ◌≤◌, length};
-ghost use Rattle.queue_sending.specs.Answers.{made_of, as_produced};
+ghost use Rattle.types.specs.Refusal as types_refusal;
+ghost use Rattle.queue_sending.specs.Answers.{made_of};
 ghost use Rattle.queue_sending.specs.Data.{produced_with};
 ghost use Rattle.queue_sending.specs.Produce.{produced_after};
 ghost use Rattle.queue_state.specs.Good.{Good};
 ghost use Rattle.owned_sending.specs.Passing.{Payable};
-ghost use Rattle.owned_sending.specs.Produce.{OwnedProduce};
+ghost use Rattle.owned_sending.specs.Produce.{refusal_number, Lent, produced_of, OwnedProduce};
 
 use crate::passing::{Turn, pass_own};
+use crate::refusals::ProduceRefusal;
 use queue_sending::Produced;
 use queue_sending::fragment::hand_own;
 use queue_sending::next_fragment::lent_code;
 use queue_words::QUEUE_WORDS;
 use types::Refusal;
+
+// The refusals of what is lent and asked for.
+fn refusal_of(r: Refusal) -> ProduceRefusal
+    requires { Lent (types_refusal.refusal_number r) }
+    ensures { refusal_number result ≡ types_refusal.refusal_number r }
+{
+    match r {
+        Refusal::EventListShort => ProduceRefusal::EventListShort,
+        Refusal::TimeLate => ProduceRefusal::TimeLate,
+        Refusal::SizeWrong => ProduceRefusal::SizeWrong,
+        _ => ProduceRefusal::BufferShort,
+    }
+}
 
 // The next fragment of at most `size` bytes, after k events of earlier calls, as a filling asks for it. What is lent is judged by the
 // caller.
@@ -47,10 +62,12 @@ pub fn produce(
     buffer: &mut [u8],
     time: u64,
     size: u64,
-) -> Result<Produced, Refusal>
+) -> Result<Produced, ProduceRefusal>
     requires { Good queue.old store.now }
-    ensures { OwnedProduce queue.old store.now events.old buffer.old time size (as_produced result) queue.new events.new buffer.new }
+    ensures { OwnedProduce queue.old store.now events.old buffer.old time size (produced_of result) queue.new events.new buffer.new }
 {
-    lent_code(events.len() as u64, buffer.len() as u64, time, size)?;
+    if let Err(refused) = lent_code(events.len() as u64, buffer.len() as u64, time, size) {
+        return Err(refusal_of(refused));
+    }
     Ok(produce_after(queue, store, events, buffer, time, size, 0))
 }
