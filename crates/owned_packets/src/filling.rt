@@ -42,7 +42,7 @@ fn lent_code(places: u64, room: usize, time: u64, limit: usize) -> Result<(), Re
     events_code(places, time)
 }
 
-// The refusal of what is lent and asked for.
+// A refusal of what is lent and asked for, as the call's own.
 fn refusal_of(r: Refusal) -> FillRefusal
     requires { Lent (types_refusal.refusal_number r) }
     ensures { refusal_number result ≡ types_refusal.refusal_number r }

@@ -16,7 +16,7 @@ use queue_sending::next_fragment::lent_code;
 use queue_words::QUEUE_WORDS;
 use types::Refusal;
 
-// The refusals of what is lent and asked for.
+// A refusal of what is lent and asked for, as the call's own.
 fn refusal_of(r: Refusal) -> ProduceRefusal
     requires { Lent (types_refusal.refusal_number r) }
     ensures { refusal_number result ≡ types_refusal.refusal_number r }
