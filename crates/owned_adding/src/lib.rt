@@ -79,9 +79,9 @@ fn add_own(
     if let Err(full) = full_code(&*queue, store.len() as u64, payload.len() as u64) {
         return Err(full_refusal(full));
     }
-    let s = stream_for(&*queue, place);
-    let row = row_for(&*queue, place);
-    make_known(queue, place, m.stream_id.0);
+    let s = stream_for(&*queue, Ok(place));
+    let row = row_for(&*queue, Ok(place));
+    make_known(queue, Ok(place), m.stream_id.0);
     append(queue, store, time, m, payload, row, s);
     Ok(())
 }

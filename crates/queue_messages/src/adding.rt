@@ -273,13 +273,13 @@ pub fn append(
 }
 
 // The stream's row as it is, or that of a stream that the message makes known.
-pub fn stream_for(queue: &[u64; QUEUE_WORDS], place: Place) -> OutgoingStream
-    requires { HasPlace queue.now (placed place) }
-    ensures { result ≡ stream_for queue.now (placed place) }
+pub fn stream_for(queue: &[u64; QUEUE_WORDS], place: Result<Place, Refusal>) -> OutgoingStream
+    requires { HasPlace queue.now (as_place place) }
+    ensures { result ≡ stream_for queue.now (as_place place) }
 {
     match place {
-        Place::Row(row) => load_stream(queue, row),
-        Place::New(_) => {
+        Ok(Place::Row(row)) => load_stream(queue, row),
+        Ok(Place::New(_)) | Err(_) => {
             let o = load_options(queue);
             new_stream(o)
         }
@@ -287,31 +287,33 @@ pub fn stream_for(queue: &[u64; QUEUE_WORDS], place: Place) -> OutgoingStream
 }
 
 // The number of that row.
-pub fn row_for(queue: &[u64; QUEUE_WORDS], place: Place) -> usize
-    requires { HasPlace queue.now (placed place) }
-    ensures { result ≡ row_for queue.now (placed place) }
+pub fn row_for(queue: &[u64; QUEUE_WORDS], place: Result<Place, Refusal>) -> usize
+    requires { HasPlace queue.now (as_place place) }
+    ensures { result ≡ row_for queue.now (as_place place) }
 {
     match place {
-        Place::Row(row) => row,
-        Place::New(_) => {
+        Ok(Place::Row(row)) => row,
+        Ok(Place::New(_)) => {
             let t = load_totals(queue);
             t.known as usize
         }
+        Err(_) => 0,
     }
 }
 
 // Makes the stream known, if it is not.
-pub fn make_known(queue: &mut [u64; QUEUE_WORDS], place: Place, id: u16)
-    requires { HasPlace queue.old (placed place) }
-    ensures { queue.new ≡ made_known queue.old id (placed place) }
+pub fn make_known(queue: &mut [u64; QUEUE_WORDS], place: Result<Place, Refusal>, id: u16)
+    requires { HasPlace queue.old (as_place place) }
+    ensures { queue.new ≡ made_known queue.old id (as_place place) }
 {
     match place {
-        Place::Row(_) => {}
-        Place::New(position) => {
+        Ok(Place::Row(_)) => {}
+        Ok(Place::New(position)) => {
             let o = load_options(&*queue);
             let s = new_stream(o);
             insert_stream(queue, position, id, s);
         }
+        Err(_) => {}
     }
 }
 
@@ -328,10 +330,10 @@ fn add_to(
     ensures { added (as_call result) queue.new store.new ≡ add_to queue.old store.old time m payload.now (placed place) }
 {
     whole(&*queue);
-    let s = stream_for(&*queue, place);
+    let s = stream_for(&*queue, Ok(place));
     message_code(&*queue, store.len() as u64, s, payload.len() as u64)?;
-    let row = row_for(&*queue, place);
-    make_known(queue, place, m.stream_id.0);
+    let row = row_for(&*queue, Ok(place));
+    make_known(queue, Ok(place), m.stream_id.0);
     append(queue, store, time, m, payload, row, s);
     Ok(0)
 }
