@@ -1,15 +1,15 @@
 // What the call does next, once the expired heads are passed over: decided by reading only, before anything is sent.
 ghost use Rattle.std.specs.Prelude.{◌≡◌};
 ghost use Rattle.queue_streams.specs.Answers.{as_call};
-ghost use Rattle.queue_sending.specs.Answers.{as_next};
+ghost use Rattle.queue_sending.specs.Answers.{as_look, as_next};
 ghost use Rattle.queue_sending.specs.Next.{next_found, next_passed};
-ghost use Rattle.queue_sending.specs.Own.{look_of};
 
 use crate::choice::{Ahead, look_ahead};
 use crate::fragment::chosen_code;
 use queue_streams::events::EVENT_PLACES;
 use queue_words::QUEUE_WORDS;
 use types::Refusal;
+use types::refusal::Broken;
 
 // It says that nothing waits; or it hands out from a head, by the scheduler's row, its stream's id and row. Both after so many events.
 #[derive(Clone, Copy, Debug, PartialEq, Eq)]
@@ -36,22 +36,23 @@ pub fn next_found(
     room: u64,
     size: u64,
     k: usize,
-    found: Ahead,
+    found: Result<Ahead, Broken>,
 ) -> Result<Next, Refusal>
-    ensures { as_next result ≡ next_found queue.now len room size k (look_of found) }
+    ensures { as_next result ≡ next_found queue.now len room size k (as_look found) }
 {
     match found {
-        Ahead::Nothing => {
+        Ok(Ahead::Nothing) => {
             if k > EVENT_PLACES {
                 return Err(Refusal::WordsBroken);
             }
             Ok(Next::Nothing(k))
         }
-        Ahead::Chosen(at, id, row) => {
+        Ok(Ahead::Chosen(at, id, row)) => {
             chosen_code(queue, len, room, size, k, at, row)?;
             Ok(Next::Chosen(k, at, id, row))
         }
-        Ahead::Expired(_, _) => Err(Refusal::WordsBroken),
+        Ok(Ahead::Expired(_, _)) => Err(Refusal::WordsBroken),
+        Err(_) => Err(Refusal::WordsBroken),
     }
 }
 
@@ -67,6 +68,6 @@ pub fn next_passed(
     ensures { as_next result ≡ next_passed queue.now len room time size (as_call passed) }
 {
     let k = passed?;
-    let found = look_ahead(queue, time)?;
+    let found = look_ahead(queue, time);
     next_found(queue, len, room, size, k, found)
 }

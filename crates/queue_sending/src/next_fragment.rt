@@ -2,11 +2,10 @@
 ghost use Rattle.std.specs.Prelude.{◌≡◌, ℕ, ◌≤◌, length};
 ghost use Rattle.types.specs.Refusal.{check_number};
 ghost use Rattle.queue_streams.specs.Events.{event_words};
-ghost use Rattle.queue_sending.specs.Answers.{as_next, as_produced};
+ghost use Rattle.queue_sending.specs.Answers.{as_look, as_next, as_produced};
 ghost use Rattle.queue_sending.specs.Choice.{look_ahead};
 ghost use Rattle.queue_sending.specs.Data.{produced_with};
 ghost use Rattle.queue_sending.specs.Next.{sent_next, FromRow, Leads};
-ghost use Rattle.queue_sending.specs.Own.{look_of};
 ghost use Rattle.queue_sending.specs.Produce.{lent_code, produce_code, produced_past, after_look, produced_after, produce_next};
 ghost use Rattle.queue_sending.specs.Look.{Expired};
 
@@ -20,6 +19,7 @@ use queue_words::QUEUE_WORDS;
 use queue_words::header::{load_options, load_totals};
 use queue_words::limits::{MAX_PAYLOAD, MAX_TIME, MESSAGES};
 use types::Refusal;
+use types::refusal::Broken;
 
 // The refusals that what is lent and asked for decides: 3, 4, 9, 10.
 pub fn lent_code(places: u64, room: u64, time: u64, size: u64) -> Result<(), Refusal>
@@ -103,22 +103,23 @@ fn next_looked(
     time: u64,
     size: u64,
     k: usize,
-    found: Ahead,
+    found: Result<Ahead, Broken>,
 ) -> Result<Next, Refusal>
-    requires { (event_words ≤ length events.old) × (look_of found ≡ look_ahead queue.old time) }
-    ensures { (sent_next queue.new store.now events.new buffer.now size (as_next result) ≡ after_look (λ (id row : ℕ). produced_past queue.old store.now events.old buffer.now time size k) queue.old store.now events.old buffer.now size k (look_of found)) × FromRow queue.new (as_next result) }
+    requires { (event_words ≤ length events.old) × (as_look found ≡ look_ahead queue.old time) }
+    ensures { (sent_next queue.new store.now events.new buffer.now size (as_next result) ≡ after_look (λ (id row : ℕ). produced_past queue.old store.now events.old buffer.now time size k) queue.old store.now events.old buffer.now size k (as_look found)) × FromRow queue.new (as_next result) }
 {
     match found {
-        Ahead::Expired(id, row) => pass_waiting(
+        Ok(Ahead::Expired(id, row)) => pass_waiting(
             queue, store, events, buffer, time, size, k, id, row,
         ),
-        Ahead::Nothing => {
+        Ok(Ahead::Nothing) => {
             if k > EVENT_PLACES {
                 return Err(Refusal::WordsBroken);
             }
             Ok(Next::Nothing(k))
         }
-        Ahead::Chosen(at, id, row) => Ok(Next::Chosen(k, at, id, row)),
+        Ok(Ahead::Chosen(at, id, row)) => Ok(Next::Chosen(k, at, id, row)),
+        Err(_) => Err(Refusal::WordsBroken),
     }
 }
 
@@ -136,7 +137,7 @@ pub fn produce_after(
     requires { event_words ≤ length events.old }
     ensures { produced_with (as_produced result) queue.new events.new buffer.new ≡ produced_after queue.old store.now events.old buffer.old time size k }
 {
-    let found = look_ahead(&*queue, time)?;
+    let found = look_ahead(&*queue, time);
     let next = next_looked(queue, store, events, &*buffer, time, size, k, found)?;
     match next {
         Next::Nothing(j) => Ok(Produced::Nothing(j)),

@@ -5,7 +5,6 @@ ghost use Rattle.undo_log.specs.Log.{undone};
 ghost use Rattle.queue_sending.specs.Answers.{as_look, as_next};
 ghost use Rattle.queue_sending.specs.Choice.{look_ahead};
 ghost use Rattle.queue_sending.specs.Next.{next_found, Leads};
-ghost use Rattle.queue_sending.specs.Own.{look_of};
 ghost use Rattle.queue_sending.specs.Produce.{copied, past_from};
 ghost use Rattle.queue_sending.specs.Look.{Expired};
 
@@ -107,17 +106,17 @@ fn next_here(
     store: &[u8],
     buffer: &[u8],
     size: u64,
-    k: usize,
-    found: Ahead,
+    p: Passing,
 ) -> Result<Next, Refusal>
-    ensures { as_next result ≡ next_found queue.now (length store.now) (length buffer.now) size k (look_of found) }
+    ensures { as_next result ≡ next_found queue.now (length store.now) (length buffer.now) size p.count (as_look p.found) }
 {
+    let found = p.found;
     next_found(
         queue,
         store.len() as u64,
         buffer.len() as u64,
         size,
-        k,
+        p.count,
         found,
     )
 }
@@ -135,14 +134,15 @@ fn next_many(
     requires { (event_words ≤ length events.old) × (as_look p.found ≡ look_ahead queue.old time) }
     ensures { Leads (as_next result) queue.new store.now events.new buffer.now size (past_from queue.old store.now events.old buffer.now time size p.left p.count) }
 {
-    let found = p.found?;
+    let found = p.found;
     match found {
-        Ahead::Expired(_, _) => {
+        Ok(Ahead::Expired(_, _)) => {
             let n = pass_copied(queue, store, events, buffer, time, size, p.left, p.count);
             handed_on(n)
         }
-        Ahead::Nothing => next_here(&*queue, store, buffer, size, p.count, found),
-        Ahead::Chosen(_, _, _) => next_here(&*queue, store, buffer, size, p.count, found),
+        Ok(Ahead::Nothing) => next_here(&*queue, store, buffer, size, p),
+        Ok(Ahead::Chosen(_, _, _)) => next_here(&*queue, store, buffer, size, p),
+        Err(_) => next_here(&*queue, store, buffer, size, p),
     }
 }
 
@@ -216,16 +216,17 @@ fn next_more(
     requires { (event_words ≤ length events.old) × (as_look p.found ≡ look_ahead queue.old time) }
     ensures { Leads (as_next result) queue.new store.now events.new buffer.now size (past_from queue.old store.now events.old buffer.now time size p.left p.count) }
 {
-    let found = p.found?;
+    let found = p.found;
     match found {
-        Ahead::Expired(id, row) => {
+        Ok(Ahead::Expired(id, row)) => {
             let n = pass_on(
                 queue, store, events, buffer, time, size, p.left, p.count, id, row,
             );
             handed_on(n)
         }
-        Ahead::Nothing => next_here(&*queue, store, buffer, size, p.count, found),
-        Ahead::Chosen(_, _, _) => next_here(&*queue, store, buffer, size, p.count, found),
+        Ok(Ahead::Nothing) => next_here(&*queue, store, buffer, size, p),
+        Ok(Ahead::Chosen(_, _, _)) => next_here(&*queue, store, buffer, size, p),
+        Err(_) => next_here(&*queue, store, buffer, size, p),
     }
 }
 
@@ -273,9 +274,9 @@ fn next_past(
     requires { (event_words ≤ length events.old) × (as_look p.found ≡ look_ahead queue.old time) }
     ensures { Leads (as_next result) queue.new store.now events.new buffer.now size (past_from queue.old store.now events.old buffer.now time size p.left p.count) }
 {
-    let found = p.found?;
+    let found = p.found;
     match found {
-        Ahead::Expired(id, row) => {
+        Ok(Ahead::Expired(id, row)) => {
             if p.count > MORE_BEFORE {
                 let n = pass_on(
                     queue, store, events, buffer, time, size, p.left, p.count, id, row,
@@ -286,8 +287,9 @@ fn next_past(
                 queue, store, events, buffer, time, size, p.left, p.count, id, row,
             )
         }
-        Ahead::Nothing => next_here(&*queue, store, buffer, size, p.count, found),
-        Ahead::Chosen(_, _, _) => next_here(&*queue, store, buffer, size, p.count, found),
+        Ok(Ahead::Nothing) => next_here(&*queue, store, buffer, size, p),
+        Ok(Ahead::Chosen(_, _, _)) => next_here(&*queue, store, buffer, size, p),
+        Err(_) => next_here(&*queue, store, buffer, size, p),
     }
 }
 

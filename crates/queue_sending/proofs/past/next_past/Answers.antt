@@ -1,7 +1,8 @@
 -- `queue_sending::past::next_past` meets its contract: an expired head is left to the functions with more room, any other find is all that is left
 -- (proofs/Nexts.antt). Assumes nothing.
-use mathlib.Core.Path.{refl, sym, ap, ◌∙◌}
-use Rattle.std.proofs.lemmas.Result.{err_from_is_err_and}
+use mathlib.Core.Path.{ap, ◌∙◌}
+use Rattle.std.specs.Prelude.{Result}
+use Rattle.types.specs.declared.refusal.Broken.{Broken}
 use Rattle.queue_sending.specs.Answers.{as_look}
 use Rattle.queue_sending.specs.Own.{look_of}
 use Rattle.queue_sending.specs.declared.choice.Ahead.{Ahead}
@@ -9,13 +10,17 @@ use Rattle.queue_sending.proofs.Passes.{expired_found}
 use Rattle.queue_sending.proofs.Nexts.{found_ends}
 use Rattle.queue_sending.proofs.past.next_past.Goals as goal
 
-pub returns-in-Nothing : goal.returns-in-Nothing
-returns-in-Nothing c = found_ends _ _ _ _ _ _ _ _ _ _ (sym (ap as_look c.in_ok-found.was) ∙ c.requires.1) (ap (λ (a : Ahead). expired_found (look_of a)) c.in-Nothing.is) c.next_here.ensures
+pub returns-in-Ok-Nothing : goal.returns-in-Ok-Nothing
+returns-in-Ok-Nothing c =
+    let at = ap (λ (f : Result Ahead Broken). expired_found (as_look f)) c.in-Ok-Nothing.is in
+    let is = ap (λ (a : Ahead). expired_found (look_of a)) (rw c.in-Ok-Nothing.is at c.in-Ok-Nothing.field-0-is) in
+    found_ends _ _ _ _ _ _ _ _ _ _ c.requires.1 (at ∙ is) c.next_here.ensures
 
-pub returns-in_err-found : goal.returns-in_err-found
-returns-in_err-found c =
-    let p = err_from_is_err_and c.from_residual.result c.from_residual.ensures.1 in
-    rw (p.1, p.2) (found_ends _ _ _ _ _ _ _ _ _ _ (sym (ap as_look c.in_err-found.was) ∙ c.requires.1) refl refl)
+pub returns-in-Ok-Chosen : goal.returns-in-Ok-Chosen
+returns-in-Ok-Chosen c =
+    let at = ap (λ (f : Result Ahead Broken). expired_found (as_look f)) c.in-Ok-Chosen.is in
+    let is = ap (λ (a : Ahead). expired_found (look_of a)) (rw c.in-Ok-Chosen.is at c.in-Ok-Chosen.field-0-is) in
+    found_ends _ _ _ _ _ _ _ _ _ _ c.requires.1 (at ∙ is) c.next_here-in-Ok-Chosen.ensures
 
-pub returns-in-Chosen : goal.returns-in-Chosen
-returns-in-Chosen c = found_ends _ _ _ _ _ _ _ _ _ _ (sym (ap as_look c.in_ok-found.was) ∙ c.requires.1) (ap (λ (a : Ahead). expired_found (look_of a)) c.in-Chosen.is) c.next_here-in-Chosen.ensures
+pub returns-in-Err : goal.returns-in-Err
+returns-in-Err c = found_ends _ _ _ _ _ _ _ _ _ _ c.requires.1 (ap (λ (f : Result Ahead Broken). expired_found (as_look f)) c.in-Err.is) c.next_here-in-Err.ensures
