@@ -59,7 +59,7 @@ impl StreamKey {
 pub struct Ssn(pub u16);
 
 impl Ssn {
-    #[tactic(auto, unfolding(crate::specs::Wrap::wrapping_add))]
+    #[tactic(auto, using(crate::proofs::Width::added))]
     pub fn add_to(self, other: u16) -> Self
         ensures { result.0 ≡ wrapping_add 16 self.0 other }
     {
@@ -72,7 +72,7 @@ impl Ssn {
 pub struct Mid(pub u32);
 
 impl Mid {
-    #[tactic(auto, unfolding(crate::specs::Wrap::wrapping_add))]
+    #[tactic(auto, using(crate::proofs::Width::added))]
     pub fn add_to(self, other: u32) -> Self
         ensures { result.0 ≡ wrapping_add 32 self.0 other }
     {
@@ -85,7 +85,7 @@ impl Mid {
 pub struct Fsn(pub u32);
 
 impl Fsn {
-    #[tactic(auto, unfolding(crate::specs::Wrap::wrapping_add))]
+    #[tactic(auto, using(crate::proofs::Width::added))]
     pub fn add_to(self, other: u32) -> Self
         ensures { result.0 ≡ wrapping_add 32 self.0 other }
     {
@@ -99,7 +99,7 @@ impl Fsn {
 pub struct OutgoingMessageId(pub u32);
 
 impl OutgoingMessageId {
-    #[tactic(auto, unfolding(crate::specs::Wrap::wrapping_add))]
+    #[tactic(auto, using(crate::proofs::Width::added))]
     pub fn add_to(self, other: u32) -> Self
         ensures { result.0 ≡ wrapping_add 32 self.0 other }
     {
