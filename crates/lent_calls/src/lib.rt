@@ -2,6 +2,10 @@
 // is lent, in a function of its own for each array.
 #![tactic(auto)]
 
+ghost use Rattle.std.specs.Prelude.{◌≡◌};
+ghost use Rattle.lent_calls.specs.declared.LentError.TheVariants.{Refused};
+ghost use Rattle.lent_calls.specs.Numbers.{lent_number};
+
 use send_queue::{
     Message, Produced, QUEUE_WORDS, Refusal, RestartRule, add, commit_reset_streams, create,
     discard, enable_message_interleaving, prepare_reset_stream, produce, reset, restore,
@@ -20,13 +24,17 @@ pub enum LentError {
 }
 
 impl From<Refusal> for LentError {
+    ghost from_gives = { λ r e. e ≡ Refused r };
+
     fn from(refusal: Refusal) -> LentError {
         LentError::Refused(refusal)
     }
 }
 
 impl LentError {
-    pub fn number(self) -> u64 {
+    pub fn number(self) -> u64
+        ensures { result ≡ lent_number self }
+    {
         match self {
             LentError::TooShort => TOO_SHORT,
             LentError::Refused(refusal) => u8::from(refusal) as u64,
