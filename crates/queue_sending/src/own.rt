@@ -4,7 +4,8 @@ ghost use Rattle.queue_words.specs.Streams.{stream_at_words};
 ghost use Rattle.queue_sending.specs.Choice.{look_at_words, look_for_words, look_ahead};
 ghost use Rattle.queue_sending.specs.Own.{look_of, Unbroken};
 
-use crate::choice::{Ahead, expired};
+pub use crate::choice::Ahead;
+use crate::choice::expired;
 use queue_words::QUEUE_WORDS;
 use queue_words::active::load_active;
 use queue_words::items::load_item;
