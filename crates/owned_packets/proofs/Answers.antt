@@ -77,7 +77,7 @@ module _ (ws st es bs : List ℕ) (time : ℕ) (p : Packet) (g : Good ws st) (co
   unfolding fill_code
   code_is = rw (eq-eqb (options_at ws).store_length (length st) (sym g.store_is)) ec
 
-  lent_of : 0 < code → Lent code
+  pub lent_of : 0 < code → Lent code
   lent_of h = record { places = length es; room = length bs; time = time; limit = p.limit; is_code = ec; is_refused = h }
 
   pub refused_lent : 0 < code → OnlyLent (packet.Refused code)

@@ -161,7 +161,7 @@ module _ (ws st es bs : List ℕ) (time size : ℕ) (g : Good ws st) where
     code_is : produce_code ws (length st) (length es) (length bs) time size ≡ code
     code_is = code_same ∙ sym ec
 
-    lent_of : 0 < code → Lent code
+    pub lent_of : 0 < code → Lent code
     lent_of h = record { places = length es; room = length bs; time = time; size = size; is_code = ec; is_refused = h }
 
     pub out_refused : 0 < code → OwnedProduce ws st es bs time size (checked.Refused code) ws es bs
